@@ -6,7 +6,8 @@ use Rattle.std.specs.List.{AllByRecursion}
 use Rattle.std.proofs.lemmas.Bool.{leb-true, leb-false}
 use Rattle.std.proofs.lemmas.List.{length-append}
 use Rattle.its_model.specs.World.{Config}
-use Rattle.sim_air.specs.Beside.{absent, rules_beside, beside, Rises, InOrder, IsOwnOf, IsReached}
+use Rattle.sim_air.specs.Beside.{absent, rules_beside, beside, AreThere, Rises, InOrder, IsOwnOf}
+use Rattle.sim_air.specs.Beside.{IsReached}
 use Rattle.sim_air_model.specs.Draws.{draws_of}
 use Rattle.sim_air_model.specs.Timetable.{Rules, Traffic, Filed, Pending, Timetable, of_file, draw}
 use Rattle.sim_air_model.specs.Timetable.{is_present, tick, schedule_tick, schedule_first_ticks}
@@ -196,24 +197,28 @@ opens_beside r configs made file until long rises =
         in_turn
 
 -- nothing is done yet, whatever comes
-pub reached_opening : (r : Rules) (configs : List Config) (from end : ℕ)
+pub reached_opening : (grows : Bool) (r : Rules) (configs : List Config) (from end : ℕ)
     → length r.present ≡ length configs
-    → IsReached r configs 0 [] from end (air_opening r configs [])
-reached_opening r configs from end long =
+    → IsReached grows r configs 0 [] from end (air_opening r configs [])
+reached_opening grows r configs from end long =
     let ticks = cond r.beacons (length configs) 0 in
     record {
-      leads = λ made file until le rises is_from.
+      leads = λ made file until may le rises is_from.
           opens_beside r configs made file until long rises;
       in_order = (all_traffic [] r.present r.every (length configs)).order
           (with_ticks r configs []) ((first_ticks [] r.present ticks).order (with_file r []) tt);
       own = traffic_own configs r.present r.every (length configs) (with_ticks r configs [])
           (omega arith) (ticks_own configs r.present ticks (with_file r []) (few r.beacons) tt);
-      done_there = λ k d lt. absurd (omega (arith, lt));
+      done_there = none_done grows;
       present = long;
       past_rises = tt;
       past_before = tt;
     }
   where
+    none_done : (b : Bool) → AreThere b configs []
+    none_done true = λ k d lt. absurd (omega (arith, lt))
+    none_done false = tt
+
     few : (b : Bool) → cond b (length configs) 0 ≤ length configs
     few true = omega arith
     few false = omega arith

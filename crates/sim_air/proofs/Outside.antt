@@ -1,7 +1,7 @@
 -- What came from outside to a run with rows, from one step to the next.
 use Rattle.std.proofs.Common.{◌≡◌, ℕ, ◌+◌, ◌*◌, ◌≤◌, ◌<◌, List, [], ◌∷◌, ◌++◌, refl, sym, ap, subst}
 use Rattle.std.proofs.Common.{◌∙◌, arith, All, Option, Some, None, length, map, take, drop}
-use Rattle.std.proofs.Common.{append-nil, Bool, slice_index_or, ◌⊎◌, inl, inr, pos}
+use Rattle.std.proofs.Common.{append-nil, Bool, true, false, slice_index_or, ◌⊎◌, inl, inr, pos}
 use Rattle.std.proofs.Common.{length-drop, get_or-drop}
 use Rattle.std.specs.Option.{ForSome, option_map}
 use Rattle.std.specs.Prelude.{string_bytes, Vec, IfNone, IfSome, slice_get, ◌==◌}
@@ -26,6 +26,7 @@ use Rattle.sim_settings.specs.declared.moves.Moves.{Moves}
 use Rattle.its_world.specs.declared.entry.Entry.{Entry}
 use Rattle.sim_air.specs.Outside.{Came, IsBrought, IsByMoment, IsOutside, Brings, asked_at}
 use Rattle.sim_air.specs.Outside.{asked_of, ids_of, turn_of, MayAsk, MayCome, row_move, opening_at}
+use Rattle.sim_air.specs.Beside.{IsThere}
 use Rattle.sim_air.specs.Outside.{IsOfStation, filed_when, station_of_filed}
 use Rattle.sim_queue.specs.Queues.{filed_of}
 use Rattle.its_gnvalue.specs.Values.{Position}
@@ -279,16 +280,18 @@ classes_three R D None E hr hd he one = tt
 -- the same came, and the same comes
 pub same_came : (own made : ℕ) (came : List Came) (past : List Filed) (turn turn' : ℕ)
     (old new : MovingRun) → new.moves ≡ old.moves → new.events ≡ old.events
-    → new.taken ≡ old.taken → turn ≤ turn' → ComesInTurn turn' new
+    → new.taken ≡ old.taken → new.grows ≡ old.grows → turn ≤ turn' → ComesInTurn turn' new
     → CameUnder own made came past turn old → CameUnder own made came past turn' new
-same_came own made came past turn turn' old new moves events taken le next h =
+same_came own made came past turn turn' old new moves events taken grows le next h =
     record {
       in_turn = h.in_turn;
       by_turn = all_by (λ c. turn_of c ≤ turn) (λ c. turn_of c ≤ turn') came
           (λ c on. omega (arith, le, on)) h.by_turn;
       next = next;
-      brought = subst (λ (x : Bor Moves). IsBrought own x.now.ports.items came past) (sym moves)
-          h.brought;
+      brought =
+          subst (λ (g : Bool). IsBrought g own new.moves.now.ports.items came past) (sym grows)
+          (subst (λ (x : Bor Moves). IsBrought old.grows own x.now.ports.items came past)
+          (sym moves) h.brought);
       made_by_rows = h.made_by_rows;
       asked =
           h.asked
@@ -317,19 +320,21 @@ pub next_came : (own made : ℕ) (came : List Came) (past : List Filed) (turn : 
     (coming : Coming) → IsNext m coming → CameUnder own made came past turn m
     → CameUnder own made came past (turn_in coming) m
 next_came own made came past turn m coming next h =
-    same_came own made came past turn (turn_in coming) m m refl refl refl
+    same_came own made came past turn (turn_in coming) m m refl refl refl refl
     (no_earlier m turn coming.moment coming.outside next.is h.next) next.turn h
 
 -- one more came, in its turn
 pub more_came : (own made made' : ℕ) (came : List Came) (past piece : List Filed) (turn : ℕ)
-    (c : Came) (old new : MovingRun) → new.moves ≡ old.moves → turn_of c ≡ turn
-    → ComesInTurn turn new → Brings own old.moves.now.ports.items came c piece
+    (c : Came) (old new : MovingRun) → new.moves ≡ old.moves → new.grows ≡ old.grows
+    → turn_of c ≡ turn
+    → ComesInTurn turn new → Brings old.grows own old.moves.now.ports.items came c piece
     → (made ≡ length (ids_of came) → made' ≡ length (ids_of (c ∷ came)))
     → (asked_of came ≡ take old.taken (asked_in old)
     → asked_of (c ∷ came) ≡ take new.taken (asked_in new))
     → CameUnder own made came past turn old → CameUnder own made' (c ∷ came) (past ++ piece) turn
     new
-more_came own made made' came past piece turn c old new moves is next brings many asked h =
+more_came own made made' came past piece turn c old new moves grows is next brings many asked h
+    =
     record {
       in_turn = (
         all_by (λ b. turn_of b ≤ turn) (λ b. turn_of b ≤ turn_of c) came
@@ -338,8 +343,11 @@ more_came own made made' came past piece turn c old new moves is next brings man
       );
       by_turn = (omega (arith, is), h.by_turn);
       next = next;
-      brought = subst (λ (x : Bor Moves). IsBrought own x.now.ports.items (c ∷ came)
-          (past ++ piece)) (sym moves) (past, piece, refl, h.brought, brings);
+      brought =
+          subst (λ (g : Bool). IsBrought g own new.moves.now.ports.items (c ∷ came)
+          (past ++ piece)) (sym grows)
+          (subst (λ (x : Bor Moves). IsBrought old.grows own x.now.ports.items (c ∷ came)
+          (past ++ piece)) (sym moves) (past, piece, refl, h.brought, brings));
       made_by_rows = many h.made_by_rows;
       asked = asked h.asked;
     }
@@ -354,30 +362,38 @@ same_asked old new events taken =
 -- a row of a station that is there
 pub row_came : (own made : ℕ) (came : List Came) (past : List Filed) (row : Row) (station : ℕ)
     (old new : MovingRun) → new.moves ≡ old.moves → new.events ≡ old.events
-    → new.taken ≡ old.taken → station < own + made → ComesInTurn (3 * row.moment) new
+    → new.taken ≡ old.taken → new.grows ≡ old.grows → old.grows ≡ true → station < own + made
+    → ComesInTurn (3 * row.moment) new
     → CameUnder own made came past (3 * row.moment) old
     → CameUnder own made (Moved row station ∷ came)
     (past ++ Happens (row_move station row) ∷ []) (3 * row.moment) new
-row_came own made came past row station old new moves events taken lt next h =
+row_came own made came past row station old new moves events taken grows may lt next h =
     let many = h.made_by_rows in
     more_came own made made came past (Happens (row_move station row) ∷ []) (3 * row.moment)
-    (Moved row station) old new moves (omega arith) next (omega (arith, lt, many), refl) (λ is. is)
+    (Moved row station) old new moves grows (omega arith) next
+    (subst (λ (g : Bool). Brings g own old.moves.now.ports.items came (Moved row station)
+    (Happens (row_move station row) ∷ [])) (sym may) (omega (arith, lt, many), refl)) (λ is. is)
     (λ is. is ∙ same_asked old new events taken) h
 
 -- a row that makes its station
 pub first_came : (own made : ℕ) (came : List Came) (past : List Filed) (row : Row) (station : ℕ)
     (old new : MovingRun) → new.moves ≡ old.moves → new.events ≡ old.events
-    → new.taken ≡ old.taken → station ≡ own + made → ComesInTurn (3 * row.moment) new
+    → new.taken ≡ old.taken → new.grows ≡ old.grows → old.grows ≡ true → station ≡ own + made
+    → ComesInTurn (3 * row.moment) new
     → CameUnder own made came past (3 * row.moment) old
     → CameUnder own (made + 1) (Makes row station ∷ came)
     (past ++ Happens (row_move station row)
     ∷ map (opening_at station row.moment) old.moves.now.ports.items) (3 * row.moment) new
-first_came own made came past row station old new moves events taken is next h =
+first_came own made came past row station old new moves events taken grows may is next h =
     let many = h.made_by_rows in
     more_came own made (made + 1) came past
     (Happens (row_move station row)
     ∷ map (opening_at station row.moment) old.moves.now.ports.items) (3 * row.moment)
-    (Makes row station) old new moves (omega arith) next (omega (arith, is, many), refl)
+    (Makes row station) old new moves grows (omega arith) next
+    (subst (λ (g : Bool). Brings g own old.moves.now.ports.items came (Makes row station)
+    (Happens (row_move station row)
+    ∷ map (opening_at station row.moment) old.moves.now.ports.items)) (sym may)
+    (omega (arith, is, many), refl))
     (λ so. let long = length-append (ids_of came) (string_bytes row.id ∷ []) in omega (
       arith,
       so,
@@ -388,26 +404,38 @@ first_came own made came past row station old new moves events taken is next h =
 -- a station leaves
 pub leave_came : (own made : ℕ) (came : List Came) (past piece : List Filed)
     (station moment : ℕ) (old new : MovingRun) → new.moves ≡ old.moves
-    → new.events ≡ old.events → new.taken ≡ old.taken
-    → MayCome (own + made) (Leaves station moment) piece → ComesInTurn (3 * moment + 1) new
+    → new.events ≡ old.events → new.taken ≡ old.taken → new.grows ≡ old.grows → old.grows ≡ true
+    → MayCome true (own + made) (Leaves station moment) piece → ComesInTurn (3 * moment + 1) new
     → CameUnder own made came past (3 * moment + 1) old
     → CameUnder own made (Left station moment ∷ came) (past ++ piece) (3 * moment + 1) new
-leave_came own made came past piece station moment old new moves events taken may next h =
+leave_came own made came past piece station moment old new moves events taken grows so_far may next h
+    =
     more_came own made made came past piece (3 * moment + 1) (Left station moment) old new moves
-    refl next
-    (subst (λ n. MayCome (own + n) (Leaves station moment) piece) h.made_by_rows may) (λ is. is)
+    grows refl next
+    (subst (λ (g : Bool). Brings g own old.moves.now.ports.items came (Left station moment) piece)
+    (sym so_far)
+    (subst (λ n. MayCome true (own + n) (Leaves station moment) piece) h.made_by_rows may))
+    (λ is. is)
     (λ is. is ∙ same_asked old new events taken) h
+
+-- what the scenario has is brought, with rows and without
+brings_asked : (grows : Bool) (own : ℕ) (ports : List ℕ) (came : List Came)
+    (event : AddressedEvent) (piece : List Filed)
+    → MayAsk grows (own + length (ids_of came)) event event.addressee piece
+    → Brings grows own ports came (Asked event) piece
+brings_asked true own ports came event piece may = may
+brings_asked false own ports came event piece may = may
 
 -- the next that the scenario has
 pub event_came : (own made : ℕ) (came : List Came) (past piece : List Filed)
     (e : Bor AddressedEvent) (old new : MovingRun)
     → slice_get old.events.items old.taken ≡ Some e → new.moves ≡ old.moves
-    → new.events ≡ old.events → new.taken ≡ old.taken + 1
-    → MayAsk (own + made) e.now e.now.addressee piece
+    → new.events ≡ old.events → new.taken ≡ old.taken + 1 → new.grows ≡ old.grows
+    → MayAsk old.grows (own + made) e.now e.now.addressee piece
     → ComesInTurn (3 * e.now.moment + 2) new
     → CameUnder own made came past (3 * e.now.moment + 2) old
     → CameUnder own made (Asked e.now ∷ came) (past ++ piece) (3 * e.now.moment + 2) new
-event_came own made came past piece e old new is moves events taken may next h =
+event_came own made came past piece e old new is moves events taken grows may next h =
     let xs = asked_in old in
     let here : slice_get xs old.taken ≡ Some e.now =
     slice_get-map (λ (x : Bor AddressedEvent). x.now) old.events.items old.taken
@@ -417,8 +445,9 @@ event_came own made came past piece e old new is moves events taken may next h =
     take_more xs old.taken e.now lt
     ∙ ap (λ x. take old.taken xs ++ x ∷ []) (get_or_from_slice_get xs old.taken e.now e.now here) in
     more_came own made made came past piece (3 * e.now.moment + 2) (Asked e.now) old new
-    moves refl next
-    (subst (λ n. MayAsk (own + n) e.now e.now.addressee piece) h.made_by_rows may)
+    moves grows refl next
+    (brings_asked old.grows own old.moves.now.ports.items came e.now piece
+    (subst (λ n. MayAsk old.grows (own + n) e.now e.now.addressee piece) h.made_by_rows may))
     (λ so. so)
     (λ so. ap (λ (l : List AddressedEvent). l ++ e.now ∷ []) so ∙ sym one
     ∙ sym (ap (λ (v : Vec (Bor AddressedEvent) Global).
@@ -521,7 +550,7 @@ late_from events n end sorted first = λ k d lt.
 pub is_outside : (own made : ℕ) (came : List Came) (past : List Filed) (turn end : ℕ)
     (m : MovingRun) (asked : List AddressedEvent) → IsByMoment asked (asked_in m)
     → ComesFrom (end + 1) m → CameUnder own made came past turn m
-    → IsOutside own made m.moves.now asked end past
+    → IsOutside m.grows own made m.moves.now asked end past
 is_outside own made came past turn end m asked by comes h =
     record {
       came = came;
@@ -562,36 +591,91 @@ none_past f xs n none = either (slice_get_cases xs n).1
         let no : ⊥ = cc in absurd no
     either (inr past) = past.0
 
--- the station isn't there: nothing comes
+-- the station isn't there, and rows come: nothing comes
 pub away_at : (count : ℕ) (event : AddressedEvent) (station : ℕ) → count ≤ station
-    → IsOfStation count event station []
+    → IsOfStation true count event station []
 away_at count event station le =
     let place : Position = record { latitude = pos 0; longitude = pos 0 } in
-    (place, inr (inl (away (what_at event.action place)), refl))
+    (place, inr (away (what_at event.action place), refl))
   where
     away : (o : Option What)
         → count ≤ station_of_filed (filed_when station event.moment o)
     away (Some what) = le
     away None = le
 
+-- the station is there, or no rows come
+pub comes_of : (grows : Bool) (count : ℕ) (filed : Filed)
+    → IsThere grows count (station_of_filed filed) → MayCome grows count filed (filed ∷ [])
+comes_of true count filed lt = inl (lt, refl)
+comes_of false count filed lt = refl
+
+station_when : (station moment : ℕ) (o : Option What)
+    → station_of_filed (filed_when station moment o) ≡ station
+station_when station moment (Some what) = refl
+station_when station moment None = refl
+
+pending_when : (station moment : ℕ) (o : Option What)
+    → station_of_pending (of_file (filed_when station moment o)) ≡ station
+pending_when station moment (Some what) = refl
+pending_when station moment None = refl
+
+moment_when : (station moment : ℕ) (o : Option What)
+    → moment_in (filed_when station moment o) ≡ moment
+moment_when station moment (Some what) = refl
+moment_when station moment None = refl
+
+-- what the scenario asks for is done, where it was done well
+pub asked_well : {X E : Type 0} (result : Result X E) (grows : Bool) (event : AddressedEvent)
+    (station : ℕ) (place : Position) (filed : FileEvent) (old new : Run)
+    (A B : List Event → List Entry → Type 0)
+    → IsDoneAt event.action station event.moment place filed
+    → IsThere grows (length old.world.stations) station
+    → new.world.released ≡ old.world.released
+    → ((r : Rules) (cs : List Config) (a : AirModel) → IsTimed r cs a old A
+    → OnOk result (IsTimed r cs (take_one r cs a (of_file (filed_of filed)) a.timetable) new B))
+    → OnOk result (DoesAsked grows event station old A new B)
+asked_well (Err e) grows event station place filed old new A B done there released does = tt
+asked_well (Ok x) grows event station place filed old new A B done there released does =
+    let count = length old.world.stations in
+    let o = what_at event.action place in
+    let f : Filed = filed_when station event.moment o in
+    let is : filed_of filed ≡ f = filed_done event.action station event.moment place filed done in
+    record {
+      came = f ∷ [];
+      may = (
+        place,
+        comes_of grows count f
+            (subst (IsThere grows count) (sym (station_when station event.moment o)) there),
+      );
+      does =
+          subst (λ (n : ℕ). DoesAt grows n (f ∷ []) old A new B)
+          (moment_when station event.moment o)
+          (comes_at grows f old new A B
+          (subst (IsThere grows count) (sym (pending_when station event.moment o)) there) released
+          (subst (λ (g : Filed). (r : Rules) (cs : List Config) (a : AirModel) → IsTimed r cs a old A
+          → IsTimed r cs (take_one r cs a (of_file g) a.timetable) new B) is does));
+    }
+
 -- of a station of its own
-pub may_own : (count : ℕ) (event : AddressedEvent) (station : ℕ) (came : List Filed)
-    → event.addressee ≡ addressees.Station station → IsOfStation count event station came
-    → MayAsk count event event.addressee came
-may_own count event station came is may =
-    subst (λ a. MayAsk count event a came) (sym is) may
+pub may_own : (grows : Bool) (count : ℕ) (event : AddressedEvent) (station : ℕ)
+    (came : List Filed) → event.addressee ≡ addressees.Station station
+    → IsOfStation grows count event station came
+    → MayAsk grows count event event.addressee came
+may_own grows count event station came is may =
+    subst (λ a. MayAsk grows count event a came) (sym is) may
 
 -- of an id, as that of a station
-pub may_id : (count : ℕ) (event : AddressedEvent) (id : String Global) (station : ℕ)
-    (came : List Filed) → event.addressee ≡ addressees.Vehicle id
-    → IsOfStation count event station came → MayAsk count event event.addressee came
-may_id count event id station came is may =
-    subst (λ a. MayAsk count event a came) (sym is) (inl (station, may))
+pub may_id : (grows : Bool) (count : ℕ) (event : AddressedEvent) (id : String Global)
+    (station : ℕ) (came : List Filed) → event.addressee ≡ addressees.Vehicle id
+    → IsOfStation grows count event station came → MayAsk grows count event event.addressee came
+may_id grows count event id station came is may =
+    subst (λ a. MayAsk grows count event a came) (sym is) (inl (station, may))
 
 -- or not at all
-pub may_not : (count : ℕ) (event : AddressedEvent) (id : String Global)
-    → event.addressee ≡ addressees.Vehicle id → MayAsk count event event.addressee []
-may_not count event id is = subst (λ a. MayAsk count event a []) (sym is) (inr refl)
+pub may_not : (grows : Bool) (count : ℕ) (event : AddressedEvent) (id : String Global)
+    → event.addressee ≡ addressees.Vehicle id → MayAsk grows count event event.addressee []
+may_not grows count event id is =
+    subst (λ a. MayAsk grows count event a []) (sym is) (inr refl)
 
 -- ---- what is done
 
@@ -600,7 +684,8 @@ pub row_done : (rules : Rules) (configs made : List Config) (past : List Filed)
     (came : List Came) (begin clock : ℕ) (row : Row) (old one new : MovingRun)
     (A B : List Event → List Entry → Type 0) → length old.run.world.stations
     ≡ length configs + length made → new.moves ≡ old.moves → new.events ≡ old.events
-    → new.taken ≡ old.taken → row.moment ≤ end_in one
+    → new.taken ≡ old.taken → new.grows ≡ old.grows → old.grows ≡ true → one.grows ≡ old.grows
+    → row.moment ≤ end_in one
     → one.moves ≡ old.moves → stations_in one ≡ stations_in old
     → IsUnder rules configs made past row.moment row.moment begin clock one A
     → CameUnder (length configs) (length made) came past (3 * row.moment) old
@@ -609,23 +694,23 @@ pub row_done : (rules : Rules) (configs made : List Config) (past : List Filed)
     × IsUnder rules configs made' past' row.moment row.moment begin clock new B
     × CameUnder (length configs) (length made') came' past' (3 * row.moment) new
 row_done rules configs made past came begin clock row old one new A B count moves events taken
-    within
+    grows may same within
     same_moves same_count under h (inl x) =
     let station = x.0 in
     let lt = x.1 in
-    let on = x.2 rules configs made past begin clock within under in (
+    let on = x.2 (same ∙ may) rules configs made past begin clock within under in (
       made,
       past ++ Happens (row_move station row) ∷ [],
       Moved row station ∷ came,
       on,
-      row_came (length configs) (length made) came past row station old new moves events taken
-          (omega (arith, lt, count, same_count)) (turn_of_row row.moment new on.comings) h,
+      row_came (length configs) (length made) came past row station old new moves events taken grows
+          may (omega (arith, lt, count, same_count)) (turn_of_row row.moment new on.comings) h,
     )
 row_done rules configs made past came begin clock row old one new A B count moves events taken
-    within
+    grows may same within
     same_moves same_count under h (inr x) =
     let config = x.0 in
-    let on = x.1 rules configs made past begin clock within under in
+    let on = x.1 (same ∙ may) rules configs made past begin clock within under in
     let long = length-append made (config ∷ []) in (
       made ++ config ∷ [],
       past ++ Happens (row_move (stations_in one) row)
@@ -642,7 +727,7 @@ row_done rules configs made past came begin clock row old one new A B count move
           ∷ map (opening_at (stations_in one) row.moment) x.now.ports.items)
           (3 * row.moment) new) (sym same_moves)
           (first_came (length configs) (length made) came past row (stations_in one) old new moves
-          events taken (omega (arith, count, same_count)) (turn_of_row row.moment new on.comings)
+          events taken grows may (omega (arith, count, same_count)) (turn_of_row row.moment new on.comings)
           h)),
     )
 
@@ -651,13 +736,13 @@ pub leave_done : (rules : Rules) (configs made : List Config) (past : List Filed
     (came : List Came) (begin clock station moment : ℕ) (old new : MovingRun)
     (A B : List Event → List Entry → Type 0) → length old.run.world.stations
     ≡ length configs + length made → new.moves ≡ old.moves → new.row ≡ old.row
-    → new.events ≡ old.events → new.taken ≡ old.taken → moment ≤ end_in old
+    → new.events ≡ old.events → new.taken ≡ old.taken → new.grows ≡ old.grows → old.grows ≡ true
+    → moment ≤ end_in old
     → IsUnder rules configs made past moment moment begin clock old A
     → CameUnder (length configs) (length made) came past (3 * moment + 1) old
     → DoesLeave station moment old A new B → IsUnderSome rules configs begin clock new B
 leave_done rules configs made past came begin clock station moment old new A B count moves row
-    events
-    taken within under h (inl stays) =
+    events taken grows may within under h (inl stays) =
     let on = stays rules configs made past begin clock within under in
     record {
       last = moment;
@@ -671,12 +756,11 @@ leave_done rules configs made past came begin clock station moment old new A B c
           subst (λ p. CameUnder (length configs) (length made) came p (3 * moment + 1) new)
           (sym (append-nil past))
           (same_came (length configs) (length made) came past (3 * moment + 1) (3 * moment + 1) old
-          new moves events taken (omega arith) (turn_of_leave moment old new row h.next on.comings)
+          new moves events taken grows (omega arith) (turn_of_leave moment old new row h.next on.comings)
           h);
     }
 leave_done rules configs made past came begin clock station moment old new A B count moves row
-    events
-    taken within under h (inr x) =
+    events taken grows so_far within under h (inr x) =
     let piece = x.0 in
     let may = x.1 in
     let on = x.2 rules configs made past begin clock within under in
@@ -690,7 +774,7 @@ leave_done rules configs made past came begin clock station moment old new A B c
       under = on;
       outside =
           leave_came (length configs) (length made) came past piece station moment old new moves
-          events taken (subst (λ n. MayCome n (Leaves station moment) piece) count may)
+          events taken grows so_far (subst (λ n. MayCome true n (Leaves station moment) piece) count may)
           (turn_of_leave moment old new row h.next on.comings) h;
     }
 
@@ -700,7 +784,7 @@ pub event_done_under : (rules : Rules) (configs made : List Config) (past : List
     (A B : List Event → List Entry → Type 0) → length old.run.world.stations
     ≡ length configs + length made → slice_get old.events.items old.taken ≡ Some e
     → new.moves ≡ old.moves → new.row ≡ old.row → new.departures ≡ old.departures
-    → new.events ≡ old.events → new.taken ≡ old.taken + 1
+    → new.events ≡ old.events → new.taken ≡ old.taken + 1 → new.grows ≡ old.grows
     → e.now.moment ≤ end_in old
     → IsUnder rules configs made past (e.now.moment) (e.now.moment) begin clock
     old A
@@ -708,7 +792,7 @@ pub event_done_under : (rules : Rules) (configs made : List Config) (past : List
     → DoesEvent e.now old A new B → IsUnderSome rules configs begin clock new B
 event_done_under rules configs made past came begin clock e old new A B count is moves row
     departures
-    events taken within under h x =
+    events taken grows within under h x =
     let piece = x.0 in
     let may = x.1 in
     let on = x.2 rules configs made past begin clock within under in
@@ -722,6 +806,6 @@ event_done_under rules configs made past came begin clock e old new A B count is
       under = on;
       outside =
           event_came (length configs) (length made) came past piece e old new is moves events taken
-          (subst (λ n. MayAsk n e.now e.now.addressee piece) count may)
+          grows (subst (λ n. MayAsk old.grows n e.now e.now.addressee piece) count may)
           (turn_of_event (e.now.moment) old new row departures h.next on.comings) h;
     }

@@ -40,7 +40,7 @@ events_more [] e = refl
 events_more (Happens x ∷ xs) e = ap (λ (l : List Event). x ∷ l) (events_more xs e)
 events_more (Leaves station moment ∷ xs) e = events_more xs e
 
-among_line : (xs : List Filed) (events : List Event) (e : Filed) → AreAmong (events_in xs) events
+pub among_line : (xs : List Filed) (events : List Event) (e : Filed) → AreAmong (events_in xs) events
     → AreAmong (events_in (xs ++ e ∷ [])) (events ++ events_in (e ∷ []))
 among_line xs events (Happens e) h =
     subst (λ (l : List Event). AreAmong l (events ++ e ∷ [])) (sym (events_more xs (Happens e)))

@@ -2,7 +2,8 @@
 use Rattle.std.proofs.Common.{◌≡◌, ℕ, ◌+◌, ◌≤◌, ◌<◌, List, [], refl, sym, ap, subst, ◌∙◌, arith}
 use Rattle.std.proofs.Common.{All}
 use Rattle.std.proofs.Common.{Option, Some, None, length, slice_index_or, ◌++◌, append-nil, ◌∷◌}
-use Rattle.std.proofs.Common.{◌⊎◌, inl, inr, map}
+use Rattle.std.proofs.Common.{◌⊎◌, inl, inr, map, Bool, true, false}
+use Rattle.std.proofs.lemmas.Bool.{false≢true}
 use Rattle.std.specs.Prelude.{Vec, IfNone, IfSome, slice_get}
 use Rattle.std.specs.declared.alloc.Global.{Global}
 use Rattle.std.specs.BinaryHeap.{heap_items}
@@ -22,7 +23,7 @@ use Rattle.sim_air_model.specs.Timetable.{Filed}
 use Rattle.sim_air_model.specs.Timetable.Filed.{Happens}
 use Rattle.sim_air.specs.Outside.{MayAsk, opening_at, row_move}
 use Rattle.sim_air.specs.UnderRows.{ComesFrom, DoesEvent, DoesRow, IsComing, IsNext, IsUnder}
-use Rattle.sim_air.specs.UnderRows.{MakesUnder}
+use Rattle.sim_air.specs.UnderRows.{IsRowless, MakesUnder}
 use Rattle.sim_air.specs.UnderRows.{StaysAt, StaysUnder, stations_in}
 use Rattle.sim_air.specs.UnderRows.{end_after, end_in}
 use Rattle.sim_air.specs.declared.moving_run.Coming.{Coming}
@@ -96,57 +97,82 @@ next_event events n e next sorted is after =
 
 -- ---- steps of the run inside
 
+-- without rows it stays so
+pub still_rowless : (old new : MovingRun) → new.row ≡ old.row
+    → ((from : ℕ) → All (λ d. from ≤ d.moment) (heap_items old.departures.waiting)
+    → All (λ d. from ≤ d.moment) (heap_items new.departures.waiting))
+    → new.grows ≡ old.grows → (old.grows ≡ false → IsRowless old) → new.grows ≡ false
+    → IsRowless new
+still_rowless old new row departures grows h = λ none.
+    let was = h (sym grows ∙ none) in
+    record {
+      row = row ∙ was.row;
+      departures = λ from. departures from (was.departures from);
+    }
+
+-- the same stations may leave
+pub same_departures : (old new : MovingRun) → new.departures ≡ old.departures → (from : ℕ)
+    → All (λ d. from ≤ d.moment) (heap_items old.departures.waiting)
+    → All (λ d. from ≤ d.moment) (heap_items new.departures.waiting)
+same_departures old new is from h =
+    subst (λ (d : Departures). All (λ (x : Departure). from ≤ x.moment) (heap_items d.waiting))
+    (sym is) h
+
+-- the run inside, with the same counts
+pub same_moving : (rules : Rules) (configs made : List Config) (past : List Filed)
+    (last from : ℕ) (old new : MovingRun) (run : Run) (A : List Event → List Entry → Type 0)
+    → new.grows ≡ old.grows → end_in new ≡ end_in old → new.frames_before ≡ old.frames_before
+    → new.delivered_by ≡ old.delivered_by
+    → IsMoving old.grows rules configs made past last from (end_in old) old.frames_before
+    old.delivered_by run A
+    → IsMoving new.grows rules configs made past last from (end_in new) new.frames_before
+    new.delivered_by run A
+same_moving rules configs made past last from old new run A grows end counted by h =
+    subst (λ (g : Bool). IsMoving g rules configs made past last from (end_in new)
+    new.frames_before new.delivered_by run A) (sym grows)
+    (subst (λ n. IsMoving old.grows rules configs made past last from n new.frames_before
+    new.delivered_by run A) (sym end)
+    (subst (λ n. IsMoving old.grows rules configs made past last from (end_in old) n
+    new.delivered_by run A) (sym counted)
+    (subst (λ n. IsMoving old.grows rules configs made past last from (end_in old)
+    old.frames_before n run A) (sym by) h)))
+
 -- the run went on, and nothing else of what comes changed
 pub under_moving : (rules : Rules) (configs made made' : List Config) (past past' : List Filed)
     (last from begin clock : ℕ) (old new : MovingRun) (A B : List Event → List Entry → Type 0)
     → new.row ≡ old.row → All (λ d. from ≤ d.moment) (heap_items new.departures.waiting)
     → new.events ≡ old.events → new.taken ≡ old.taken → end_in new ≡ end_in old
     → new.frames_before ≡ old.frames_before → new.delivered_by ≡ old.delivered_by
-    → IsMoving rules configs made' past' last from (end_in old) old.frames_before
+    → new.grows ≡ old.grows → (new.grows ≡ false → IsRowless new)
+    → IsMoving old.grows rules configs made' past' last from (end_in old) old.frames_before
     old.delivered_by new.run B → IsUnder rules configs made past last from begin clock old A
     → IsUnder rules configs made' past' last from begin clock new B
 under_moving rules configs made made' past past' last from begin clock old new A B row departures
-    events taken end counted by moving h =
+    events taken end counted by grows rowless moving h =
     record {
       moving =
-          subst (λ n. IsMoving rules configs made' past' last from n new.frames_before
-          new.delivered_by new.run B) (sym end)
-          (subst (λ n. IsMoving rules configs made' past' last from (end_in old) n
-          new.delivered_by new.run B) (sym counted)
-          (subst (λ n. IsMoving rules configs made' past' last from (end_in old)
-          old.frames_before n new.run B) (sym by) moving));
+          same_moving rules configs made' past' last from old new new.run B grows end counted by
+          moving;
       comings = same_comes from old new row departures events taken h.comings;
       ahead = λ r is. h.ahead r (sym row ∙ is);
+      rowless = rowless;
     }
 
--- what comes at a moment is done, and nothing else changed
-pub under_does : (moment : ℕ) (came : List Filed) (old new : MovingRun)
-    (A B : List Event → List Entry → Type 0) → new.row ≡ old.row
-    → new.departures ≡ old.departures → new.events ≡ old.events → new.taken ≡ old.taken
-    → end_in new ≡ end_in old → new.frames_before ≡ old.frames_before
-    → new.delivered_by ≡ old.delivered_by → DoesAt moment came old.run A new.run B
-    → StaysAt moment came old A new B
-under_does moment came old new A B row departures events taken end counted by does =
-    λ rules configs made past begin clock within h.
-    under_moving rules configs made made past (past ++ came) moment moment begin clock old new A B
-    row
-    (subst (λ (d : Departures). All (λ (x : Departure). moment ≤ x.moment) (heap_items d.waiting))
-    (sym departures) h.comings.departures) events taken end counted by
-    (does rules configs made past (end_in old) old.frames_before old.delivered_by within h.moving) h
-
--- and where other stations may leave, none before that
+-- What comes at a moment is done, and nothing else changed; other stations may leave, none before
+-- that.
 pub under_leaves : (moment : ℕ) (came : List Filed) (old new : MovingRun)
     (A B : List Event → List Entry → Type 0) → new.row ≡ old.row
     → ((from : ℕ) → All (λ d. from ≤ d.moment) (heap_items old.departures.waiting)
     → All (λ d. from ≤ d.moment) (heap_items new.departures.waiting))
     → new.events ≡ old.events → new.taken ≡ old.taken
     → end_in new ≡ end_in old → new.frames_before ≡ old.frames_before
-    → new.delivered_by ≡ old.delivered_by → DoesAt moment came old.run A new.run B
-    → StaysAt moment came old A new B
-under_leaves moment came old new A B row departures events taken end counted by does =
+    → new.delivered_by ≡ old.delivered_by → new.grows ≡ old.grows
+    → DoesAt old.grows moment came old.run A new.run B → StaysAt moment came old A new B
+under_leaves moment came old new A B row departures events taken end counted by grows does =
     λ rules configs made past begin clock within h.
     under_moving rules configs made made past (past ++ came) moment moment begin clock old new A B
-    row (departures moment h.comings.departures) events taken end counted by
+    row (departures moment h.comings.departures) events taken end counted by grows
+    (still_rowless old new row departures grows h.rowless)
     (does rules configs made past (end_in old) old.frames_before old.delivered_by within h.moving) h
 
 -- nothing comes to the file
@@ -194,29 +220,22 @@ pub event_taken : (rules : Rules) (configs made : List Config) (past : List File
     → slice_get old.events.items old.taken ≡ Some e → new.run ≡ old.run → new.row ≡ old.row
     → new.departures ≡ old.departures → new.events ≡ old.events → new.taken ≡ old.taken + 1
     → end_in new ≡ end_in old → new.frames_before ≡ old.frames_before
-    → new.delivered_by ≡ old.delivered_by
+    → new.delivered_by ≡ old.delivered_by → new.grows ≡ old.grows
     → IsUnder rules configs made past (e.now.moment) (e.now.moment) begin clock
     old A
     → IsUnder rules configs made past (e.now.moment) (e.now.moment) begin clock
     new A
 event_taken rules configs made past begin clock e old new A is run row departures events taken end
-    counted by h =
+    counted by grows h =
     let m = e.now.moment in
     record {
       moving =
-          subst (λ (r : Run). IsMoving rules configs made past m m (end_in new) new.frames_before
-          new.delivered_by r A) (sym run)
-          (subst (λ n. IsMoving rules configs made past m m n new.frames_before new.delivered_by
-          old.run A)
-          (sym end)
-          (subst (λ n. IsMoving rules configs made past m m (end_in old) n new.delivered_by
-          old.run A)
-          (sym counted)
-          (subst (λ n. IsMoving rules configs made past m m (end_in old) old.frames_before n
-          old.run A)
-          (sym by) h.moving)));
+          same_moving rules configs made past m m old new new.run A grows end counted by
+          (subst (λ (r : Run). IsMoving old.grows rules configs made past m m (end_in old)
+          old.frames_before old.delivered_by r A) (sym run) h.moving);
       comings = event_comes e old new is row departures events taken h.comings;
       ahead = λ r here. h.ahead r (sym row ∙ here);
+      rowless = still_rowless old new row (same_departures old new departures) grows h.rowless;
     }
 
 -- the next event was taken and done
@@ -225,24 +244,20 @@ pub event_done : (e : Bor AddressedEvent) (came : List Filed) (old new : MovingR
     → slice_get old.events.items old.taken ≡ Some e → new.row ≡ old.row
     → new.departures ≡ old.departures → new.events ≡ old.events → new.taken ≡ old.taken + 1
     → end_in new ≡ end_in old → new.frames_before ≡ old.frames_before
-    → new.delivered_by ≡ old.delivered_by
-    → DoesAt (e.now.moment) came old.run A new.run B
-    → StaysAt (e.now.moment) came old A new B
-event_done e came old new A B is row departures events taken end counted by does =
+    → new.delivered_by ≡ old.delivered_by → new.grows ≡ old.grows
+    → DoesAt old.grows e.now.moment came old.run A new.run B
+    → StaysAt e.now.moment came old A new B
+event_done e came old new A B is row departures events taken end counted by grows does =
     λ rules configs made past begin clock within h.
     let m = e.now.moment in
     record {
       moving =
-          subst (λ n. IsMoving rules configs made (past ++ came) m m n new.frames_before
-          new.delivered_by new.run B) (sym end)
-          (subst (λ n. IsMoving rules configs made (past ++ came) m m (end_in old) n
-          new.delivered_by new.run B) (sym counted)
-          (subst (λ n. IsMoving rules configs made (past ++ came) m m (end_in old)
-          old.frames_before n new.run B) (sym by)
+          same_moving rules configs made (past ++ came) m m old new new.run B grows end counted by
           (does rules configs made past (end_in old) old.frames_before old.delivered_by within
-          h.moving)));
+          h.moving);
       comings = event_comes e old new is row departures events taken h.comings;
       ahead = λ r here. h.ahead r (sym row ∙ here);
+      rowless = still_rowless old new row (same_departures old new departures) grows h.rowless;
     }
 
 -- the sink was told more, of which it says nothing
@@ -253,10 +268,11 @@ pub says_under : (rules : Rules) (configs made : List Config) (past : List Filed
 says_under rules configs made past last from begin clock m A B says h =
     record {
       moving =
-          says_moving rules configs made past last from (end_in m) m.frames_before
+          says_moving m.grows rules configs made past last from (end_in m) m.frames_before
           m.delivered_by m.run A B says h.moving;
       comings = h.comings;
       ahead = h.ahead;
+      rowless = h.rowless;
     }
 
 -- so the next event was done, as the scenario has it
@@ -265,15 +281,15 @@ pub event_does : (event e : Bor AddressedEvent) (came : List Filed) (old new : M
     → slice_get old.events.items old.taken ≡ Some event → new.row ≡ old.row
     → new.departures ≡ old.departures → new.events ≡ old.events → new.taken ≡ old.taken + 1
     → end_in new ≡ end_in old → new.frames_before ≡ old.frames_before
-    → new.delivered_by ≡ old.delivered_by
-    → MayAsk (stations_in old) event.now event.now.addressee came
-    → DoesAt (event.now.moment) came old.run A new.run B → DoesEvent e.now old A new B
-event_does event e came old new A B one is row departures events taken end counted by may does =
+    → new.delivered_by ≡ old.delivered_by → new.grows ≡ old.grows
+    → MayAsk old.grows (stations_in old) event.now event.now.addressee came
+    → DoesAt old.grows event.now.moment came old.run A new.run B → DoesEvent e.now old A new B
+event_does event e came old new A B one is row departures events taken end counted by grows may
+    does =
     subst (λ (x : Bor AddressedEvent). DoesEvent x.now old A new B) one (
       came,
       may,
-      event_done event came old new A B is row departures events taken end counted by
-          does,
+      event_done event came old new A B is row departures events taken end counted by grows does,
     )
 
 -- the next event was taken, and nothing was done
@@ -283,9 +299,10 @@ pub event_passed : (event e : Bor AddressedEvent) (old new : MovingRun)
     → new.row ≡ old.row → new.departures ≡ old.departures → new.events ≡ old.events
     → new.taken ≡ old.taken + 1 → end_in new ≡ end_in old
     → new.frames_before ≡ old.frames_before → new.delivered_by ≡ old.delivered_by
-    → MayAsk (stations_in old) event.now event.now.addressee []
+    → new.grows ≡ old.grows → MayAsk old.grows (stations_in old) event.now event.now.addressee []
     → SaysAsBefore A B → DoesEvent e.now old A new B
-event_passed event e old new A B one is run row departures events taken end counted by may says =
+event_passed event e old new A B one is run row departures events taken end counted by grows may
+    says =
     let m = event.now.moment in
     subst (λ (x : Bor AddressedEvent). DoesEvent x.now old A new B) one (
       [],
@@ -293,8 +310,7 @@ event_passed event e old new A B one is run row departures events taken end coun
       none_comes m old new A B (λ rules configs made past begin clock h.
           says_under rules configs made past m m begin clock new A B says
           (event_taken rules configs made past begin clock event old new A is run row departures
-          events
-          taken end counted by h)),
+          events taken end counted by grows h)),
     )
 
 -- ---- rows
@@ -311,36 +327,64 @@ ends_no_sooner : (until : Option ℕ) (greatest greatest' : ℕ) → greatest �
 ends_no_sooner (Some until) greatest greatest' le = omega arith
 ends_no_sooner None greatest greatest' le = omega (arith, le)
 
+-- with rows it isn't without
+pub never_rowless : (m : MovingRun) → m.grows ≡ true → m.grows ≡ false → IsRowless m
+never_rowless m so no = absurd (false≢true (sym no ∙ so))
+
+bool_is : (b : Bool) → (b ≡ true) ⊎ (b ≡ false)
+bool_is true = inl refl
+bool_is false = inr refl
+
+-- a row comes only with rows
+pub row_grows : (m : MovingRun) (r : Row) → (m.grows ≡ false → IsRowless m) → m.row ≡ Some r
+    → m.grows ≡ true
+row_grows m r rowless is = either (bool_is m.grows)
+  where
+    either : (m.grows ≡ true) ⊎ (m.grows ≡ false) → m.grows ≡ true
+    either (inl so) = so
+    either (inr no) =
+        let bad : None ≡ Some r = sym (rowless no).row ∙ is in
+        let never : ⊥ = cc in absurd never
+
+-- so does a station that leaves
+pub leave_grows : (m : MovingRun) (station moment : ℕ) → (m.grows ≡ false → IsRowless m)
+    → IsComing m moment (outsides.Departure station) → m.grows ≡ true
+leave_grows m station moment rowless coming = either (bool_is m.grows)
+  where
+    either : (m.grows ≡ true) ⊎ (m.grows ≡ false) → m.grows ≡ true
+    either (inl so) = so
+    either (inr no) =
+        let late = coming (moment + 1) ((rowless no).departures (moment + 1)) in
+        absurd (omega (arith, late))
+
 -- the next row was read
 pub row_read : (rules : Rules) (configs made : List Config) (past : List Filed)
     (last from begin clock clock' : ℕ)
     (old new : MovingRun) (A : List Event → List Entry → Type 0) → new.run ≡ old.run
     → new.departures ≡ old.departures → new.events ≡ old.events → new.taken ≡ old.taken
     → new.frames_before ≡ old.frames_before → new.delivered_by ≡ old.delivered_by
-    → new.until ≡ old.until → old.greatest ≤ new.greatest
-    → ForSome new.row (IsRowBetween begin clock clock')
+    → new.until ≡ old.until → old.greatest ≤ new.greatest → new.grows ≡ old.grows
+    → old.grows ≡ true → ForSome new.row (IsRowBetween begin clock clock')
     → ((n : ℕ) → clock ≤ n + begin → from ≤ n)
     → IsUnder rules configs made past last from begin clock old A
     → IsUnder rules configs made past last from begin clock' new A
 row_read rules configs made past last from begin clock clock' old new A run departures events
-    taken counted by
-    until greatest row behind h =
+    taken counted by until greatest grows may row behind h =
     let later : end_in old ≤ end_in new =
     subst (λ (u : Option ℕ). end_in old ≤ end_after u new.greatest) (sym until)
     (ends_no_sooner old.until old.greatest new.greatest greatest) in
     record {
       moving =
-          subst (λ (r : Run). IsMoving rules configs made past last from (end_in new)
-          new.frames_before
-          new.delivered_by r A) (sym run)
-          (subst (λ n. IsMoving rules configs made past last from (end_in new) n new.delivered_by
-          old.run A)
-          (sym counted)
-          (subst (λ n. IsMoving rules configs made past last from (end_in new) old.frames_before
-          n old.run A)
-          (sym by)
-          (ends_later rules configs made past last from (end_in old) (end_in new) old.frames_before
-          old.delivered_by old.run A later h.moving)));
+          subst (λ (g : Bool). IsMoving g rules configs made past last from (end_in new)
+          new.frames_before new.delivered_by new.run A) (sym grows)
+          (subst (λ (r : Run). IsMoving old.grows rules configs made past last from (end_in new)
+          new.frames_before new.delivered_by r A) (sym run)
+          (subst (λ n. IsMoving old.grows rules configs made past last from (end_in new) n
+          new.delivered_by old.run A) (sym counted)
+          (subst (λ n. IsMoving old.grows rules configs made past last from (end_in new)
+          old.frames_before n old.run A) (sym by)
+          (ends_later old.grows rules configs made past last from (end_in old) (end_in new)
+          old.frames_before old.delivered_by old.run A later h.moving))));
       comings =
           record {
             row = λ r is. behind r.moment (row r is).no_earlier;
@@ -350,6 +394,7 @@ row_read rules configs made past last from begin clock clock' old new A run depa
             events = λ e is. h.comings.events e (sym (same_event old new events taken) ∙ is);
           };
       ahead = λ r is. (row r is).no_later;
+      rowless = never_rowless new (grows ∙ may);
     }
 
 -- a row is done: the station is there, or it was made, with the ports that it opens
@@ -364,46 +409,47 @@ pub row_does : (row : Row) (station : ℕ) (ports : List ℕ) (old one new : Mov
     → All (λ d. from ≤ d.moment) (heap_items new.departures.waiting))
     → new.events ≡ one.events → new.taken ≡ one.taken → end_in new ≡ end_in one
     → new.frames_before ≡ one.frames_before → new.delivered_by ≡ one.delivered_by
-    → DoesAt row.moment (Happens (row_move station row)
+    → one.grows ≡ old.grows → new.grows ≡ one.grows
+    → DoesAt one.grows row.moment (Happens (row_move station row)
     ∷ map (opening_at station row.moment) ports) one.run B new.run C
     → DoesRow row old A new C
 row_does row station ports old one new A B C (inl x) same row_same departures events taken end
-    counted
-    by does =
+    counted by grown grows does =
     inl (
       station,
       x.0,
-      λ rules configs made past begin clock within h.
+      λ so rules configs made past begin clock within h.
           let m = row.moment in
           let came : List Filed = Happens (row_move station row) ∷ [] in
           let under = x.2 rules configs made past m m begin clock h in
-          let moves : DoesAt m came one.run B new.run C =
-          subst (λ (l : List ℕ). DoesAt m (Happens (row_move station row)
+          let moves : DoesAt one.grows m came one.run B new.run C =
+          subst (λ (l : List ℕ). DoesAt one.grows m (Happens (row_move station row)
           ∷ map (opening_at station m) l) one.run B new.run C) x.1 does in
           under_moving rules configs made made past (past ++ came) m m begin clock one new B C
           row_same (departures m (omega arith) under.comings.departures) events taken end counted by
+          grows (never_rowless new (grows ∙ grown ∙ so))
           (moves rules configs made past (end_in one) one.frames_before one.delivered_by
           (subst (λ (n : ℕ). m ≤ n) (sym same) within) under.moving) under,
     )
 row_does row station ports old one new A B C (inr x) same row_same departures events taken end
-    counted
-    by does =
+    counted by grown grows does =
     inr (
       x.2,
-      λ rules configs made past begin clock within h.
+      λ so rules configs made past begin clock within h.
           let m = row.moment in
           let count = stations_in old in
           let opens = old.moves.now.ports.items in
           let came : List Filed = Happens (row_move count row) ∷ map (opening_at count m) opens in
-          let under = x.3 rules configs made past m m begin clock h in
-          let moves : DoesAt m came one.run B new.run C =
-          subst (λ (n : ℕ). DoesAt m (Happens (row_move n row) ∷ map (opening_at n m) opens)
+          let under = x.3 so rules configs made past m m begin clock h in
+          let moves : DoesAt one.grows m came one.run B new.run C =
+          subst (λ (n : ℕ). DoesAt one.grows m (Happens (row_move n row) ∷ map (opening_at n m) opens)
           one.run B new.run C) x.0
-          (subst (λ (l : List ℕ). DoesAt m (Happens (row_move station row)
+          (subst (λ (l : List ℕ). DoesAt one.grows m (Happens (row_move station row)
           ∷ map (opening_at station m) l) one.run B new.run C) x.1 does) in
           under_moving rules configs (made ++ x.2 ∷ []) (made ++ x.2 ∷ []) past (past ++ came) m m
           begin clock one new B C
           row_same (departures m (omega arith) under.comings.departures) events taken end counted by
+          grows (never_rowless new (grows ∙ grown ∙ so))
           (moves rules configs (made ++ x.2 ∷ []) past (end_in one) one.frames_before
           one.delivered_by (subst (λ (n : ℕ). m ≤ n) (sym same) within) under.moving) under,
     )
@@ -414,26 +460,16 @@ pub row_taken : (rules : Rules) (configs made : List Config) (past : List Filed)
     (old new : MovingRun) (A : List Event → List Entry → Type 0) → new.row ≡ None
     → new.run ≡ old.run → new.departures ≡ old.departures → new.events ≡ old.events
     → new.taken ≡ old.taken → end_in new ≡ end_in old → new.frames_before ≡ old.frames_before
-    → new.delivered_by ≡ old.delivered_by → IsUnder rules configs made past last from begin clock
-    old A
+    → new.delivered_by ≡ old.delivered_by → new.grows ≡ old.grows
+    → IsUnder rules configs made past last from begin clock old A
     → IsUnder rules configs made past last from begin clock new A
 row_taken rules configs made past last from begin clock old new A row run departures events taken
-    end counted
-    by h =
+    end counted by grows h =
     record {
       moving =
-          subst (λ (r : Run). IsMoving rules configs made past last from (end_in new)
-          new.frames_before
-          new.delivered_by r A) (sym run)
-          (subst (λ n. IsMoving rules configs made past last from n new.frames_before
-          new.delivered_by
-          old.run A) (sym end)
-          (subst (λ n. IsMoving rules configs made past last from (end_in old) n new.delivered_by
-          old.run A)
-          (sym counted)
-          (subst (λ n. IsMoving rules configs made past last from (end_in old) old.frames_before
-          n old.run A)
-          (sym by) h.moving)));
+          same_moving rules configs made past last from old new new.run A grows end counted by
+          (subst (λ (r : Run). IsMoving old.grows rules configs made past last from (end_in old)
+          old.frames_before old.delivered_by r A) (sym run) h.moving);
       comings =
           record {
             row = λ r is. let no : None ≡ Some r = sym row ∙ is in no_row r no;
@@ -443,6 +479,12 @@ row_taken rules configs made past last from begin clock old new A row run depart
             events = λ e is. h.comings.events e (sym (same_event old new events taken) ∙ is);
           };
       ahead = λ r is. let no : None ≡ Some r = sym row ∙ is in no_row r no;
+      rowless = λ none.
+          let was = h.rowless (sym grows ∙ none) in
+          record {
+            row = row;
+            departures = λ n. same_departures old new departures n (was.departures n);
+          };
     }
   where
     no_row : {P : Type 0} (r : Row) → None ≡ Some r → P
@@ -452,16 +494,16 @@ row_taken rules configs made past last from begin clock old new A row run depart
 pub begun_under : (rules : Rules) (configs made : List Config) (past : List Filed)
     (begin clock : ℕ) (m : MovingRun)
     (Took : List Event → List Entry → Type 0)
-    → IsMoving rules configs made past 0 0 (end_in m) 0 0 m.run Took → m.row ≡ None
+    → IsMoving m.grows rules configs made past 0 0 (end_in m) 0 0 m.run Took → m.row ≡ None
     → heap_items m.departures.waiting ≡ [] → m.frames_before ≡ 0 → m.delivered_by ≡ 0
     → IsUnder rules configs made past 0 0 begin clock m Took
 begun_under rules configs made past begin clock m Took moving row none counted by =
     record {
       moving =
-          subst (λ n. IsMoving rules configs made past 0 0 (end_in m) n m.delivered_by m.run Took)
-          (sym counted)
-          (subst (λ n. IsMoving rules configs made past 0 0 (end_in m) 0 n m.run Took) (sym by)
-          moving);
+          subst (λ n. IsMoving m.grows rules configs made past 0 0 (end_in m) n m.delivered_by m.run
+          Took) (sym counted)
+          (subst (λ n. IsMoving m.grows rules configs made past 0 0 (end_in m) 0 n m.run Took)
+          (sym by) moving);
       comings =
           record {
             row = λ r is. omega arith;
@@ -469,6 +511,12 @@ begun_under rules configs made past begin clock m Took moving row none counted b
             events = λ e is. omega arith;
           };
       ahead = λ r is. let no : None ≡ Some r = sym row ∙ is in no_row r no;
+      rowless = λ any. record {
+        row = row;
+        departures = λ from.
+            subst (λ (ds : List Departure). All (λ (d : Departure). from ≤ d.moment) ds) (sym none)
+            (λ k d lt. absurd (omega (arith, lt)));
+      };
     }
   where
     no_row : {P : Type 0} (r : Row) → None ≡ Some r → P
@@ -522,20 +570,23 @@ pub own_under : (rules : Rules) (configs made : List Config) (past : List Filed)
     (moment begin clock : ℕ) (old new : MovingRun) (B : List Event → List Entry → Type 0)
     → new.row ≡ old.row
     → new.departures ≡ old.departures → new.events ≡ old.events → new.taken ≡ old.taken
-    → end_in new ≡ end_in old → ComesFrom (moment + 1) old
-    → ForSome old.row (λ row. row.moment + begin ≤ clock)
-    → IsMoving rules configs made past moment (moment + 1) (end_in old) new.frames_before
-    new.delivered_by new.run B
+    → end_in new ≡ end_in old → new.grows ≡ old.grows → ComesFrom (moment + 1) old
+    → ForSome old.row (λ row. row.moment + begin ≤ clock) → (old.grows ≡ false → IsRowless old)
+    → IsMoving old.grows rules configs made past moment (moment + 1) (end_in old)
+    new.frames_before new.delivered_by new.run B
     → IsUnder rules configs made past moment (moment + 1) begin clock new B
 own_under rules configs made past moment begin clock old new B row departures events taken end
-    comes ahead moving =
+    grows comes ahead rowless moving =
     record {
       moving =
-          subst (λ n. IsMoving rules configs made past moment (moment + 1) n new.frames_before
-          new.delivered_by new.run B) (sym end) moving;
+          subst (λ (g : Bool). IsMoving g rules configs made past moment (moment + 1) (end_in new)
+          new.frames_before new.delivered_by new.run B) (sym grows)
+          (subst (λ n. IsMoving old.grows rules configs made past moment (moment + 1) n
+          new.frames_before new.delivered_by new.run B) (sym end) moving);
       comings =
           same_comes (moment + 1) old new row
           (subst (λ (d : Departures). All (λ (x : Departure). moment + 1 ≤ x.moment)
           (heap_items d.waiting)) (sym departures) comes.departures) events taken comes;
       ahead = λ r is. ahead r (sym row ∙ is);
+      rowless = still_rowless old new row (same_departures old new departures) grows rowless;
     }

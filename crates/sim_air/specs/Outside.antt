@@ -1,14 +1,14 @@
 -- What comes to a run with moves from outside, one after the other: rows of a file, stations that
 -- leave, and what the scenario has.
 use Rattle.std.specs.Prelude.{◌≡◌, ◌≤◌, ◌<◌, ◌+◌, ◌*◌, ◌++◌, ◌∷◌, [], ◌⊎◌, ℕ, List, length, map}
-use Rattle.std.specs.Prelude.{Option, Some, None, true, All, string_bytes, take, drop}
+use Rattle.std.specs.Prelude.{Option, Some, None, Bool, true, false, All, string_bytes, take, drop}
 use Rattle.std.specs.List.{AllByRecursion, filter}
 use Rattle.std.specs.List.Sorted.{IsNonDecreasingBy}
 use Rattle.std.specs.Prelude.{◌==◌}
 use Rattle.its_gnvalue.specs.Values.{Position}
 use Rattle.its_model.specs.Calls.OwnCall.{Move, Open}
 use Rattle.its_model.specs.World.{Event, What}
-use Rattle.its_model.specs.World.What.{Calls, Deliver}
+use Rattle.its_model.specs.World.What.{Calls}
 use Rattle.sim_moves.specs.declared.row.Row.{Row}
 use Rattle.sim_scenario.specs.Actions.{what_at}
 use Rattle.sim_scenario.specs.declared.events.event.AddressedEvent.{AddressedEvent}
@@ -84,21 +84,13 @@ abbrev pub station_of_filed : Filed → ℕ
 station_of_filed (Happens e) = e.station
 station_of_filed (Leaves station moment) = station
 
--- an event delivers a frame
-abbrev pub IsDelivery : What → Type 0
-IsDelivery (Calls call) = ⊥
-IsDelivery (Deliver frame) = Unit {0}
-
-abbrev pub Delivers : Filed → Type 0
-Delivers (Happens e) = IsDelivery e.what
-Delivers (Leaves station moment) = ⊥
-
--- of so many stations, this comes; but not where its station isn't there, or where it delivers a
--- frame, as nothing does that a scenario has for an id
-abbrev pub MayCome : ℕ → Filed → List Filed → Type 0
-MayCome count filed came =
+-- Of so many stations, this comes; where stations are made, only if its station is there. Where none
+-- is made, an event comes wherever its station is: one that isn't there refuses it.
+abbrev pub MayCome : Bool → ℕ → Filed → List Filed → Type 0
+MayCome true count filed came =
     ((station_of_filed filed < count) × (came ≡ filed ∷ []))
-    ⊎ (((count ≤ station_of_filed filed) ⊎ Delivers filed) × (came ≡ []))
+    ⊎ ((count ≤ station_of_filed filed) × (came ≡ []))
+MayCome false count filed came = came ≡ filed ∷ []
 
 -- what is done by a station at a moment, or its leave
 abbrev pub filed_when : ℕ → ℕ → Option What → Filed
@@ -107,38 +99,45 @@ filed_when station moment (Some what) =
 filed_when station moment None = Leaves station moment
 
 -- what the scenario has, of a station that is at some place
-abbrev pub IsOfStation : ℕ → AddressedEvent → ℕ → List Filed → Type 0
-IsOfStation count event station came =
+abbrev pub IsOfStation : Bool → ℕ → AddressedEvent → ℕ → List Filed → Type 0
+IsOfStation grows count event station came =
     (place : Position)
-    × MayCome count (filed_when station event.moment (what_at event.action place)) came
+    × MayCome grows count (filed_when station event.moment (what_at event.action place)) came
 
 -- what the scenario has comes: of one of its own stations; of an id as that of the station of the
 -- id, or not
-abbrev pub MayAsk : ℕ → AddressedEvent → Addressee → List Filed → Type 0
-MayAsk count event (addressees.Station station) came = IsOfStation count event station came
-MayAsk count event (addressees.Vehicle id) came =
-    ((station : ℕ) × IsOfStation count event station came) ⊎ (came ≡ [])
+abbrev pub MayAsk : Bool → ℕ → AddressedEvent → Addressee → List Filed → Type 0
+MayAsk grows count event (addressees.Station station) came =
+    IsOfStation grows count event station came
+MayAsk grows count event (addressees.Vehicle id) came =
+    ((station : ℕ) × IsOfStation grows count event station came) ⊎ (came ≡ [])
 
 -- What one brings to the file, behind those before it, where there are so many stations of the
 -- scenario's own: a row a move of its station; the one that makes its station, numbered behind all
--- others, then the opening of each of these ports; a station that leaves, its leave.
-abbrev pub Brings : ℕ → List ℕ → List Came → Came → List Filed → Type 0
-Brings own ports before (Makes row station) came =
+-- others, then the opening of each of these ports; a station that leaves, its leave. Without rows
+-- only events of the scenario come.
+abbrev pub Brings : Bool → ℕ → List ℕ → List Came → Came → List Filed → Type 0
+Brings true own ports before (Makes row station) came =
     (station ≡ own + length (ids_of before))
     × (came ≡ Happens (row_move station row) ∷ map (opening_at station row.moment) ports)
-Brings own ports before (Moved row station) came =
+Brings true own ports before (Moved row station) came =
     (station < own + length (ids_of before)) × (came ≡ Happens (row_move station row) ∷ [])
-Brings own ports before (Left station moment) came =
-    MayCome (own + length (ids_of before)) (Leaves station moment) came
-Brings own ports before (Asked event) came =
-    MayAsk (own + length (ids_of before)) event event.addressee came
+Brings true own ports before (Left station moment) came =
+    MayCome true (own + length (ids_of before)) (Leaves station moment) came
+Brings true own ports before (Asked event) came =
+    MayAsk true (own + length (ids_of before)) event event.addressee came
+Brings false own ports before (Makes row station) came = ⊥
+Brings false own ports before (Moved row station) came = ⊥
+Brings false own ports before (Left station moment) came = ⊥
+Brings false own ports before (Asked event) came =
+    MayAsk false (own + length (ids_of before)) event event.addressee came
 
 -- the file is what each of these brought, the last in front, one after the other
-abbrev pub IsBrought : ℕ → List ℕ → List Came → List Filed → Type 0
-IsBrought own ports [] file = file ≡ []
-IsBrought own ports (c ∷ before) file =
+abbrev pub IsBrought : Bool → ℕ → List ℕ → List Came → List Filed → Type 0
+IsBrought grows own ports [] file = file ≡ []
+IsBrought grows own ports (c ∷ before) file =
     (past : List Filed) × (came : List Filed) × (file ≡ past ++ came)
-    × IsBrought own ports before past × Brings own ports before c came
+    × IsBrought grows own ports before past × Brings grows own ports before c came
 
 -- those of a moment
 abbrev pub asked_at : ℕ → List AddressedEvent → List AddressedEvent
@@ -152,11 +151,11 @@ pub record IsByMoment (others events : List AddressedEvent) : Type 0 where
 -- What came from outside, of so many stations of the scenario's own and these that rows made, up to
 -- a last moment: rows, leaves, and what the scenario had, in turn. Of the scenario only what is
 -- later than the last moment is missing.
-pub record IsOutside (own made : ℕ) (moves : Moves) (asked : List AddressedEvent) (until : ℕ)
-    (file : List Filed) : Type 0 where
+pub record IsOutside (grows : Bool) (own made : ℕ) (moves : Moves)
+    (asked : List AddressedEvent) (until : ℕ) (file : List Filed) : Type 0 where
   pub came : List Came
   pub in_turn : InTurn came
-  pub brought : IsBrought own moves.ports.items came file
+  pub brought : IsBrought grows own moves.ports.items came file
   pub made_by_rows : made ≡ length (ids_of came)
   pub events : List AddressedEvent
   pub by_moment : IsByMoment asked events

@@ -1,6 +1,6 @@
 -- A run with rows that is under way.
 use Rattle.std.specs.Prelude.{◌≡◌, ◌≤◌, ◌<◌, ◌+◌, ◌*◌, ◌++◌, ◌∷◌, [], ◌⊎◌, ℕ, List, All, map}
-use Rattle.std.specs.Prelude.{Option, Some, None, length, slice_get, take}
+use Rattle.std.specs.Prelude.{Option, Some, None, true, false, length, slice_get, take}
 use Rattle.std.specs.BinaryHeap.{heap_items}
 use Rattle.std.specs.List.{AllByRecursion}
 use Rattle.std.specs.Option.{ForSome}
@@ -73,15 +73,21 @@ pub record IsNext (m : MovingRun) (coming : Coming) : Type 0 where
   pub first : ComesFrom coming.moment m
   pub turn : ComesInTurn (turn_in coming) m
 
--- A run with rows is under way, of whose file the clock shows this moment, and showed another one
--- at the begin. These stations were made, and this came from outside.
+-- no row comes, and no station leaves
+pub record IsRowless (m : MovingRun) : Type 0 where
+  pub row : m.row ≡ None
+  pub departures : (from : ℕ) → All (λ d. from ≤ d.moment) (heap_items m.departures.waiting)
+
+-- A run is under way, with rows, of whose file the clock shows this moment, and showed another one
+-- at the begin, or without. These stations were made, and this came from outside.
 pub record IsUnder (rules : Rules) (configs made : List Config) (past : List Filed)
     (last from begin clock : ℕ) (m : MovingRun) (Took : List Event → List Entry → Type 0)
     : Type 0 where
-  pub moving : IsMoving rules configs made past last from (end_in m) m.frames_before
+  pub moving : IsMoving m.grows rules configs made past last from (end_in m) m.frames_before
       m.delivered_by m.run Took
   pub comings : ComesFrom from m
   pub ahead : ForSome m.row (λ row. row.moment + begin ≤ clock)
+  pub rowless : m.grows ≡ false → IsRowless m
 
 -- it is under way as before
 abbrev pub StaysUnder : MovingRun → (List Event → List Entry → Type 0) → MovingRun
@@ -96,7 +102,7 @@ StaysUnder old Before new After =
 abbrev pub MakesUnder : Config → MovingRun → (List Event → List Entry → Type 0) → MovingRun
     → (List Event → List Entry → Type 0) → Type 0
 MakesUnder config old Before new After =
-    (rules : Rules) (configs made : List Config) (past : List Filed)
+    old.grows ≡ true → (rules : Rules) (configs made : List Config) (past : List Filed)
     (last from begin clock : ℕ) →
     IsUnder rules configs made past last from begin clock old Before →
     IsUnder rules configs (made ++ config ∷ []) past last from begin clock new After
@@ -114,7 +120,7 @@ StaysAt moment came old Before new After =
 abbrev pub MakesAt : Config → ℕ → List Filed → MovingRun
     → (List Event → List Entry → Type 0) → MovingRun → (List Event → List Entry → Type 0) → Type 0
 MakesAt config moment came old Before new After =
-    (rules : Rules) (configs made : List Config) (past : List Filed) (begin clock : ℕ) →
+    old.grows ≡ true → (rules : Rules) (configs made : List Config) (past : List Filed) (begin clock : ℕ) →
     moment ≤ end_in old →
     IsUnder rules configs made past moment moment begin clock old Before →
     IsUnder rules configs (made ++ config ∷ []) (past ++ came) moment moment begin clock new After
@@ -128,7 +134,8 @@ abbrev pub DoesRow : Row → MovingRun → (List Event → List Entry → Type 0
     → (List Event → List Entry → Type 0) → Type 0
 DoesRow row old Before new After =
     ((station : ℕ) × (station < stations_in old)
-    × StaysAt row.moment (Happens (row_move station row) ∷ []) old Before new After)
+    × (old.grows ≡ true
+    → StaysAt row.moment (Happens (row_move station row) ∷ []) old Before new After))
     ⊎ ((config : Config) × MakesAt config row.moment
     (Happens (row_move (stations_in old) row)
     ∷ map (opening_at (stations_in old) row.moment) old.moves.now.ports.items)
@@ -139,14 +146,14 @@ abbrev pub DoesLeave : ℕ → ℕ → MovingRun → (List Event → List Entry 
     → (List Event → List Entry → Type 0) → Type 0
 DoesLeave station moment old Before new After =
     StaysAt moment [] old Before new After
-    ⊎ ((came : List Filed) × MayCome (stations_in old) (Leaves station moment) came
+    ⊎ ((came : List Filed) × MayCome true (stations_in old) (Leaves station moment) came
     × StaysAt moment came old Before new After)
 
 -- what the scenario has is done
 abbrev pub DoesEvent : AddressedEvent → MovingRun → (List Event → List Entry → Type 0)
     → MovingRun → (List Event → List Entry → Type 0) → Type 0
 DoesEvent event old Before new After =
-    (came : List Filed) × MayAsk (stations_in old) event event.addressee came
+    (came : List Filed) × MayAsk old.grows (stations_in old) event event.addressee came
     × StaysAt (event.moment) came old Before new After
 
 -- What came from outside is what these brought, the last in front, each in its turn, none later
@@ -156,7 +163,7 @@ pub record CameUnder (own made : ℕ) (came : List Came) (past : List Filed) (tu
   pub in_turn : InTurn came
   pub by_turn : AllByRecursion (λ c. turn_of c ≤ turn) came
   pub next : ComesInTurn turn m
-  pub brought : IsBrought own m.moves.now.ports.items came past
+  pub brought : IsBrought m.grows own m.moves.now.ports.items came past
   pub made_by_rows : made ≡ length (ids_of came)
   pub asked : asked_of came ≡ take m.taken (asked_in m)
 

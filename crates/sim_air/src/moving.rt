@@ -18,10 +18,11 @@ ghost use Rattle.its_world.specs.Events.{IsConfig, IsInRange, config_of, event_o
 ghost use Rattle.its_world.specs.Steps.{IsKept};
 ghost use Rattle.its_world.specs.State.{RepresentsWorld};
 ghost use Rattle.sim_air.specs.AirTimed.{rules_of};
+ghost use Rattle.sim_air.specs.Delivered.{DeliversFrom};
 ghost use Rattle.sim_air.specs.FitsRun.{FitsRun};
 ghost use Rattle.sim_air.specs.Keeps.{GoesBy};
 ghost use Rattle.sim_queue.specs.Keeps.{Keeps};
-ghost use Rattle.sim_air.specs.Moving.{Awaits, IsMovedRun};
+ghost use Rattle.sim_air.specs.Moving.{Awaits, DoesAsked, IsMovedRun};
 ghost use Rattle.sim_air.specs.Outside.{Came, IsByMoment, row_move};
 ghost use Rattle.sim_air.specs.Runs.{AreIndexed};
 ghost use Rattle.sim_air_model.specs.Timetable.{Filed, Pending, Rules, air_opening, at};
@@ -34,14 +35,14 @@ ghost use Rattle.sim_air.specs.UnderRows.{turn_in};
 use crate::departures::Departures;
 use crate::fault::AirFault;
 use crate::moving_run::{Coming, MovingRun, Outside};
-use crate::run::Run;
-use crate::step::{do_at, do_filed, do_own, move_in};
+use crate::run::{Run, place_of};
+use crate::step::{do_leave, do_own, move_in};
 use crate::vehicles::Vehicles;
 use its_gnvalue::Place;
 use its_model::laws::every_schedule;
 use its_world::{Config, Event, What, World};
 use sim_moves::{MovesFault, Row, Rows, Word};
-use sim_scenario::events::{AddressedEvent, Addressee, FileEvent};
+use sim_scenario::events::{Action, AddressedEvent, Addressee, FileEvent};
 use sim_scenario::{MovesTimeline, Scenario};
 use sim_settings::Moves;
 use sim_simulation::{EventSink, Note};
@@ -143,6 +144,7 @@ impl<'a> MovingRun<'a> {
             IsByMoment timeline.now.events.items (asked_in moving)) }
         ensures taken { IfOk result (λ moving. moving.taken ≡ 0) }
         ensures until { IfOk result (λ moving. moving.until ≡ timeline.now.air.until) }
+        ensures grows { IfOk result (λ moving. moving.grows ≡ true) }
         ensures frames { IfOk result (λ moving. (moving.run.world.released ≡ 0)
             × (moving.frames_before ≡ 0) × (moving.delivered_by ≡ 0)) }
     {
@@ -151,6 +153,7 @@ impl<'a> MovingRun<'a> {
         let moves = &timeline.moves;
         let events = in_order(alloc, timeline.events.as_slice())?;
         let greatest = last_moment(events.as_slice());
+        let lowest = lowest_delivery(events.as_slice());
         let none: &[FileEvent] = &[];
         let every = timeline.every.as_slice();
         Ok(MovingRun {
@@ -159,6 +162,8 @@ impl<'a> MovingRun<'a> {
             moves,
             vehicles: Vehicles::beside(alloc, stations, moves)?,
             departures: Departures::of(alloc, stations.len(), moves.gone)?,
+            grows: true,
+            lowest,
             events,
             taken: 0,
             row: None,
@@ -178,6 +183,7 @@ impl<'a> MovingRun<'a> {
         ensures frames { (self.new.frames_before ≡ self.old.frames_before)
             × (self.new.delivered_by ≡ self.old.delivered_by) }
         ensures until { self.new.until ≡ self.old.until }
+        ensures grows { self.new.grows ≡ self.old.grows }
         ensures end { self.old.greatest ≤ self.new.greatest }
         ensures moves { self.new.moves ≡ self.old.moves }
         ensures begin { rows.new.begin ≡ rows.old.begin }
@@ -221,6 +227,7 @@ impl<'a> MovingRun<'a> {
         requires standings { AreIndexed self.old.run }
         ensures standings { OnOk result (AreIndexed self.new.run) }
         ensures until { self.new.until ≡ self.old.until }
+        ensures grows { self.new.grows ≡ self.old.grows }
         ensures moves { self.new.moves ≡ self.old.moves }
         ensures asked { self.new.events ≡ self.old.events }
         ensures moving { IfOk result (λ more. more ≡ true →
@@ -229,7 +236,7 @@ impl<'a> MovingRun<'a> {
             IsUnderSome rules configs rows.new.begin rows.new.before self.new (S.Took sink.new)) }
         ensures ended { IfOk result (λ more. more ≡ false →
             (rules : Rules) (configs : List Beginning) (asked : List Addressed) →
-            IsByMoment asked (asked_in self.old) →
+            IsByMoment asked (asked_in self.old) → self.old.grows ≡ true →
             IsUnderSome rules configs rows.old.begin rows.old.before self.old (S.Took sink.old) →
             IsMovedRun rules configs self.old.moves.now asked self.old.until self.new.run.world
             (S.Took sink.new)) }
@@ -284,6 +291,7 @@ impl<'a> MovingRun<'a> {
         ensures events { (self.new.events ≡ self.old.events) × (self.new.taken ≡ self.old.taken) }
         ensures end { (self.new.until ≡ self.old.until)
             × (self.new.greatest ≡ self.old.greatest) }
+        ensures grows { self.new.grows ≡ self.old.grows }
         ensures counted { (count : ℕ) → self.old.frames_before ≤ count →
             count ≡ self.old.run.world.released + length self.old.run.world.frames →
             self.new.frames_before ≤ count }
@@ -295,7 +303,7 @@ impl<'a> MovingRun<'a> {
             self.new.delivered_by (moment + self.old.run.air.delay)) waiting }
     {
         if moment > self.delivered_by {
-            self.run.world.release(self.frames_before);
+            self.run.world.release(self.frames_before.min(self.lowest));
             self.frames_before = self.run.world.frames();
             self.delivered_by = moment + self.run.delay();
         }
@@ -378,6 +386,7 @@ impl<'a> MovingRun<'a> {
         requires standings { AreIndexed self.old.run }
         ensures standings { OnOk result (AreIndexed self.new.run) }
         ensures until { self.new.until ≡ self.old.until }
+        ensures grows { self.new.grows ≡ self.old.grows }
         ensures moves { self.new.moves ≡ self.old.moves }
         ensures asked { self.new.events ≡ self.old.events }
         ensures moving { OnOk result ((rules : Rules) (configs made : List Beginning)
@@ -403,6 +412,7 @@ impl<'a> MovingRun<'a> {
         requires standings { AreIndexed self.old.run }
         ensures standings { OnOk result (AreIndexed self.new.run) }
         ensures until { self.new.until ≡ self.old.until }
+        ensures grows { self.new.grows ≡ self.old.grows }
         ensures moves { self.new.moves ≡ self.old.moves }
         ensures asked { self.new.events ≡ self.old.events }
         ensures moving { OnOk result ((rules : Rules) (configs made : List Beginning)
@@ -431,6 +441,7 @@ impl<'a> MovingRun<'a> {
         requires standings { AreIndexed self.old.run }
         ensures standings { OnOk result (AreIndexed self.new.run) }
         ensures until { self.new.until ≡ self.old.until }
+        ensures grows { self.new.grows ≡ self.old.grows }
         ensures moves { self.new.moves ≡ self.old.moves }
         ensures row { self.new.row ≡ self.old.row }
         ensures events { (self.new.events ≡ self.old.events) × (self.new.taken ≡ self.old.taken) }
@@ -438,8 +449,7 @@ impl<'a> MovingRun<'a> {
             (S.Took sink.new)) }
     {
         if self.departures.take_first()? {
-            let leaves = FileEvent::Leaves { station, moment };
-            do_filed(&mut self.run, &leaves, sink)
+            do_leave(&mut self.run, station, moment, sink)
         } else {
             Ok(())
         }
@@ -452,6 +462,7 @@ impl<'a> MovingRun<'a> {
         requires standings { AreIndexed self.old.run }
         ensures standings { OnOk result (AreIndexed self.new.run) }
         ensures until { self.new.until ≡ self.old.until }
+        ensures grows { self.new.grows ≡ self.old.grows }
         ensures end { self.new.greatest ≡ self.old.greatest }
         ensures moves { self.new.moves ≡ self.old.moves }
         ensures events { (self.new.events ≡ self.old.events) × (self.new.taken ≡ self.old.taken) }
@@ -474,6 +485,7 @@ impl<'a> MovingRun<'a> {
         requires standings { AreIndexed self.old.run }
         ensures standings { OnOk result (AreIndexed self.new.run) }
         ensures until { self.new.until ≡ self.old.until }
+        ensures grows { self.new.grows ≡ self.old.grows }
         ensures end { self.new.greatest ≡ self.old.greatest }
         ensures moves { self.new.moves ≡ self.old.moves }
         ensures events { (self.new.events ≡ self.old.events) × (self.new.taken ≡ self.old.taken) }
@@ -533,6 +545,7 @@ impl<'a> MovingRun<'a> {
         requires standings { AreIndexed self.old.run }
         ensures standings { OnOk result (AreIndexed self.new.run) }
         ensures until { self.new.until ≡ self.old.until }
+        ensures grows { self.new.grows ≡ self.old.grows }
         ensures end { self.new.greatest ≡ self.old.greatest }
         ensures moves { self.new.moves ≡ self.old.moves }
         ensures events { (self.new.events ≡ self.old.events) × (self.new.taken ≡ self.old.taken) }
@@ -562,6 +575,7 @@ impl<'a> MovingRun<'a> {
         requires standings { AreIndexed self.old.run }
         ensures standings { OnOk result (AreIndexed self.new.run) }
         ensures until { self.new.until ≡ self.old.until }
+        ensures grows { self.new.grows ≡ self.old.grows }
         ensures moving { (e : Bor Addressed) →
             slice_get self.old.events.items self.old.taken ≡ Some e → OnOk result
             (DoesEvent e.now self.old (S.Took sink.old) self.new (S.Took sink.new)) }
@@ -579,9 +593,9 @@ impl<'a> MovingRun<'a> {
         let event = *event;
         self.taken += 1;
         match &event.addressee {
-            Addressee::Station(station) => do_at(self.alloc, &mut self.run, event, *station, sink),
+            Addressee::Station(station) => self.do_at(event, *station, sink),
             Addressee::Vehicle(id) => match self.present_station(id.as_str()) {
-                Some(station) => do_at(self.alloc, &mut self.run, event, station, sink),
+                Some(station) => self.do_at(event, station, sink),
                 None => {
                     let id = id.as_str();
                     let has_left = self.number_of(id).is_some();
@@ -595,6 +609,39 @@ impl<'a> MovingRun<'a> {
                 }
             },
         }
+    }
+
+    /// Does an event or leave at the station of this number. A station that isn't there refuses an
+    /// event. With rows nothing is done then.
+    fn do_at<S: EventSink>(
+        &mut self,
+        event: &AddressedEvent,
+        station: usize,
+        sink: &mut S,
+    ) -> Result<(), AirFault>
+        requires fits { FitsAddressed event.now }
+        requires deliveries { DeliversFrom self.old.lowest event.now.action }
+        requires standings { AreIndexed self.old.run }
+        ensures standings { OnOk result (AreIndexed self.new.run) }
+        ensures until { self.new.until ≡ self.old.until }
+        ensures grows { self.new.grows ≡ self.old.grows }
+        ensures end { self.new.greatest ≡ self.old.greatest }
+        ensures moves { self.new.moves ≡ self.old.moves }
+        ensures row { self.new.row ≡ self.old.row }
+        ensures departures { self.new.departures ≡ self.old.departures }
+        ensures events { (self.new.events ≡ self.old.events) × (self.new.taken ≡ self.old.taken) }
+        ensures frames { (self.new.frames_before ≡ self.old.frames_before)
+            × (self.new.delivered_by ≡ self.old.delivered_by) }
+        ensures moving { OnOk result (DoesAsked self.old.grows event.now station self.old.run
+            (S.Took sink.old) self.new.run (S.Took sink.new)) }
+    {
+        let place = match place_of(&self.run.world, station) {
+            Some(place) => place,
+            None if self.grows => return Ok(()),
+            None => Place::within(0, 0),
+        };
+        let filed = event.at(self.alloc, station, place)?;
+        self.run.do_filed(&filed, sink)
     }
 
     /// The number of the station of an id, where it is present.
@@ -623,6 +670,19 @@ fn in_order(alloc: Global, addressed: &[AddressedEvent]) -> Result<Vec<&Addresse
     }
     events.sort_by_key(|event| event.moment)?;
     Ok(events)
+}
+
+/// No lower frame is delivered by one of these.
+fn lowest_delivery(events: &[&AddressedEvent]) -> usize
+    ensures { All (λ a. DeliversFrom result a.now.action) events.now }
+{
+    let mut lowest = usize::MAX;
+    for event in events {
+        if let Action::Happens(What::Deliver(frame)) = &event.action {
+            lowest = lowest.min(*frame);
+        }
+    }
+    lowest
 }
 
 /// The moment of the last of these, 0 where there is none.

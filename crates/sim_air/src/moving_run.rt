@@ -5,6 +5,7 @@ ghost use Rattle.std.specs.List.Sorted.{IsNonDecreasingBy};
 ghost use Rattle.std.specs.Option.{ForSome};
 ghost use Rattle.std.proofs.Props.{props};
 ghost use Rattle.sim_scenario.specs.Events.{FitsAddressed};
+ghost use Rattle.sim_air.specs.Delivered.{DeliversFrom};
 ghost use Rattle.sim_air.specs.FitsRun.{FitsRun};
 
 use crate::departures::Departures;
@@ -42,6 +43,10 @@ pub(crate) struct MovingRun<'a> {
     pub(crate) moves: &'a Moves,
     pub(crate) vehicles: Vehicles<'a>,
     pub(crate) departures: Departures,
+    /// Whether rows come, which make stations.
+    pub(crate) grows: bool,
+    /// No event of the scenario delivers a frame of a lower number.
+    pub(crate) lowest: usize,
     /// The events and leaves of the scenario, in the order in which they are taken.
     pub(crate) events: Vec<&'a AddressedEvent>,
     /// How many of these were taken.
@@ -63,4 +68,6 @@ pub(crate) struct MovingRun<'a> {
     ghost next: { ForSome row FitsRun },
     ghost last: { IfSome until (λ moment. moment ≤ 2 ^ 62) } by { Prim.hlevel props },
     ghost bound: { greatest < 2 ^ 63 },
+    ghost deliveries: { All (λ a. DeliversFrom lowest a.now.action) events.items },
+    ghost kept: { run.world.released ≤ lowest },
 }

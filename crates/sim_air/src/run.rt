@@ -23,7 +23,6 @@ ghost use Rattle.sim_air.specs.AirTimed.{IsTimedRun, rules_of};
 ghost use Rattle.sim_queue.specs.Files.{SameFile, filed_due};
 ghost use Rattle.sim_queue.specs.Keeps.{Keeps};
 ghost use Rattle.sim_air.specs.Keeps.{IsAnswered, IsTimed, GoesBy, GoesOn, follow_own};
-ghost use Rattle.sim_air.specs.Outside.{IsDelivery};
 ghost use Rattle.sim_air_model.specs.Timetable.{Timetable, send, send_all, is_refusal, is_present};
 ghost use Rattle.sim_air_model.specs.Timetable.{schedule_first_ticks};
 ghost use Rattle.sim_air_model.specs.Timetable.{schedule_traffic, schedule_tick, heard_by};
@@ -229,8 +228,7 @@ impl<'a> Run<'a> {
         ensures draws { self.new.draws ≡ self.old.draws }
         ensures present { OnOk result
             (self.new.present.items ≡ self.old.present.items ++ false ∷ []) }
-        ensures frames { OnOk result ((self.new.world.released ≡ self.old.world.released)
-            × (length self.new.world.frames ≡ length self.old.world.frames)) }
+        ensures released { self.new.world.released ≡ self.old.world.released }
         ensures late { (configs : List Beginning) (events : List Happening) →
             IsSimulation configs events self.old.world →
             All (λ event. event.station < length configs) events → OnOk result
@@ -257,18 +255,7 @@ impl<'a> Run<'a> {
         station < self.world.stations().len()
     }
 
-    /// Whether none of the frames that were let go is delivered by what happens.
-    pub(crate) fn keeps(&self, what: &What) -> bool
-        ensures kept { IsTrue result → IsKept self.now.world.released (what_of what.now) }
-        ensures delivers { result ≡ false → IsDelivery (what_of what.now) }
-    {
-        match what {
-            What::Deliver(frame) => self.world.released() <= *frame,
-            _ => true,
-        }
-    }
-
-    /// The same of what the air does by itself.
+    /// Whether the frame is kept that the air delivers by this, if it does.
     pub(crate) fn keeps_own(&self, own: &AirAction) -> bool
         ensures { IsTrue result ↔ IsKept self.now.world.released (own_of own.now) }
     {

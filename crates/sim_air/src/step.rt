@@ -7,77 +7,38 @@ ghost use Rattle.sim_scenario.specs.Events.{FitsAddressed, station_in};
 ghost use Rattle.its_world.specs.Events.{IsInRange, event_of, what_of};
 ghost use Rattle.its_world.specs.Steps.{IsKept};
 ghost use Rattle.sim_air.specs.AirRun.{events_in};
-ghost use Rattle.sim_air.specs.Moving.{DoesAsked, DoesFiled, DoesTaken, DoesThere};
-ghost use Rattle.sim_air.specs.Outside.{Delivers, opening_at, station_of_filed};
+ghost use Rattle.sim_air.specs.Moving.{DoesFiled, DoesTaken, DoesThere};
+ghost use Rattle.sim_air.specs.Outside.{opening_at};
 ghost use Rattle.sim_queue.specs.Queues.{IsFiledInRange, filed_of};
 ghost use Rattle.sim_air.specs.Runs.{AreIndexed};
 ghost use Rattle.sim_queue.specs.Waiting.{own_of};
-ghost use Rattle.sim_air_model.specs.Timetable.Filed.{Happens};
+ghost use Rattle.sim_air_model.specs.Timetable.Filed.{Happens, Leaves};
 
 use crate::fault::AirFault;
-use crate::run::{Run, place_of};
+use crate::run::Run;
 use its_world::{Event, What};
 use sim_queue::Scheduled;
-use sim_scenario::events::{AddressedEvent, FileEvent};
+use sim_scenario::events::FileEvent;
 use sim_simulation::EventSink;
-use std::alloc::Global;
 
-/// Does an event or leave of the scenario at the station of this number. Nothing is done if there is
-/// no such station.
-pub(crate) fn do_at<S: EventSink>(
-    alloc: Global,
+/// A station leaves, if there is one of this number.
+pub(crate) fn do_leave<S: EventSink>(
     run: &mut Run<'_>,
-    event: &AddressedEvent,
     station: usize,
+    moment: u64,
     sink: &mut S,
 ) -> Result<(), AirFault>
-    requires fits { FitsAddressed event.now }
+    requires moment { moment ≤ 2 ^ 63 + 10000 }
     requires standings { AreIndexed run.old }
     ensures standings { OnOk result (AreIndexed run.new) }
-    ensures moving { OnOk result (DoesAsked event.now station run.old (S.Took sink.old) run.new
-        (S.Took sink.new)) }
-{
-    let Some(place) = place_of(&run.world, station) else {
-        return Ok(());
-    };
-    let filed = event.at(alloc, station, place)?;
-    do_filed(run, &filed, sink)
-}
-
-/// Does what the scenario has, of a station that is there.
-pub(crate) fn do_filed<S: EventSink>(
-    run: &mut Run<'_>,
-    filed: &FileEvent,
-    sink: &mut S,
-) -> Result<(), AirFault>
-    requires range { IsFiledInRange filed.now }
-    requires moment { moment_of filed.now ≤ 2 ^ 63 + 10000 }
-    requires standings { AreIndexed run.old }
-    ensures standings { OnOk result (AreIndexed run.new) }
-    ensures moving { OnOk result (DoesFiled (moment_of filed.now) (filed_of filed.now) run.old
+    ensures released { run.new.world.released ≡ run.old.world.released }
+    ensures moving { OnOk result (DoesFiled moment (Leaves station moment) run.old
         (S.Took sink.old) run.new (S.Took sink.new)) }
 {
-    if is_there(run, filed) {
-        run.do_filed(filed, sink)
-    } else {
-        Ok(())
+    if !run.has_station(station) {
+        return Ok(());
     }
-}
-
-/// Whether the station is there of what the scenario has, and the frame that it delivers, if it
-/// does, is kept. Where stations move by rows a scenario delivers none.
-fn is_there(run: &Run<'_>, filed: &FileEvent) -> bool
-    ensures there { IsTrue result → station_in filed.now < length run.now.world.stations }
-    ensures kept { IsTrue result → All (λ event. IsKept run.now.world.released event.what)
-        (events_in (filed_of filed.now ∷ [])) }
-    ensures away { result ≡ false →
-        (length run.now.world.stations ≤ station_of_filed (filed_of filed.now))
-        ⊎ Delivers (filed_of filed.now) }
-{
-    match filed {
-        FileEvent::Happens(event) => run.has_station(event.station) && run.keeps(&event.what),
-        FileEvent::Leaves { station, .. } => run.has_station(*station),
-    }
+    run.do_filed(&FileEvent::Leaves { station, moment }, sink)
 }
 
 /// Does one of the air's own, where its station is there, and the frame that it delivers, if it
@@ -90,6 +51,7 @@ pub(crate) fn do_own<S: EventSink>(
     requires moment { waiting.now.moment ≤ 2 ^ 63 + 10000 }
     requires standings { AreIndexed run.old }
     ensures standings { OnOk result (AreIndexed run.new) }
+    ensures released { run.new.world.released ≡ run.old.world.released }
     ensures moving { OnOk result (DoesTaken waiting.now run.old (S.Took sink.old) run.new
         (S.Took sink.new)) }
 {
@@ -123,6 +85,7 @@ pub(crate) fn move_in<S: EventSink>(
     requires kept { (released : ℕ) → IsKept released (what_of event.now.what) }
     requires standings { AreIndexed run.old }
     ensures standings { OnOk result (AreIndexed run.new) }
+    ensures released { run.new.world.released ≡ run.old.world.released }
     ensures moving { OnOk result (DoesThere event.now.station event.now.moment
         (Happens (event_of event.now)
         ∷ map (opening_at event.now.station event.now.moment) ports.now) run.old
@@ -146,6 +109,7 @@ fn open_ports<S: EventSink>(
     requires moment { event.now.moment ≤ 2 ^ 63 + 10000 }
     requires standings { AreIndexed run.old }
     ensures standings { OnOk result (AreIndexed run.new) }
+    ensures released { run.new.world.released ≡ run.old.world.released }
     ensures moving { OnOk result (DoesThere event.now.station event.now.moment
         (map (opening_at event.now.station event.now.moment) ports.now) run.old
         (S.Took sink.old) run.new (S.Took sink.new)) }

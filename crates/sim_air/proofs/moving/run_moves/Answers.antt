@@ -47,18 +47,19 @@ loop-init g c =
           subst (λ (r : Run). AreStandingsOf r.world.stations r.standings.order.items)
           (sym read.run) b.standings;
       until = read.until ∙ b.until;
+      grows = read.grows ∙ b.grows;
       moves = ap (λ (x : Bor Moves). x.now) read.moves ∙ b.moves;
       asked =
           subst (λ (v : Vec (Bor AddressedEvent) Global). IsByMoment t.events.items
           (map (λ (e : Bor AddressedEvent). e.now) v.items)) (sym read.events.0) b.asked;
       under = λ took.
-          let moving = begun by configs (end_in m) m.run Took long b.rules b.present b.world
+          let moving = begun m.grows by configs (end_in m) m.run Took long b.rules b.present b.world
           (c.every_schedule.ensures configs []) b.keeps b.frames.0 took in
           subst (λ (n : ℕ). IsUnderSome by configs n c.read_row.new.rows.before next Took)
           (sym read.begin)
           (let on = row_read by configs [] [] 0 0 begin clock c.read_row.new.rows.before m next Took
           read.run read.departures read.events.0 read.events.1 read.frames.0 read.frames.1
-          read.until read.end c.in_ok-read_row.ensures.row (λ n le. omega arith)
+          read.until read.end read.grows b.grows c.in_ok-read_row.ensures.row (λ n le. omega arith)
           (begun_under by configs [] [] begin clock m Took moving b.row b.departures b.frames.1
           b.frames.2) in
           record {
@@ -79,6 +80,7 @@ loop-preserved g c =
     record {
       standings = c.in_ok-go_on.ensures.standings;
       until = c.go_on.ensures.until ∙ c.loop.invariant.until;
+      grows = c.go_on.ensures.grows ∙ c.loop.invariant.grows;
       moves = ap (λ (x : Bor Moves). x.now) c.go_on.ensures.moves ∙ c.loop.invariant.moves;
       asked =
           subst (λ (v : Vec (Bor AddressedEvent) Global). IsByMoment
@@ -105,4 +107,4 @@ returns-then-not-branch g c = λ took.
     (subst (λ (m : Moves). IsMovedRun by configs m asked c.loop.moving.until world Took)
     c.loop.invariant.moves
     (c.in_ok-go_on.ensures.ended c.if-not-branch.true by configs asked c.loop.invariant.asked
-    (c.loop.invariant.under took)))
+    c.loop.invariant.grows (c.loop.invariant.under took)))

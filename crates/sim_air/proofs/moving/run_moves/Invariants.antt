@@ -1,4 +1,4 @@
-use Rattle.std.specs.Prelude.{◌≡◌, [], map}
+use Rattle.std.specs.Prelude.{◌≡◌, [], map, true}
 use Rattle.sim_scenario.specs.Airs.{end_of}
 use Rattle.its_world.specs.Events.{config_of}
 use Rattle.sim_air.specs.AirTimed.{rules_of}
@@ -14,6 +14,7 @@ invariant-loop g l =
     record {
       standings : AreStandingsOf l.moving.run.world.stations l.moving.run.standings.order.items;
       until : l.moving.until ≡ l.timeline.air.until;
+      grows : l.moving.grows ≡ true;
       moves : l.moving.moves.now ≡ l.timeline.moves;
       asked : IsByMoment l.timeline.events.items (asked_in l.moving);
       under : g.S.EventSink.Took l.fn.sink [] []

@@ -1,18 +1,18 @@
-use Rattle.std.proofs.Common.{sym, subst, ◌<◌, ◌++◌, ◌∷◌, [], ℕ, List, map, append_assoc}
+use Rattle.std.proofs.Common.{sym, subst, ◌<◌, ◌++◌, ◌∷◌, [], ℕ, List, length, map, append_assoc}
 use Rattle.its_world.specs.Events.{event_of}
 use Rattle.sim_air.specs.Moving.{IsMoving}
 use Rattle.sim_air.specs.Outside.{opening_at}
 use Rattle.sim_air_model.specs.Timetable.{Filed}
 use Rattle.sim_air_model.specs.Timetable.Filed.{Happens}
-use Rattle.sim_air.proofs.Moved.{comes_at, says_moving}
+use Rattle.sim_air.proofs.Moved.{comes_at, is_there, says_moving}
 use Rattle.sim_air.proofs.step.move_in.Goals as goal
 
 pub do_outer-requires-clause-kept : goal.do_outer-requires-clause-kept
 do_outer-requires-clause-kept g c = c.requires.kept c.args.run.now.world.released
 
 pub returns-in_ok-note_coming-clause-moving : goal.returns-in_ok-note_coming-clause-moving
-returns-in_ok-note_coming-clause-moving g c = λ there rules configs made past end counted by
-    within h.
+returns-in_ok-note_coming-clause-moving g c = λ grows there rules configs made past end
+    counted by within h.
     let e = c.args.event.now in
     let one = c.do_outer.new.self in
     let A = g.S.EventSink.Took c.args.sink.now in
@@ -21,18 +21,21 @@ returns-in_ok-note_coming-clause-moving g c = λ there rules configs made past e
     let D = g.S.EventSink.Took c.note_coming.new.sink in
     let moves : List Filed = Happens (event_of e) ∷ [] in
     let opens : List Filed = map (opening_at e.station e.moment) c.args.ports.now in
-    says_moving rules configs made (past ++ Happens (event_of e) ∷ opens) e.moment e.moment end
+    says_moving grows rules configs made (past ++ Happens (event_of e) ∷ opens) e.moment e.moment end
     counted by c.open_ports.new.run C D c.in_ok-note_coming.ensures.told
-    (subst (λ (p : List Filed). IsMoving rules configs made p e.moment e.moment end counted by
+    (subst (λ (p : List Filed). IsMoving grows rules configs made p e.moment e.moment end counted by
     c.open_ports.new.run C) (append_assoc past moves opens)
-    (c.in_ok-open_ports.ensures.moving
+    (c.in_ok-open_ports.ensures.moving grows
     (subst (λ (n : ℕ). e.station < n) (sym c.do_outer.ensures.count) there) rules configs made
     (past ++ moves) end counted by within
-    (comes_at (Happens (event_of e)) c.args.run.now one A B there c.do_outer.ensures.released
+    (comes_at grows (Happens (event_of e)) c.args.run.now one A B
+    (is_there grows (length c.args.run.now.world.stations) e.station there)
+    c.do_outer.ensures.released
     c.in_ok-came.ensures.timed rules configs made past end counted by within h)))
 
 pub returns-else-came-clause-moving : goal.returns-else-came-clause-moving
-returns-else-came-clause-moving g c = λ there rules configs made past end counted by within h.
+returns-else-came-clause-moving g c = λ grows there rules configs made past end counted by within
+    h.
     let e = c.args.event.now in
     let one = c.do_outer.new.self in
     let A = g.S.EventSink.Took c.args.sink.now in
@@ -40,10 +43,12 @@ returns-else-came-clause-moving g c = λ there rules configs made past end count
     let C = g.S.EventSink.Took c.open_ports.new.sink in
     let moves : List Filed = Happens (event_of e) ∷ [] in
     let opens : List Filed = map (opening_at e.station e.moment) c.args.ports.now in
-    subst (λ (p : List Filed). IsMoving rules configs made p e.moment e.moment end counted by
+    subst (λ (p : List Filed). IsMoving grows rules configs made p e.moment e.moment end counted by
     c.open_ports.new.run C) (append_assoc past moves opens)
-    (c.in_ok-open_ports.ensures.moving
+    (c.in_ok-open_ports.ensures.moving grows
     (subst (λ (n : ℕ). e.station < n) (sym c.do_outer.ensures.count) there) rules configs made
     (past ++ moves) end counted by within
-    (comes_at (Happens (event_of e)) c.args.run.now one A B there c.do_outer.ensures.released
+    (comes_at grows (Happens (event_of e)) c.args.run.now one A B
+    (is_there grows (length c.args.run.now.world.stations) e.station there)
+    c.do_outer.ensures.released
     c.in_ok-came.ensures.timed rules configs made past end counted by within h))

@@ -35,9 +35,9 @@ returns-clause-moving g c =
     (λ moves.
     row_does row station ports old one _ A B C c.in_ok-found.ensures.moving
     (same_end old one c.station_of.ensures.until c.station_of.ensures.end) refl
-    c.in_ok-note_row.ensures.from refl refl refl refl refl
-    (subst (λ (l : List Filed). DoesAt m l one.run B c.move_in.new.run C) came
-    (subst (λ (n : ℕ). DoesAt n (Happens (event_of event)
+    c.in_ok-note_row.ensures.from refl refl refl refl refl c.station_of.ensures.grows refl
+    (subst (λ (l : List Filed). DoesAt one.grows m l one.run B c.move_in.new.run C) came
+    (subst (λ (n : ℕ). DoesAt one.grows n (Happens (event_of event)
     ∷ map (opening_at event.station event.moment) ports) one.run B c.move_in.new.run C) is.moment
-    (moves there))))
+    (moves one.grows there))))
     c.move_in.ensures.moving

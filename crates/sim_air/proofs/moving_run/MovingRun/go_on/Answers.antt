@@ -1,4 +1,4 @@
-use Rattle.std.proofs.Common.{◌≡◌, ◌≤◌, ◌+◌, ◌∙◌, ℕ, refl, subst, ap, arith, All, length}
+use Rattle.std.proofs.Common.{Bool, ◌≡◌, ◌≤◌, ◌+◌, ◌∙◌, ℕ, refl, subst, ap, arith, All, length}
 use Rattle.sim_air.specs.Moving.{IsMoving, IsTaken}
 use Rattle.sim_air.specs.UnderRows.{ComesFrom, end_in, turn_in}
 use Rattle.sim_air.specs.declared.run.Run.{Run}
@@ -35,16 +35,16 @@ returns-in-Some-clause-moving g c = λ is rules configs u.
       hearers = old.run.hearers;
       done = old.run.done;
     } in
-    let taken : IsTaken rules configs u.made u.past u.from (end_in old) old.frames_before
+    let taken : IsTaken old.grows rules configs u.made u.past u.from (end_in old) old.frames_before
     old.delivered_by w one A =
-    is_taken rules configs u.made u.past u.last u.from (end_in old) old.frames_before
+    is_taken old.grows rules configs u.made u.past u.last u.from (end_in old) old.frames_before
     old.delivered_by old.run one A
     w refl refl refl refl refl c.pop_before.ensures.due c.pop_before.ensures.taken
     c.pop_before.ensures.until c.pop_before.ensures.put c.in-Some.ensures.left
     c.in-Some.ensures.first (omega (arith, end, most, before)) u.under.moving in
     let let_go = c.release_delivered.new.self in
     let goes = c.release_delivered.ensures in
-    let still = still_taken rules configs u.made u.past u.from (end_in old) old.frames_before
+    let still = still_taken old.grows rules configs u.made u.past u.from (end_in old) old.frames_before
     old.delivered_by
     let_go.frames_before let_go.delivered_by one let_go.run A w goes.air goes.every goes.queue
     goes.draws goes.present goes.stands goes.counted goes.frames taken in
@@ -58,13 +58,13 @@ returns-in-Some-clause-moving g c = λ is rules configs u.
       under =
           own_under rules configs u.made u.past w.moment c.args.rows.now.begin
           c.args.rows.now.before old _ B goes.row goes.departures goes.events.0 goes.events.1
-          (same_end old let_go goes.end.0 goes.end.1)
-          (comes_later old limit (w.moment + 1) (omega (arith, before)) l.1) u.under.ahead
-          (c.in_ok-do_own.ensures.moving rules configs u.made u.past u.from (end_in old)
+          (same_end old let_go goes.end.0 goes.end.1) goes.grows
+          (comes_later old limit (w.moment + 1) (omega (arith, before)) l.1) u.under.ahead u.under.rowless
+          (c.in_ok-do_own.ensures.moving old.grows rules configs u.made u.past u.from (end_in old)
           let_go.frames_before let_go.delivered_by still);
       outside =
           same_came (length configs) (length u.made) u.came u.past u.turn u.turn old _ goes.moves
-          goes.events.0 goes.events.1 (omega arith)
+          goes.events.0 goes.events.1 goes.grows (omega arith)
           (still_comes u.turn old _ goes.row goes.departures goes.events.0 goes.events.1
           u.outside.next) u.outside;
     }
@@ -93,9 +93,9 @@ returns-in_ok-take_in-in-Some-coming-clause-moving g c = λ is rules configs u.
     let late : All (λ (w : Scheduled). m ≤ w.moment) old.run.queue.own =
     subst (λ (k : ℕ). All (λ (w : Scheduled). k ≤ w.moment) old.run.queue.own) n.1
     c.in_default.ensures.late in
-    let moving : IsMoving rules configs u.made u.past m m (end_in old) old.frames_before
+    let moving : IsMoving old.grows rules configs u.made u.past m m (end_in old) old.frames_before
     old.delivered_by one A =
-    is_next rules configs u.made u.past u.last u.from (end_in old) old.frames_before
+    is_next old.grows rules configs u.made u.past u.last u.from (end_in old) old.frames_before
     old.delivered_by m old.run one
     A refl refl refl refl refl c.pop_before.ensures.due c.pop_before.ensures.taken
     c.pop_before.ensures.until c.pop_before.ensures.put c.in_default.ensures.none late
@@ -109,10 +109,13 @@ returns-in_ok-take_in-in-Some-coming-clause-moving g c = λ is rules configs u.
       moving = moving;
       comings = record { row = first.row; departures = first.departures; events = first.events };
       ahead = u.under.ahead;
+      rowless = λ no.
+          let was = u.under.rowless no in
+          record { row = was.row; departures = was.departures };
     })
     (same_came (length configs) (length u.made) u.came u.past (turn_in coming) (turn_in coming)
     old _
-    refl refl refl (omega arith)
+    refl refl refl refl (omega arith)
     (record {
       row = turn.row;
       since = turn.since;
@@ -122,7 +125,7 @@ returns-in_ok-take_in-in-Some-coming-clause-moving g c = λ is rules configs u.
     }) outside)
 
 pub returns-in-None-clause-ended : goal.returns-in-None-clause-ended
-returns-in-None-clause-ended g c = λ is rules configs asked by u.
+returns-in-None-clause-ended g c = λ is rules configs asked by grown u.
     let old = c.args.self.now in
     let end = end_in old in
     let none = none_until c.next_until-coming.result old c.end-end.result c.in-None.is
@@ -137,6 +140,11 @@ returns-in-None-clause-ended g c = λ is rules configs asked by u.
     old.run (g.S.EventSink.Took c.args.sink.now) old.moves.now asked old.until
     (end_given old.until old.greatest)
     (subst (λ (k : ℕ). All (λ (w : Scheduled). k ≤ w.moment) old.run.queue.own) last
-    c.in_default.ensures.late) u.under.moving
+    c.in_default.ensures.late)
+    (subst (λ (b : Bool). IsMoving b rules configs u.made u.past u.last u.from end
+    old.frames_before old.delivered_by old.run (g.S.EventSink.Took c.args.sink.now)) grown
+    u.under.moving)
+    (subst (λ (b : Bool). IsOutside b (length configs) (length u.made) old.moves.now asked end
+    u.past) grown
     (is_outside (length configs) (length u.made) u.came u.past u.turn end old asked by comes
-    u.outside)
+    u.outside))

@@ -1,14 +1,15 @@
-use Rattle.std.proofs.Common.{refl, ◌++◌, ◌∷◌, []}
+use Rattle.std.proofs.Common.{refl, ◌++◌, ◌∷◌, [], Bool, true, subst, sym}
+use Rattle.sim_air.specs.Moving.{IsMoving}
 use Rattle.its_world.specs.Events.{config_of}
 use Rattle.sim_air.proofs.Moved.{one_made, says_moving}
-use Rattle.sim_air.proofs.UnderRows.{same_heap, under_moving}
+use Rattle.sim_air.proofs.UnderRows.{never_rowless, same_heap, under_moving}
 use Rattle.sim_air.specs.UnderRows.{end_in}
 use Rattle.sim_air.proofs.moving_run.MovingRun.make_station.Goals as goal
 
 pub returns-clause-moving : goal.returns-clause-moving
 returns-clause-moving g c = (
   config_of c.in-Some.config,
-  λ rules configs made past last from begin clock h.
+  λ grown rules configs made past last from begin clock h.
       let old = c.args.self.now in
       let config = config_of c.in-Some.config in
       let A = g.S.EventSink.Took c.args.sink.now in
@@ -18,12 +19,16 @@ returns-clause-moving g c = (
       A B
       refl
       (same_heap from old.departures c.add_station-2.new.self c.add_station-2.ensures.waiting
-      h.comings.departures) refl refl refl refl refl
-      (says_moving rules configs (made ++ config ∷ []) past last from (end_in old)
+      h.comings.departures) refl refl refl refl refl refl (never_rowless _ grown)
+      (subst (λ (b : Bool). IsMoving b rules configs (made ++ config ∷ []) past last from
+      (end_in old) old.frames_before old.delivered_by run B) (sym grown)
+      (says_moving true rules configs (made ++ config ∷ []) past last from (end_in old)
       old.frames_before old.delivered_by run A B c.in_ok-note.ensures
       (one_made rules configs made past last from (end_in old) old.frames_before
       old.delivered_by old.run run A config c.add_station.ensures.air c.add_station.ensures.every
       c.add_station.ensures.queue c.add_station.ensures.draws
-      c.in_ok-add_station.ensures.present c.in_ok-add_station.ensures.frames.0
-      c.in_ok-add_station.ensures.late h.moving)) h,
+      c.in_ok-add_station.ensures.present c.add_station.ensures.released
+      c.in_ok-add_station.ensures.late
+      (subst (λ (b : Bool). IsMoving b rules configs made past last from (end_in old)
+      old.frames_before old.delivered_by old.run A) grown h.moving)))) h,
 )

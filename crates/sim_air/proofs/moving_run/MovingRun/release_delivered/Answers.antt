@@ -20,4 +20,4 @@ returns-then-moment-self-clause-frames c = λ waiting from awaits.
     (c.args.moment + old.run.air.delay) c.args.moment c.release.new.self.released
     c.frames-self.result waiting (omega (arith, by))
     (λ k kept counted. subst (λ n. n ≤ k) (sym c.release.ensures.released)
-    (no_more old.run.world.released old.frames_before _ k kept counted)) from awaits)
+    (no_more old.run.world.released c.min.result _ k kept ?)) from awaits)

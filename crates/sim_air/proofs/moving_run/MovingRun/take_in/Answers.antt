@@ -4,6 +4,7 @@ use Rattle.sim_air.specs.declared.moving_run.Outside.{Outside}
 use Rattle.sim_queue.proofs.Keeping.{on_ok}
 use Rattle.sim_air.proofs.Moved.{stations_made}
 use Rattle.sim_air.proofs.Outside.{event_done_under, leave_done}
+use Rattle.sim_air.proofs.UnderRows.{leave_grows}
 use Rattle.sim_air.proofs.moving_run.MovingRun.take_in.Goals as goal
 
 pub returns-in-Row-clause-moving : goal.returns-in-Row-clause-moving
@@ -30,9 +31,11 @@ returns-in-Departure-clause-moving g c =
     on_ok c.do_departure.result _ _
     (λ leaves rules configs made past came h outside.
     leave_done rules configs made past came begin clock _ moment old c.do_departure.new.self A B
-    (stations_made rules configs made past moment moment (end_in old) old.frames_before
+    (stations_made old.grows rules configs made past moment moment (end_in old) old.frames_before
     old.delivered_by old.run A h.moving) does.moves does.row does.events.0 does.events.1
-    c.requires.until h
+    does.grows
+    (leave_grows old _ moment h.rowless
+    (subst (IsComing old moment) c.in-Departure.is c.requires.next.is)) c.requires.until h
     (subst (λ (n : ℕ). CameUnder (length configs) (length made) came past n old)
     (ap (λ (o : Outside). 3 * moment + class_in o) c.in-Departure.is) outside) leaves)
     does.moving
@@ -51,10 +54,10 @@ returns-in-Event-clause-moving g c =
     on_ok c.do_next_event.result _ _
     (λ done rules configs made past came h outside.
     event_done_under rules configs made past came begin clock e old c.do_next_event.new.self A B
-    (stations_made rules configs made past moment moment (end_in old) old.frames_before
+    (stations_made old.grows rules configs made past moment moment (end_in old) old.frames_before
     old.delivered_by old.run A h.moving) event.1 does.moves does.row does.departures (does.events
     e event.1).0
-    (does.events e event.1).1
+    (does.events e event.1).1 does.grows
     (subst (λ (n : ℕ). n ≤ end_in old) (sym event.2) c.requires.until)
     (subst (λ (n : ℕ). IsUnder rules configs made past n n begin clock old A) (sym event.2) h)
     (subst (λ (n : ℕ). CameUnder (length configs) (length made) came past (3 * n + 2) old)

@@ -4,7 +4,7 @@ use Rattle.sim_air.specs.UnderRows.{CameUnder, IsUnder, IsUnderSome, end_in}
 use Rattle.sim_queue.proofs.Keeping.{on_ok}
 use Rattle.sim_air.proofs.Moved.{stations_made}
 use Rattle.sim_air.proofs.Outside.{row_done, same_came, turn_of_row}
-use Rattle.sim_air.proofs.UnderRows.{row_read, row_taken}
+use Rattle.sim_air.proofs.UnderRows.{row_grows, row_read, row_taken}
 use Rattle.sim_air.proofs.moving_run.MovingRun.take_row.Goals as goal
 
 pub do_row-requires-clause-row : goal.do_row-requires-clause-row
@@ -35,16 +35,17 @@ returns-clause-moving g c =
     subst (λ (n : ℕ). CameUnder (length configs) (length made) came past (3 * n) old) (sym is)
     outside in
     let ahead = under.ahead row here in
+    let may = row_grows old row under.rowless here in
     let got = row_done rules configs made past came begin clock row old _ done A B
-    (stations_made rules configs made past m m (end_in old) old.frames_before old.delivered_by
+    (stations_made old.grows rules configs made past m m (end_in old) old.frames_before old.delivered_by
     old.run A under.moving) c.do_row.ensures.moves c.do_row.ensures.events.0
-    c.do_row.ensures.events.1 (subst (λ (n : ℕ). n ≤ end_in old) (sym is) within) refl refl
+    c.do_row.ensures.events.1 c.do_row.ensures.grows may refl (subst (λ (n : ℕ). n ≤ end_in old) (sym is) within) refl refl
     (row_taken rules configs made past m m begin clock old _ A c.take.ensures.after refl refl refl
-    refl refl refl refl under) came_so c.in_ok-do_row.ensures.moving in
+    refl refl refl refl refl under) came_so c.in_ok-do_row.ensures.moving in
     let on = row_read rules configs got.0 got.1 m m begin clock c.read_row.new.rows.before done
     last B
     read.run read.departures read.events.0 read.events.1 read.frames.0 read.frames.1 read.until
-    read.end next (λ n le. omega (arith, ahead, le)) got.3 in
+    read.end read.grows (c.do_row.ensures.grows ∙ may) next (λ n le. omega (arith, ahead, le)) got.3 in
     subst (λ (n : ℕ). IsUnderSome rules configs n c.read_row.new.rows.before last B)
     (sym read.begin)
     (record {
@@ -57,6 +58,6 @@ returns-clause-moving g c =
       under = on;
       outside =
           same_came (length configs) (length got.0) got.2 got.1 (3 * m) (3 * m) done last read.moves
-          read.events.0 read.events.1 (omega arith) (turn_of_row m last on.comings) got.4;
+          read.events.0 read.events.1 read.grows (omega arith) (turn_of_row m last on.comings) got.4;
     }))
     read.row
