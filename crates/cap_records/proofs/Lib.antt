@@ -1,4 +1,3 @@
 pub mod Chosen
 pub mod Faults
-pub mod Padded
 pub mod Inner

@@ -9,9 +9,9 @@ ghost use Rattle.cap_records.specs.RecordFrames.{IsReadAs, IsNoFrame};
 use crate::choosing::Traits;
 use crate::refusal::RecordFault;
 use crate::signed::SecuredFacts;
-use cap_pcap::{LinkLayer, RecordHeader, frame_start, without_padding};
+use cap_pcap::{LinkLayer, RecordHeader, frame_start};
 use its_btp::split;
-use its_linkframe::{FrameFault, FrameView, read_frame};
+use its_linkframe::{FrameView, Unpadded, read_frame, read_unpadded};
 
 /// The frame of a record.
 #[derive(Debug, Drop)]
@@ -60,12 +60,10 @@ fn read_filled_up(octets: &[u8]) -> Result<FrameView<'_>, RecordFault>
     ensures fault { IfErr result (λ f. (text : List ℕ) × IsUnpadded octets.now text
         × IsNoFrame text f) }
 {
-    match read_frame(octets) {
+    let Unpadded { octets, frame } = read_unpadded(octets);
+    match frame {
         Ok(frame) => Ok(frame),
-        Err(fault) => match fault {
-            FrameFault::Trailing => read(without_padding(octets)),
-            _ => Err(RecordFault::of(fault, octets)),
-        },
+        Err(fault) => Err(RecordFault::of(fault, octets)),
     }
 }
 

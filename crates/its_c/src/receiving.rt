@@ -32,8 +32,8 @@ use crate::told::told_outcome;
 use its_governor::Governor;
 use its_headers::InnerPacketView;
 use its_linkframe::{
-    FrameView, LONGEST_FRAME, LONGEST_SECURED_FRAME, VerifiedFrame, frame_length, read_frame,
-    without_padding,
+    FrameFault, FrameView, LONGEST_FRAME, LONGEST_SECURED_FRAME, Unpadded, VerifiedFrame, frame_length,
+    read_unpadded,
 };
 use its_loctable::SortedTable;
 use its_station::{Outcome, Refused, Station};
@@ -91,15 +91,15 @@ pub extern "C" fn geostation_receive(
     if relay.len() < LONGEST_FRAME {
         return NO_ROOM;
     }
-    let frame = without_padding(frame);
+    let Unpadded { octets, frame } = read_unpadded(frame);
     let mut station = s.held.take(alloc);
     let mut governor = s.governor.take(alloc);
-    let said = hear(&mut station, &mut governor, now, frame, reception);
+    let said = hear(&mut station, &mut governor, now, octets, frame, reception);
     s.governor.put(governor);
     s.held.put(station);
     count_received(&mut s.counts, &said);
     let heard = *reception;
-    told_outcome(said, heard, frame, reception, relay)
+    told_outcome(said, heard, octets, reception, relay)
 }
 
 /// Processes a secured frame with the plain part that a security entity verified of its message,
@@ -201,36 +201,39 @@ fn reception_of_packet(packet: &InnerPacketView<'_>) -> Reception
     }
 }
 
-/// Passes the station octets that came, by its governor, and writes what is told of each frame.
+/// Passes the station octets that came, and the frame that was read in them, by its governor, and
+/// writes what a reception says of each frame.
 fn hear<'a>(
     station: &mut Station<SortedTable>,
     governor: &mut Governor,
     now: u64,
-    frame: &'a [u8],
+    octets: &'a [u8],
+    frame: Result<FrameView<'a>, FrameFault>,
     heard: &mut Reception,
 ) -> Result<Outcome<'a>, Refused>
-    requires { heard.old ≡ nothing_received }
+    requires nothing { heard.old ≡ nothing_received }
+    requires frame { IfOk frame (λ v. EncodesFrame (transmission_of v) octets.now) }
     ensures heard { IsHeard heard.new }
-    ensures step { (call : Call) × IsFrameCall frame.now call × (heard.new ≡ reception_in call)
+    ensures step { (call : Call) × IsFrameCall octets.now call × (heard.new ≡ reception_in call)
         × ((m : StationModel) → RepresentsStation station.old m →
         IsStepOf Tells result station.new
         (governed_step governor.old now call (station_step m now call))
         × OnOk result (governor.new
         ≡ after_call governor.old now false (frame_in call) (station_step m now call).answer)) }
-    ensures memory { result ≡ Err Refused.NoMemory → (t : Transmission) × EncodesFrame t frame.now
+    ensures memory { result ≡ Err Refused.NoMemory → (t : Transmission) × EncodesFrame t octets.now
         × ((m : StationModel) → RepresentsStation station.old m →
         (verdict m now t ≡ stations.Verdict.Accept) × TakesMemory m now t) }
     ensures unchanged { OnErr result ((governor.new ≡ governor.old)
         × (station.new ≡ station.old)) }
-    ensures payload { IfOk result (DeliversEndOf frame.now) }
+    ensures payload { IfOk result (DeliversEndOf octets.now) }
     ensures short_frame { IfOk result (SendsAtMost 1468) }
 {
-    match read_frame(frame) {
+    match frame {
         Ok(view) => {
             *heard = reception_of(&view);
             governor.receive_frame(station, now, &view)
         }
-        Err(_) => governor.receive(station, now, frame),
+        Err(_) => governor.receive(station, now, octets),
     }
 }
 

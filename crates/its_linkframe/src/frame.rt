@@ -1,6 +1,6 @@
 //! Frames read in place.
 
-ghost use Rattle.std.specs.Prelude.{◌≡◌, ◌≤◌, ◌+◌, length, take, drop, IfOk, IfErr, IsOkAnd};
+ghost use Rattle.std.specs.Prelude.{◌≡◌, ◌≤◌, ◌<◌, ◌+◌, ℕ, length, take, drop, IfOk, IfErr, IsOkAnd};
 ghost use Rattle.byteorder.specs.Endian.{big_bytes, big_number};
 ghost use Rattle.its_model.specs.Packet.{Transmission};
 ghost use Rattle.its_linkframe.specs.Frames.{EncodesFrame, IsFrame, transmission_of};
@@ -39,6 +39,27 @@ pub fn read_frame(octets: &[u8]) -> Result<FrameView<'_>, FrameFault>
         → IsOkAnd result (λ v. transmission_of v ≡ t) }
     ensures fault { IfErr result (IsFrameFault octets.now) }
 {
+    let (frame, length) = read_beginning(octets)?;
+    if length < octets.len() {
+        return Err(FrameFault::Trailing);
+    }
+    Ok(frame)
+}
+
+/// The frame that the octets begin with, and its length, or the first fault of the octets: those of
+/// `read_frame` but for octets after the packet.
+#[inline(always)]
+pub(crate) fn read_beginning(octets: &[u8]) -> Result<(FrameView<'_>, usize), FrameFault>
+    ensures within { IfOk result (λ read. read.1 ≤ length octets.now) }
+    ensures found { IfOk result (λ read.
+        EncodesFrame (transmission_of read.0) (take read.1 octets.now)) }
+    ensures only { (n : ℕ) (t : Transmission) → length octets.now ≤ 1468 → n ≤ length octets.now
+        → EncodesFrame t (take n octets.now)
+        → IsOkAnd result (λ read. (read.1 ≡ n) × (transmission_of read.0 ≡ t)) }
+    ensures fault { IfErr result (IsFrameFault octets.now) }
+    ensures trailing { IfOk result (λ read. read.1 < length octets.now
+        → IsFrameFault octets.now FrameFault.Trailing) }
+{
     if octets.len() < PACKET {
         return Err(FrameFault::Short);
     }
@@ -49,14 +70,12 @@ pub fn read_frame(octets: &[u8]) -> Result<FrameView<'_>, FrameFault>
         return Err(FrameFault::TooLong);
     }
     let (packet, length) = PacketView::read(&octets[PACKET..])?;
-    if PACKET + length < octets.len() {
-        return Err(FrameFault::Trailing);
-    }
-    Ok(FrameView {
+    let frame = FrameView {
         to: mac_at(octets, TARGET),
         from: mac_at(octets, SOURCE),
         packet,
-    })
+    };
+    Ok((frame, PACKET + length))
 }
 
 impl<'a> FrameView<'a> {

@@ -1,14 +1,67 @@
 //! Frames that Ethernet filled up.
 
 ghost use Rattle.std.specs.Prelude.{◌≡◌, ◌≢◌, ◌≤◌, ◌↔◌, ℕ, length, All, IsTrue};
+ghost use Rattle.std.specs.Prelude.{IfOk, IfErr, IsOkAnd};
+ghost use Rattle.its_model.specs.Packet.{Transmission};
+ghost use Rattle.its_linkframe.specs.Frames.{EncodesFrame, transmission_of};
+ghost use Rattle.its_linkframe.specs.FrameFaults.{IsFrameFault};
 ghost use Rattle.its_linkframe.specs.Padding.{IsFrameEnd, IsUnpadded};
 
 use crate::fields::{ETHER_TYPE, PACKET};
-use crate::frame::{TYPE_HIGH, TYPE_LOW};
+use crate::frame::{FrameView, TYPE_HIGH, TYPE_LOW, read_beginning};
+use its_faults::FrameFault;
 use its_headers::PacketView;
 
 /// The most octets of a frame that Ethernet fills up.
 const SHORTEST: usize = 60;
+
+/// Octets that came over Ethernet, which fills a short frame up with octets of 0, and the frame that
+/// they are without these.
+#[derive(Debug, Drop)]
+pub struct Unpadded<'a> {
+    /// The octets, without the zeros that fill a frame of at most 60 octets up. All of them, if they
+    /// are no such frame.
+    pub octets: &'a [u8],
+    /// The frame that these octets are, or their first fault.
+    pub frame: Result<FrameView<'a>, FrameFault>,
+}
+
+/// Reads octets that came over Ethernet: as `read_frame` reads what `without_padding` leaves of them,
+/// in one reading.
+pub fn read_unpadded(octets: &[u8]) -> Unpadded<'_>
+    ensures octets { IsUnpadded octets.now result.octets.now }
+    ensures found { IfOk result.frame (λ v.
+        EncodesFrame (transmission_of v) result.octets.now) }
+    ensures only { (t : Transmission) → EncodesFrame t result.octets.now
+        → IsOkAnd result.frame (λ v. transmission_of v ≡ t) }
+    ensures fault { IfErr result.frame (IsFrameFault result.octets.now) }
+{
+    let (frame, length) = match read_beginning(octets) {
+        Ok(read) => read,
+        Err(fault) => {
+            return Unpadded {
+                octets,
+                frame: Err(fault),
+            };
+        }
+    };
+    if length == octets.len() {
+        return Unpadded {
+            octets,
+            frame: Ok(frame),
+        };
+    }
+    if octets.len() <= SHORTEST && are_zero(&octets[length..]) {
+        return Unpadded {
+            octets: &octets[..length],
+            frame: Ok(frame),
+        };
+    }
+    Unpadded {
+        octets,
+        frame: Err(FrameFault::Trailing),
+    }
+}
 
 /// The frame in octets that came over Ethernet, which fills a short frame up with octets of 0. So
 /// of at most 60 octets that begin with a frame, and are 0 behind it, these are left out; any

@@ -33,10 +33,10 @@ returns-clause-step c = λ long.
     let found = c.hear-said.ensures.step in
     let call = found.0 in
     let said = c.hear-said.result in
-    let w = c.without_padding-frame.result.now in
+    let w = c.read_unpadded-frame.result.octets.now in
     let h = c.deref_mut-2.result.now in (
       w,
-      c.without_padding-frame.ensures,
+      c.read_unpadded-frame.ensures.octets,
       call,
       found.1,
       λ m g model has. let rep = held_model c.args.s.now.held.station c.deref_mut.result.now m
@@ -71,10 +71,10 @@ returns-clause-unlimited c = λ long.
     let found = c.hear-said.ensures.step in
     let call = found.0 in
     let said = c.hear-said.result in
-    let w = c.without_padding-frame.result.now in
+    let w = c.read_unpadded-frame.result.octets.now in
     let h = c.deref_mut-2.result.now in (
       w,
-      c.without_padding-frame.ensures,
+      c.read_unpadded-frame.ensures.octets,
       call,
       found.1,
       λ m g model has free. let rep = held_model c.args.s.now.held.station c.deref_mut.result.now m
