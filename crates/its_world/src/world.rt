@@ -31,10 +31,11 @@ use crate::stations::{begin_station, stations_of};
 use its_gnvalue::{GnAddress, NoMemory};
 use its_linkframe::laws::{one_frame, one_frame_fault};
 use its_linkframe::read_frame;
-use its_loctable::{SIDE_BY_SIDE, SortedTable, narrow};
+use its_loctable::{HALVINGS, SIDE_BY_SIDE, SortedTable, narrow};
 use its_model::laws::addresses_are_own;
 use its_station::{Reply, Station};
 use std::alloc::Global;
+use std::array;
 use std::marker::Model;
 
 /// Stations, and all frames that they gave, numbered from 0 in the order in which they were given.
@@ -224,10 +225,10 @@ impl World {
         // Laws, for the proof alone.
         one_frame();
         one_frame_fault();
-        let is_checked = delivers(&event.what, self.checked);
+        let known = what_is_known(&event.what, self.checked);
         let station = &mut self.stations[event.station];
         let room = &mut self.room;
-        let reply = ask(station, room, event.moment, &event.what, frame, is_checked)?;
+        let reply = ask(station, room, event.moment, &event.what, frame, known)?;
         let done = event.what.done_entry();
         let outcome = CallOutcome::of_reply(done, reply, self.air.count());
         self.air.number(outcome.frame);
@@ -279,8 +280,7 @@ impl World {
         let columns = self.columns_of(stations);
         let longest = columns.iter().map(|column| column.len()).max().unwrap_or(0);
         let mut found = [0; SIDE_BY_SIDE];
-        for halving in 0..12u32 {
-            let half = 2048usize >> halving;
+        for half in HALVINGS {
             if half < longest {
                 for (last, column) in found.iter_mut().zip(&columns) {
                     *last = narrow(column, *last, half, address);
@@ -292,24 +292,7 @@ impl World {
 
     /// The columns of the location tables of the first `SIDE_BY_SIDE` of these stations.
     fn columns_of(&self, stations: &[usize]) -> [&[GnAddress]; SIDE_BY_SIDE] {
-        [
-            self.column_of(stations.get(0)),
-            self.column_of(stations.get(1)),
-            self.column_of(stations.get(2)),
-            self.column_of(stations.get(3)),
-            self.column_of(stations.get(4)),
-            self.column_of(stations.get(5)),
-            self.column_of(stations.get(6)),
-            self.column_of(stations.get(7)),
-            self.column_of(stations.get(8)),
-            self.column_of(stations.get(9)),
-            self.column_of(stations.get(10)),
-            self.column_of(stations.get(11)),
-            self.column_of(stations.get(12)),
-            self.column_of(stations.get(13)),
-            self.column_of(stations.get(14)),
-            self.column_of(stations.get(15)),
-        ]
+        array::from_fn(|index| self.column_of(stations.get(index)))
     }
 
     /// The column of the location table of a station, nothing if there is no station.
@@ -369,29 +352,39 @@ fn delivered<'a>(air: &'a Air, what: &What) -> Option<&'a [u8]>
     }
 }
 
-/// Whether an event delivers the frame of this number, if there is one.
-fn delivers(what: &What, frame: Option<usize>) -> bool
-    ensures { IsTrue result → (number : ℕ) × (what_of what.now ≡ Deliver number)
-        × (frame ≡ Some number) }
+/// What is known of the octets that a station receives.
+#[derive(Clone, Copy, Debug)]
+enum Known {
+    /// They have no fault: they were read before.
+    Faultless,
+    /// Nothing: they are read when they are received.
+    Nothing,
+}
+
+/// What is known of the octets that an event delivers. The frame of number `checked`, if there is one,
+/// has no fault.
+fn what_is_known(what: &What, checked: Option<usize>) -> Known
+    ensures { result ≡ Known.Faultless → (number : ℕ) × (what_of what.now ≡ Deliver number)
+        × (checked ≡ Some number) }
 {
     match what {
-        What::Deliver(number) => frame == Some(*number),
-        _ => false,
+        What::Deliver(number) if checked == Some(*number) => Known::Faultless,
+        _ => Known::Nothing,
     }
 }
 
 /// What a station replies to a call or, where it is a delivery, to this frame. A payload that is
-/// delivered takes the room. The octets are not checked again if they are known to have no fault.
+/// delivered takes the room. Octets that are known to have no fault are not checked again.
 fn ask(
     station: &mut Station<SortedTable>,
     room: &mut Vec<u8>,
     moment: u64,
     what: &What,
     frame: &[u8],
-    is_checked: bool,
+    known: Known,
 ) -> Result<Reply, NoMemory>
     requires range { IsInRange what.now }
-    requires checked { IsTrue is_checked → IsFrame frame.now }
+    requires known { known ≡ Known.Faultless → IsFrame frame.now }
     ensures step { IfOk result (λ reply. (call : Call) × IsAskedBy (what_of what.now) frame.now call
         × ((s : StationModel) → RepresentsStation station.old s →
         IsReplyTo reply station.new (station_step s moment call)
@@ -416,7 +409,9 @@ fn ask(
             Reply::of_send(station.send_geobroadcast(moment, &r.lend()))
         }
         What::SendGeoanycast(r) => Reply::of_send(station.send_geoanycast(moment, &r.lend())),
-        What::Deliver(_) if is_checked => station.receive_checked_in(moment, frame, room),
-        What::Deliver(_) => station.receive_in(moment, frame, room),
+        What::Deliver(_) => match known {
+            Known::Faultless => station.receive_checked_in(moment, frame, room),
+            Known::Nothing => station.receive_in(moment, frame, room),
+        },
     }
 }

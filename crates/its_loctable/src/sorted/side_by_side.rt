@@ -9,10 +9,14 @@ use std::hint::select_unpredictable;
 /// How many columns are searched side by side.
 pub const SIDE_BY_SIDE: usize = 16;
 
+/// By how many addresses the steps of a search go on, in order: they find the last address that is not
+/// above the wanted one, among as many as a location table can have.
+pub const HALVINGS: [usize; 12] = [2048, 1024, 512, 256, 128, 64, 32, 16, 8, 4, 2, 1];
+
 /// One step of a search in a column of ascending addresses, as `LocationStore::column` returns it:
 /// the index that is higher by `half`, if the address there is not above the wanted one, and
-/// otherwise `last`. Steps from 0 by 2048, 1024, 512 and so on down to 1 find the last address that
-/// is not above the wanted one, among 4096. Which addresses there are makes no branch.
+/// otherwise `last`. A search begins at 0, and takes a step by each of `HALVINGS`. Which addresses
+/// there are makes no branch.
 #[inline(always)]
 pub fn narrow(column: &[GnAddress], last: usize, half: usize, address: GnAddress) -> usize
     ensures none { slice_get column.now (last + half) ≡ None → result ≡ last }
