@@ -5,5 +5,6 @@ pub mod Read
 pub mod Served
 pub mod Own
 pub mod Secured
+pub mod Heard
 pub mod Verified
 pub mod LineAnswers

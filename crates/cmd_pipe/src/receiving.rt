@@ -1,28 +1,23 @@
 //! Frames that came: plain ones, and secured ones with the plain part that a security entity
 //! verified.
 
-ghost use Rattle.std.specs.Prelude.{◌≡◌, ◌≢◌, ◌≤◌, ◌∷◌, [], IfOk, OnErr, Err, length, vec_len};
-ghost use Rattle.std.specs.Prelude.{vec_capacity};
-ghost use Rattle.std.specs.Option.{option_map};
+ghost use Rattle.std.specs.Prelude.{◌≡◌, ◌∷◌, [], IfOk, OnErr};
 ghost use Rattle.its_model.specs.Calls.{Call as ModelCall};
-ghost use Rattle.its_model.specs.Station.{StationModel, Step, station_step};
-ghost use Rattle.its_station.specs.Counting.{counted};
+ghost use Rattle.its_model.specs.Station.{StationModel, station_step};
 ghost use Rattle.its_station.specs.Receiving.{IsFrameCall, Tells};
 ghost use Rattle.its_station.specs.Receiving.{DeliversEndOf, IsVerifiedCall, TellsBy, VerifiedCall};
-ghost use Rattle.its_station.specs.Receiving.{said_by, sealed_by, verified_step};
-ghost use Rattle.its_station.specs.Runs.{Fits, HandingFits, IsReplyTo, delivered};
-ghost use Rattle.its_station.specs.State.{RepresentsStation, StationState};
+ghost use Rattle.its_station.specs.Receiving.{sealed_by, verified_step};
+ghost use Rattle.its_station.specs.State.{RepresentsStation};
 ghost use Rattle.its_station.specs.Steps.{IsStepOf};
 ghost use Rattle.cmd_pipe.specs.Knowing.{Counted};
-ghost use Rattle.cmd_pipe.specs.Serving.{RepresentsCounted, TellsCall, TellsHeard, TellsVerified};
-ghost use Rattle.cmd_pipe.specs.Serving.{counts_heard};
+ghost use Rattle.cmd_pipe.specs.Serving.{RepresentsCounted, TellsCall, TellsVerified};
 
 use crate::request::{Id, VerifiedOctets};
 use crate::response::{Done, Response};
 use its_gnvalue::{GnAddress, NoMemory};
 use its_linkframe::{VerifiedFrame, read_frame};
 use its_loctable::SortedTable;
-use its_station::{Call, Counts, Delivery, Handed, Outcome, Refused, Reply, Station};
+use its_station::{Call, Counts, Outcome, Refused, Reply, Station};
 use std::alloc::Global;
 
 /// Receives a frame at a moment, counts it, and returns the result. `NoMemory` if an allocation
@@ -48,7 +43,7 @@ pub(crate) fn receive(
         Err(_) => (Err(Refused::NoMemory), None),
     };
     counts.note_received(&answer);
-    let reply = owned_reply(answer, room)?;
+    let reply = Reply::of_received(alloc, answer, &mut room)?;
     Ok(Response::Reply {
         id,
         at,
@@ -104,7 +99,7 @@ pub(crate) fn receive_verified(
         Err(_) => (Err(Refused::NoMemory), None),
     };
     counts.note_received(&answer);
-    let reply = owned_reply(answer, room)?;
+    let reply = Reply::of_received(alloc, answer, &mut room)?;
     Ok(Response::Reply {
         id,
         at,
@@ -134,63 +129,5 @@ fn read_verified<'a>(
             (station.receive_verified_frame(at, &verified), Some(source))
         }
         Err(fault) => (Err(station.refuse_secured(at, fault)), None),
-    }
-}
-
-/// The outcome of a frame, as a reply that owns its octets: a payload takes the room that was made
-/// for it. `NoMemory` where an allocation failed.
-fn owned_reply(answer: Result<Outcome<'_>, Refused>, room: Vec<u8>) -> Result<Reply, NoMemory>
-    requires empty { room.items ≡ [] }
-    requires size { vec_len room ≡ 0 }
-    requires room { IfOk answer (Fits (vec_capacity room)) }
-    ensures reply { (call : VerifiedCall) (new : StationState) (step : Step) →
-        IsStepOf (TellsBy (sealed_by call)) answer.entry new step → IfOk result (λ reply.
-        TellsHeard (sealed_by call) reply step.answer × RepresentsStation new step.station) }
-    ensures plain { (new : StationState) (step : Step) → IsStepOf Tells answer.entry new step →
-        IfOk result (λ reply. IsReplyTo reply new step) }
-    ensures counts { (c : Counts) → IfOk result (λ reply.
-        counted answer.entry c ≡ counts_heard reply c) }
-    ensures memory { OnErr result (answer.entry ≡ Err Refused.NoMemory) }
-    ensures done { IfOk result (λ _. answer.entry ≢ Err Refused.NoMemory) }
-{
-    match answer {
-        Ok(Outcome::Ignored(why)) => Ok(Reply::Ignored(why)),
-        Ok(Outcome::Accepted { handed, sent }) => Ok(Reply::Accepted {
-            handed: deliver(handed, room),
-            sent,
-        }),
-        Err(Refused::NoMemory) => Err(NoMemory),
-        Err(refused) => Ok(Reply::Refused(refused)),
-    }
-}
-
-/// What was delivered, with a payload of its own in the room that was made for it.
-fn deliver(handed: Option<Handed<'_>>, room: Vec<u8>) -> Option<Delivery>
-    requires empty { room.items ≡ [] }
-    requires size { vec_len room ≡ 0 }
-    requires room { HandingFits (vec_capacity room) handed }
-    ensures { option_map delivered result ≡ option_map said_by handed.entry }
-{
-    match handed {
-        Some(handed) => Some(own(handed, room)),
-        None => None,
-    }
-}
-
-/// A message that was delivered, with its payload copied into the room.
-fn own(handed: Handed<'_>, room: Vec<u8>) -> Delivery
-    requires empty { room.items ≡ [] }
-    requires size { vec_len room ≡ 0 }
-    requires room { length handed.payload.now ≤ vec_capacity room }
-    ensures { delivered result ≡ said_by handed.entry }
-{
-    let mut payload = room;
-    let Ok(()) = payload.extend_from_slice(handed.payload) else {
-        unreachable!()
-    };
-    Delivery {
-        port: handed.port,
-        info: handed.info,
-        payload,
     }
 }

@@ -3,6 +3,7 @@ pub mod Deliveries
 pub mod Hearing
 pub mod PortSets
 pub mod AreaCalls
+pub mod Replies
 pub mod Runs
 pub mod Beacons
 pub mod Sizes

@@ -1,6 +1,5 @@
 -- One more call after others.
 use Rattle.std.proofs.Common.{◌≡◌, ℕ, List, [], ◌∷◌, ◌++◌, refl, sym, subst, Ok, Err}
-use Rattle.std.proofs.lemmas.Bool.{false≢true}
 use Rattle.its_model.specs.Packet.{Transmission}
 use Rattle.its_model.specs.Calls.{Answer, Call as ModelCall}
 use Rattle.its_model.specs.Station.{StationModel, Step, station_step}
@@ -17,6 +16,7 @@ use Rattle.its_station.specs.declared.run.Reply.TheVariants as replies
 use Rattle.its_station.specs.declared.refused.Refused.{Refused}
 use Rattle.its_station.specs.declared.refused.Refused.TheVariants as refused
 use Rattle.its_station.specs.Steps.{refusal_of}
+use Rattle.its_station.proofs.Replies.{refused_step}
 use Rattle.its_station.specs.Runs.{IsCall, AreCalls, AreReplies, IsReplyTo, IsRunOf, TellsReply}
 
 calls_last : (xs : List (ℕ × Call)) (cs : List TimedCall) (x : ℕ × Call) (c : TimedCall)
@@ -70,15 +70,8 @@ pub refused_reply : (r : Result Reply NoMemory) (e : Refused) (new : StationStat
     → IfOk r (λ reply. IsReplyTo reply new step)
 refused_reply (Err n) e new step refusal told = tt
 refused_reply (Ok reply) e new step refusal told =
-    subst (λ (y : Reply). IsReplyTo y new step) (sym refusal.0) (by (refusal_of e) refusal.1 told)
-  where
-    by : (o : Option Refusal) → IsSome o
-        → IfSome o (λ refusal. (step.answer ≡ model.Answer.Refused refusal)
-        × RepresentsStation new step.station)
-        → IsSomeAnd o (λ refusal. step.answer ≡ model.Answer.Refused refusal)
-        × RepresentsStation new step.station
-    by None some told = absurd (false≢true some)
-    by (Some refusal) some told = told
+    subst (λ (y : Reply). IsReplyTo y new step) (sym refusal.0)
+    (refused_step (refusal_of e) new step refusal.1 told)
 
 -- a reply that is the step's, of the call that was made
 pub call_reply : (r : Result Reply NoMemory) (P : ModelCall

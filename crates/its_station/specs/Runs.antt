@@ -1,6 +1,6 @@
 -- What many calls of a station are in the model.
 use Rattle.std.specs.Prelude.{◌≡◌, ℕ, ◌≤◌, ◌++◌, List, [], ◌∷◌, length, Option, Some, None}
-use Rattle.std.specs.Prelude.{IsSomeAnd, Bool, true, false}
+use Rattle.std.specs.Prelude.{IsSome, IsSomeAnd, Bool, true, false, Result, Ok, Err}
 use Rattle.std.specs.Option.{option_map}
 use Rattle.its_gnvalue.specs.Values.{Position, IsSpeed}
 use Rattle.its_model.specs.Packet.{Message, Transmission}
@@ -17,10 +17,11 @@ use Rattle.its_station.specs.declared.run.Reply.TheVariants as replies
 use Rattle.its_station.specs.declared.outcome.Handed.{Handed}
 use Rattle.its_station.specs.declared.outcome.Outcome.{Outcome}
 use Rattle.its_station.specs.declared.outcome.Outcome.TheVariants as outcomes
+use Rattle.its_station.specs.declared.refused.Refused.{Refused}
 use Rattle.its_station.specs.State.{StationState, RepresentsStation}
 use Rattle.its_station.specs.Steps.{refusal_of}
 use Rattle.its_station.specs.Requests.{owned_gbc, owned_shb, TellsSent}
-use Rattle.its_station.specs.Receiving.{IsFrameCall, TellsAccepted, why_of}
+use Rattle.its_station.specs.Receiving.{IsFrameCall, TellsAccepted, said_by, why_of}
 
 -- a call in the model: octets are the frame that they encode, or junk with their first fault
 abbrev pub IsCall : Call → ModelCall → Type 0
@@ -78,6 +79,18 @@ is_refusal reply = false
 -- where a reply says that the call was done and no more, the answer is this
 abbrev pub IsThisWhereDone : Answer Transmission → Reply → Answer Transmission → Type 0
 IsThisWhereDone this reply answer = reply ≡ replies.Done → answer ≡ this
+
+-- the reply has what the outcome has, with octets of its own
+abbrev pub Owns : Reply → Outcome → Type 0
+Owns reply (outcomes.Ignored why) = reply ≡ replies.Ignored why
+Owns reply (outcomes.Accepted lent sent) =
+    (handed : Option Delivery) × (reply ≡ replies.Accepted handed sent)
+    × (option_map delivered handed ≡ option_map said_by lent)
+
+-- the reply is what `receive` returned, and no refusal for want of memory
+abbrev pub IsReplyOf : Reply → Result Outcome Refused → Type 0
+IsReplyOf reply (Ok outcome) = Owns reply outcome
+IsReplyOf reply (Err refused) = (reply ≡ replies.Refused refused) × IsSome (refusal_of refused)
 
 -- these answers, one for one
 abbrev pub AreReplies : List Reply → List (Answer Transmission) → Type 0

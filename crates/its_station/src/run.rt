@@ -1,7 +1,7 @@
 //! Many calls, one after the other.
 
 ghost use Rattle.std.specs.Prelude.{◌≡◌, ◌≢◌, ◌≤◌, ◌<◌, ℕ, Option, List, [], All, length, take};
-ghost use Rattle.std.specs.Prelude.{Err, IfOk, OnErr, IsTrue, IsFalse, IsSome, MatchResult};
+ghost use Rattle.std.specs.Prelude.{Err, IfOk, OnErr, OnOk, IsTrue, IsFalse, IsSome, MatchResult};
 ghost use Rattle.std.specs.Prelude.{vec_len, vec_capacity};
 ghost use Rattle.std.specs.Option.{option_map};
 ghost use Rattle.its_model.specs.Packet.{Transmission};
@@ -14,7 +14,7 @@ ghost use Rattle.its_station.specs.Requests.{TellsSent, TellsTick};
 ghost use Rattle.its_station.specs.Receiving.{IsFrameCall, Tells, said_by};
 ghost use Rattle.its_station.specs.Runs.{IsCall, IsInRange, IsReplyTo, IsDone, TellsReply};
 ghost use Rattle.its_station.specs.Runs.{IsRunOf, IsIsolatedRunOf, IsThisWhereDone};
-ghost use Rattle.its_station.specs.Runs.{Fits, HandingFits, delivered};
+ghost use Rattle.its_station.specs.Runs.{Fits, HandingFits, IsReplyOf, Owns, delivered};
 
 use crate::outcome::{Handed, Outcome, Why};
 use crate::refused::Refused;
@@ -220,14 +220,9 @@ impl<S: LocationStore> Station<S> {
         ensures answered { IfOk result (λ reply. reply ≢ Reply.Done) }
         ensures unchanged { OnErr result (self.new ≡ self.old) }
     {
-        // What is delivered is a part of the frame, so its room is there before the call.
-        room.clear();
-        room.reserve(frame.len())?;
+        make_room(room, frame)?;
         let alloc = self.alloc();
-        match self.receive(moment, frame) {
-            Ok(outcome) => Ok(reply_of(alloc, outcome, room)),
-            Err(refused) => refusal(refused),
-        }
+        Reply::of_received(alloc, self.receive(moment, frame), room)
     }
 
     /// `receive_in` of octets in which `read_frame` found no fault, without a second check.
@@ -244,13 +239,9 @@ impl<S: LocationStore> Station<S> {
         ensures answered { IfOk result (λ reply. reply ≢ Reply.Done) }
         ensures unchanged { OnErr result (self.new ≡ self.old) }
     {
-        room.clear();
-        room.reserve(frame.len())?;
+        make_room(room, frame)?;
         let alloc = self.alloc();
-        match self.receive_checked(moment, frame) {
-            Ok(outcome) => Ok(reply_of(alloc, outcome, room)),
-            Err(refused) => refusal(refused),
-        }
+        Reply::of_received(alloc, self.receive_checked(moment, frame), room)
     }
 }
 
@@ -298,6 +289,39 @@ impl Reply {
             Err(refused) => refusal(refused),
         }
     }
+    /// The reply to a frame that was received. A payload that is delivered takes `room`, an empty vector
+    /// in which it fits. `NoMemory` if an allocation failed.
+    pub fn of_received(
+        alloc: Global,
+        answer: Result<Outcome<'_>, Refused>,
+        room: &mut Vec<u8>,
+    ) -> Result<Reply, NoMemory>
+        requires empty { room.old.items ≡ [] }
+        requires size { vec_len room.old ≡ 0 }
+        requires room { IfOk answer (Fits (vec_capacity room.old)) }
+        ensures same { IfOk result (λ reply. IsReplyOf reply answer.entry) }
+        ensures reply { (new : StationState) (step : Step) →
+            IsStepOf Tells answer.entry new step → IfOk result (λ reply. IsReplyTo reply new step) }
+        ensures answered { IfOk result (λ reply. reply ≢ Reply.Done) }
+        ensures memory { OnErr result (answer.entry ≡ Err Refused.NoMemory) }
+    {
+        match answer {
+            Ok(outcome) => Ok(reply_of(alloc, outcome, room)),
+            Err(refused) => refusal(refused),
+        }
+    }
+}
+
+/// Empties a room, and makes it large enough for what can be delivered of a frame, which is a part of
+/// it: so there is room before the frame is received.
+fn make_room(room: &mut Vec<u8>, frame: &[u8]) -> Result<(), NoMemory>
+    ensures empty { room.new.items ≡ [] }
+    ensures size { vec_len room.new ≡ 0 }
+    ensures room { OnOk result (length frame.now ≤ vec_capacity room.new) }
+{
+    room.clear();
+    room.reserve(frame.len())?;
+    Ok(())
 }
 
 /// The outcome as a reply, which takes the payload into the room that was made for it.
@@ -305,9 +329,7 @@ fn reply_of(alloc: Global, outcome: Outcome<'_>, room: &mut Vec<u8>) -> Reply
     requires empty { room.old.items ≡ [] }
     requires size { vec_len room.old ≡ 0 }
     requires room { Fits (vec_capacity room.old) outcome }
-    ensures reply { (answer : Answer Transmission) → Tells outcome.entry answer →
-        TellsReply result answer }
-    ensures answered { result ≢ Reply.Done }
+    ensures same { Owns result outcome.entry }
 {
     match outcome {
         Outcome::Ignored(why) => Reply::Ignored(why),

@@ -1,4 +1,6 @@
 use Rattle.std.proofs.Common.{rules}
+use Rattle.its_station.proofs.Replies.{is_reply}
+use Rattle.cmd_pipe.proofs.Heard.{heard_counts, heard_memory}
 use Rattle.cmd_pipe.proofs.Calls.{told_receive}
 use Rattle.cmd_pipe.proofs.receiving.receive.Goals as goal
 use Rattle.cmd_pipe.proofs.receiving.receive.Goals.{in-Ok, in-Err}
@@ -8,6 +10,10 @@ returns-clause-tells c = λ s rep. elim c.match-reserve.branch [
   | in-Ok w ↦ told_receive s c.args.id c.args.at c.args.frame.now c.match-reserve.answer.0
       c.in_ok-reply.reply c.filter.result c.args.station.now c.match-reserve.station
       c.args.counts.now c.note_received.new.self rep (search rules)
-      c.in_ok-reply.ensures.plain c.in_ok-reply.ensures.counts c.note_received.ensures
-  | in-Err w ↦ absurd (c.in_ok-reply.ensures.done (search rules))
+      (λ after step is. is_reply c.in_ok-reply.reply c.match-reserve.answer.0 after step
+      c.in_ok-reply.ensures.same is)
+      (λ k. heard_counts c.in_ok-reply.reply c.match-reserve.answer.0 k c.in_ok-reply.ensures.same)
+      c.note_received.ensures
+  | in-Err w ↦ absurd (heard_memory c.in_ok-reply.reply c.match-reserve.answer.0
+      c.in_ok-reply.ensures.same (search rules))
 ]

@@ -1,4 +1,6 @@
 use Rattle.std.proofs.Common.{rules}
+use Rattle.its_station.specs.Receiving.{sealed_by}
+use Rattle.cmd_pipe.proofs.Heard.{heard_counts, heard_memory, heard_tells}
 use Rattle.cmd_pipe.proofs.Verified.{told_verified}
 use Rattle.cmd_pipe.proofs.receiving.receive_verified.Goals as goal
 use Rattle.cmd_pipe.proofs.receiving.receive_verified.Goals.{in-Ok, in-Err}
@@ -8,6 +10,10 @@ returns-clause-tells c = λ s rep. elim c.match-reserve.branch [
   | in-Ok w ↦ told_verified s c.args.id c.args.at c.args.octets.now c.match-reserve.answer.0
       c.in_ok-reply.reply c.filter.result c.args.station.now c.match-reserve.station
       c.args.counts.now c.note_received.new.self rep (search rules)
-      c.in_ok-reply.ensures.reply c.in_ok-reply.ensures.counts c.note_received.ensures
-  | in-Err w ↦ absurd (c.in_ok-reply.ensures.done (search rules))
+      (λ call after step is. heard_tells (sealed_by call) c.in_ok-reply.reply
+      c.match-reserve.answer.0 after step c.in_ok-reply.ensures.same is)
+      (λ k. heard_counts c.in_ok-reply.reply c.match-reserve.answer.0 k c.in_ok-reply.ensures.same)
+      c.note_received.ensures
+  | in-Err w ↦ absurd (heard_memory c.in_ok-reply.reply c.match-reserve.answer.0
+      c.in_ok-reply.ensures.same (search rules))
 ]
