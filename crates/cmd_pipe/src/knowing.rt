@@ -8,6 +8,7 @@ ghost use Rattle.cmd_pipe.specs.Knowing.{TellsNeighbours, TellsQuery, TellsSeale
 ghost use Rattle.cmd_pipe.specs.Knowing.{moment_of};
 ghost use Rattle.cmd_pipe.specs.Serving.{RepresentsCounted};
 
+use crate::frame_octets::FrameOctets;
 use crate::request::Query;
 use crate::response::{Known, SealFault};
 use its_gnvalue::{GnAddress, LongPv, NoMemory};
@@ -132,7 +133,7 @@ fn known_frame(octets: Vec<u8>) -> Known
     ensures { TellsFrame octets.items result }
 {
     match read_frame(octets.as_slice()) {
-        Ok(_) => Known::Frame(octets),
+        Ok(_) => Known::Frame(FrameOctets::new(octets)),
         Err(fault) => Known::NoFrame(fault),
     }
 }

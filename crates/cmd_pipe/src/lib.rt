@@ -6,6 +6,7 @@
 mod command;
 mod ended;
 mod fault;
+mod frame_octets;
 mod knowing;
 mod lines;
 mod members;
@@ -21,6 +22,7 @@ mod word;
 pub use command::run_station;
 pub use ended::Ended;
 pub use fault::PipeFault;
+pub use frame_octets::FrameOctets;
 pub use printing::{Printer, print_response};
 pub use request::{Id, LineFault, Query, QueryKey};
 pub use response::{Done, Known, Response, ResponseSink, SealFault};

@@ -11,7 +11,7 @@ use cmd_text::answers::{RefusedReason, delivery_keys, words};
 use cmd_text::frames::{FrameKeys, MessageKeys};
 use cmd_text::json_lines::{Digits, JsonFault, JsonLine, Octets, Printed};
 use its_gnvalue::{GnAddress, LongPv};
-use its_linkframe::{FrameCode, FrameFault, read_frame};
+use its_linkframe::{FrameCode, FrameFault};
 use its_station::{Counts, Refused, RefusedCode, Reply};
 use serde::{Described, Serialize, Serializer};
 use std::alloc::{AllocError, Global};
@@ -198,7 +198,10 @@ fn print_known<'l>(
             vector: VectorKeys::of(vector),
         }),
         Known::Unknown => line.of(&LineHead::new(id, at, "unknown")),
-        Known::Frame(octets) => print_frame(line, id, at, octets.as_slice()),
+        Known::Frame(octets) => line.of(&FrameLine {
+            head: LineHead::new(id, at, "read"),
+            frame: FrameKeys::of(&octets.view()),
+        }),
         Known::NoFrame(fault) => line.of(&NoFrameLine::new(
             LineHead::new(id, at, words::REFUSED),
             *fault,
@@ -221,24 +224,6 @@ fn print_known<'l>(
             code: Printed(refused.code()),
             reason: Printed(RefusedReason(*refused)),
         }),
-    }
-}
-
-/// The line of a frame's fields.
-fn print_frame<'l>(
-    line: &'l mut JsonLine,
-    id: &Option<Id>,
-    at: Option<u64>,
-    octets: &[u8],
-) -> Result<&'l [u8], JsonFault>
-    ensures { IfOk result (λ told. IsLine told.now) }
-{
-    match read_frame(octets) {
-        Ok(frame) => line.of(&FrameLine {
-            head: LineHead::new(id, at, "read"),
-            frame: FrameKeys::of(&frame),
-        }),
-        Err(fault) => line.of(&NoFrameLine::new(LineHead::new(id, at, words::REFUSED), fault)),
     }
 }
 

@@ -4,6 +4,7 @@ ghost use Rattle.std.specs.Prelude.{◌≡◌};
 ghost use Rattle.cmd_pipe.specs.Serving.{done_by};
 
 use crate::fault::PipeFault;
+use crate::frame_octets::FrameOctets;
 use crate::request::{Id, LineFault};
 use its_gnvalue::{GnAddress, LongPv};
 use its_linkframe::FrameFault;
@@ -97,7 +98,7 @@ pub enum Known {
     /// No live source has that address.
     Unknown,
     /// These octets are a frame.
-    Frame(Vec<u8>),
+    Frame(FrameOctets),
     /// These octets are none.
     NoFrame(FrameFault),
     /// The secured frame that was asked for.

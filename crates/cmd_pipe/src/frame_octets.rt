@@ -1,0 +1,30 @@
+//! Octets that are known to be a frame.
+
+ghost use Rattle.std.specs.Prelude.{◌≡◌};
+ghost use Rattle.its_linkframe.specs.Frames.{EncodesFrame, IsFrame, transmission_of};
+
+use its_linkframe::FrameView;
+
+/// Octets that are a frame: they were read, and nothing is checked again.
+#[derive(Debug, Drop, PartialEq, Eq)]
+pub struct FrameOctets {
+    octets: Vec<u8>,
+    ghost whole: { IsFrame octets.items },
+}
+
+impl FrameOctets {
+    /// These octets, which are a frame.
+    pub(crate) fn new(octets: Vec<u8>) -> FrameOctets
+        requires { IsFrame octets.items }
+        ensures { result.octets.items ≡ octets.items }
+    {
+        FrameOctets { octets }
+    }
+
+    /// The frame.
+    pub fn view(&self) -> FrameView<'_>
+        ensures { EncodesFrame (transmission_of result) self.now.octets.items }
+    {
+        FrameView::of_frame(self.octets.as_slice())
+    }
+}
