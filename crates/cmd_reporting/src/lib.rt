@@ -11,15 +11,17 @@ mod left_out;
 mod named_file;
 mod options;
 mod outputs;
+mod progress;
 mod status;
 
 pub use cause::Cause;
 pub use command_io::Io;
 pub use fault::{CommandFault, Fault, WriterFault};
 pub use files::{Destination, Opened, create, create_output, keep_apart, open};
-pub use frame_file::{FrameFile, create_frames};
+pub use frame_file::{FrameFile, create_frames, end_frames};
 pub use left_out::LeftOut;
 pub use named_file::{NamedFile, refuse_same};
 pub use options::OutputFormat;
 pub use outputs::{FrameTarget, OutputFault, Target, frame_target, is_standard};
+pub use progress::{ProgressWriter, RunProgress};
 pub use status::Status;

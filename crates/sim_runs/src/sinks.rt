@@ -10,11 +10,11 @@ ghost use Rattle.sim_runs.specs.Runs.{EndsRun, run_status};
 use crate::course::{Course, MovesFile};
 use crate::fault::is_cut_short;
 use crate::lines::RunLines;
-use crate::outputs::{Outputs, end_frames};
+use crate::outputs::Outputs;
 use crate::progress::Progress;
 use crate::report::Report;
 use crate::simulating::run_timeline;
-use cmd_reporting::{Fault, FrameFile, OutputFormat, Status};
+use cmd_reporting::{Fault, FrameFile, OutputFormat, ProgressWriter, Status, end_frames};
 use its_gnvalue::NoMemory;
 use its_world::{Entry, World};
 use sim_air::AirFault;
@@ -43,7 +43,7 @@ pub(crate) struct RunSinks<'s, 'a, 'o, L, F: Write + Drop, E> {
     err: &'o mut E,
 }
 
-impl<'s, 'a, 'o, L: EventSink + RunLines + Drop, F: Write + Drop, E: Write> RunSinks<
+impl<'s, 'a, 'o, L: EventSink + RunLines + Drop, F: Write + Drop, E: ProgressWriter> RunSinks<
     's,
     'a,
     'o,
@@ -152,7 +152,7 @@ impl<'s, 'a, 'o, L: EventSink + RunLines + Drop, F: Write + Drop, E: Write> RunS
 impl<L, F: Write + Drop, E: Write> RunSinks<'_, '_, '_, L, F, E> {
     /// Writes the frame that an event sent to the file of frames, if there is one.
     #[inline(always)]
-    fn put_frame(&mut self, done: &EventRecord<'_>) -> Result<(), SimulationFault>
+    fn write_frame(&mut self, done: &EventRecord<'_>) -> Result<(), SimulationFault>
         ensures { self.new.all_done ≡ self.old.all_done }
     {
         let (Some(file), Some(frame)) = (&mut self.frames, done.octets) else {
@@ -178,7 +178,7 @@ impl<L, F: Write + Drop, E: Write> RunSinks<'_, '_, '_, L, F, E> {
     }
 }
 
-impl<L: EventSink, F: Write + Drop, E: Write> EventSink for RunSinks<'_, '_, '_, L, F, E> {
+impl<L: EventSink, F: Write + Drop, E: ProgressWriter> EventSink for RunSinks<'_, '_, '_, L, F, E> {
     // What the parts write isn't said by contracts; whether an entry is a refusal is.
     ghost Took = { λ sinks events log. sinks.all_done ≡ list_all was_done log };
 
@@ -188,7 +188,7 @@ impl<L: EventSink, F: Write + Drop, E: Write> EventSink for RunSinks<'_, '_, '_,
         self.report.take(world, done)?;
         self.tables.take(world, done)?;
         self.progress.note(done, self.err);
-        self.put_frame(done)?;
+        self.write_frame(done)?;
         self.all_done &= !is_refused(done.entry);
         Ok(())
     }
