@@ -1,5 +1,6 @@
 -- The reply to a frame that came, of its own octets: what it tells, and how it is counted.
 use Rattle.std.proofs.Common.{◌≡◌, ◌≢◌, Option, Some, None, refl, sym, ap, ◌∙◌, subst, Ok, Err}
+use Rattle.std.proofs.lemmas.Bool.{false≢true}
 use Rattle.std.specs.Prelude.{Result, IsSome, is_some}
 use Rattle.std.specs.Option.{option_map}
 use Rattle.its_model.specs.Packet.{Message}
@@ -59,7 +60,7 @@ heard_memory reply (Ok outcome) same ran_out = subst IsOkOutcome ran_out tt
     IsOkOutcome : Result Outcome Refused → Type 0
     IsOkOutcome (Ok x) = Unit {0}
     IsOkOutcome (Err x) = ⊥
-heard_memory reply (Err e) same ran_out = subst IsAnswered ran_out same.1
+heard_memory reply (Err e) same ran_out = false≢true (subst IsAnswered ran_out same.1)
   where
     IsAnswered : Result Outcome Refused → Type 0
     IsAnswered (Ok x) = ⊥

@@ -97,7 +97,7 @@ TellsNeighbours m now after answer = ⊥
 
 -- whether these octets are a frame; if they are none, their first fault
 abbrev pub TellsFrame : List ℕ → Known → Type 0
-TellsFrame octets (knowns.Frame frame) = (frame.octets.items ≡ octets) × IsFrame octets
+TellsFrame octets (knowns.Frame frame) = (frame ≡ octets) × IsFrame octets
 TellsFrame octets (knowns.NoFrame fault) = (¬ IsFrame octets) × IsFrameFault octets fault
 TellsFrame octets answer = ⊥
 

@@ -4,26 +4,37 @@ ghost use Rattle.std.specs.Prelude.{◌≡◌};
 ghost use Rattle.its_linkframe.specs.Frames.{EncodesFrame, IsFrame, transmission_of};
 
 use its_linkframe::FrameView;
+use std::marker::Model;
 
 /// Octets that are a frame: they were read, and nothing is checked again.
-#[derive(Debug, Drop, PartialEq, Eq)]
+#[derive(Debug, Drop)]
 pub struct FrameOctets {
     octets: Vec<u8>,
-    ghost whole: { IsFrame octets.items },
+}
+
+impl Model for FrameOctets {
+    ghost use Rattle.std.specs.Prelude.{List, ℕ};
+    ghost use Rattle.its_linkframe.specs.Frames.{IsFrame};
+
+    ghost Value = { List ℕ };
+
+    ghost view = { λ frame. frame.octets.items };
+
+    ghost invariant = { λ frame. IsFrame frame.octets.items };
 }
 
 impl FrameOctets {
     /// These octets, which are a frame.
     pub(crate) fn new(octets: Vec<u8>) -> FrameOctets
         requires { IsFrame octets.items }
-        ensures { result.octets.items ≡ octets.items }
+        ensures { result ≡ octets.items }
     {
         FrameOctets { octets }
     }
 
     /// The frame.
     pub fn view(&self) -> FrameView<'_>
-        ensures { EncodesFrame (transmission_of result) self.now.octets.items }
+        ensures { EncodesFrame (transmission_of result) self.now }
     {
         FrameView::of_frame(self.octets.as_slice())
     }

@@ -12,7 +12,7 @@ use its_station::{Call, Counts, Refused, Reply};
 use std::fmt;
 
 /// What is answered to a line.
-#[derive(Debug, Drop, PartialEq, Eq)]
+#[derive(Debug, Drop)]
 pub enum Response {
     /// The call for which it asked was made.
     Reply {
@@ -82,7 +82,7 @@ impl Done {
 }
 
 /// What is known of what was asked.
-#[derive(Debug, Drop, PartialEq, Eq)]
+#[derive(Debug, Drop)]
 pub enum Known {
     /// The moment of the next beacon, in milliseconds.
     NextBeacon(u64),
