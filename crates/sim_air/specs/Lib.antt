@@ -8,3 +8,4 @@ pub mod Outside
 pub mod Moving
 pub mod UnderRows
 pub mod Beside
+pub mod Filing

@@ -78,8 +78,8 @@ pub record IsNext (m : MovingRun) (coming : Coming) : Type 0 where
 pub record IsUnder (rules : Rules) (configs made : List Config) (past : List Filed)
     (last from begin clock : ℕ) (m : MovingRun) (Took : List Event → List Entry → Type 0)
     : Type 0 where
-  pub moving : IsMoving rules configs made past last from (end_in m) m.frames_before
-      m.delivered_by m.run Took
+  pub moving : IsMoving true rules configs made past last from (end_in m) m.count.before
+      m.count.delivered_by m.run Took
   pub comings : ComesFrom from m
   pub ahead : ForSome m.row (λ row. row.moment + begin ≤ clock)
 

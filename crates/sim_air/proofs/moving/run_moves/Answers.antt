@@ -52,7 +52,7 @@ loop-init g c =
           subst (λ (v : Vec (Bor AddressedEvent) Global). IsByMoment t.events.items
           (map (λ (e : Bor AddressedEvent). e.now) v.items)) (sym read.events.0) b.asked;
       under = λ took.
-          let moving = begun by configs (end_in m) m.run Took long b.rules b.present b.world
+          let moving = begun true by configs (end_in m) m.run Took long b.rules b.present b.world
           (c.every_schedule.ensures configs []) b.keeps b.frames.0 took in
           subst (λ (n : ℕ). IsUnderSome by configs n c.read_row.new.rows.before next Took)
           (sym read.begin)

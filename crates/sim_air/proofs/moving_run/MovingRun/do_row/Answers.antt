@@ -36,8 +36,8 @@ returns-clause-moving g c =
     row_does row station ports old one _ A B C c.in_ok-found.ensures.moving
     (same_end old one c.station_of.ensures.until c.station_of.ensures.end) refl
     c.in_ok-note_row.ensures.from refl refl refl refl refl
-    (subst (λ (l : List Filed). DoesAt m l one.run B c.move_in.new.run C) came
-    (subst (λ (n : ℕ). DoesAt n (Happens (event_of event)
+    (subst (λ (l : List Filed). DoesAt true m l one.run B c.move_in.new.run C) came
+    (subst (λ (n : ℕ). DoesAt true n (Happens (event_of event)
     ∷ map (opening_at event.station event.moment) ports) one.run B c.move_in.new.run C) is.moment
     (moves there))))
     c.move_in.ensures.moving
