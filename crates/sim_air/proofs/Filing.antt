@@ -5,6 +5,7 @@ use Rattle.std.specs.Prelude.{slice_get}
 use Rattle.std.specs.List.{AllByRecursion}
 use Rattle.std.specs.List.Sorted.{IsNonDecreasingBy}
 use Rattle.std.proofs.Common.{slice_index_or}
+use Rattle.std.proofs.lemmas.List.Elements.{All-cons, All-nil}
 use Rattle.std.proofs.lemmas.Option.{get_or_from_slice_get, slice_get_within}
 use denote.Ref.{Bor}
 use Rattle.its_model.specs.World.{Config, Event, What, opening}
@@ -27,9 +28,10 @@ use Rattle.sim_air_model.proofs.Putting.{schedule_all_above}
 use Rattle.sim_air.specs.AirRun.{IsAirRun, events_in}
 use Rattle.sim_air.specs.AirTimed.{IsTimedRun}
 use Rattle.sim_air.specs.Beside.{IsFrom, Rises, beside, rules_beside}
-use Rattle.sim_air.specs.Filing.{IsFiling, KeepsFrom}
+use Rattle.sim_air.specs.Delivered.{KeepsFrom}
+use Rattle.sim_air.specs.Filing.{IsFiling}
 use Rattle.sim_air.specs.Keeps.{GoesBy, IsTimed}
-use Rattle.sim_air.specs.declared.filed.FiledRun.{FiledRun}
+use Rattle.sim_air.specs.declared.filed_run.FiledRun.{FiledRun}
 use Rattle.sim_queue.specs.Keeps.{Keeps}
 use Rattle.its_model.specs.EverySchedule.{HoldsOfSchedules}
 use Rattle.its_world.specs.State.{RepresentsWorld}
@@ -56,13 +58,11 @@ keeps_lower n m (files.Leaves station moment) le h = tt
 pub all_kept : (released lowest : ℕ) (e : FileEvent) → released ≤ lowest → KeepsFrom lowest e
     → All (λ x. IsKept released x.what) (events_in (filed_of e ∷ []))
 all_kept released lowest (files.Happens e) le h =
-    λ k d lt. one k d lt
-  where
-    one : (k : ℕ) (d : Event) → k < 1
-        → IsKept released (slice_index_or (event_of e ∷ []) k d).what
-    one 0 d lt = kept_lower released lowest (what_of e.what) le h
-    one (suc k) d lt = absurd (omega (arith, lt))
-all_kept released lowest (files.Leaves station moment) le h = λ k d lt. absurd (omega (arith, lt))
+    All-cons (λ (x : Event). IsKept released x.what) (event_of e) []
+    (kept_lower released lowest (what_of e.what) le h)
+    (All-nil (λ (x : Event). IsKept released x.what))
+all_kept released lowest (files.Leaves station moment) le h =
+    All-nil (λ (x : Event). IsKept released x.what)
 
 -- ---- the next of the file
 

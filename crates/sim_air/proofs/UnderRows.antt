@@ -1,4 +1,5 @@
 -- A run with rows that is under way, from one step to the next.
+use Rattle.std.proofs.Common.{true}
 use Rattle.std.proofs.Common.{◌≡◌, ℕ, ◌+◌, ◌≤◌, ◌<◌, List, [], refl, sym, ap, subst, ◌∙◌, arith}
 use Rattle.std.proofs.Common.{All}
 use Rattle.std.proofs.Common.{Option, Some, None, length, slice_index_or, ◌++◌, append-nil, ◌∷◌}

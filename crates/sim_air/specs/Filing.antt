@@ -2,21 +2,13 @@
 use Rattle.std.specs.Prelude.{◌≡◌, ◌≤◌, ◌+◌, [], ℕ, List, Some, false, slice_get, take}
 use denote.Ref.{Bor}
 use Rattle.its_model.specs.World.{Config, Event}
-use Rattle.its_world.specs.Events.{what_of}
-use Rattle.its_world.specs.Steps.{IsKept}
 use Rattle.its_world.specs.declared.entry.Entry.{Entry}
 use Rattle.sim_air.specs.Moving.{IsMoving}
-use Rattle.sim_air.specs.declared.filed.FiledRun.{FiledRun}
+use Rattle.sim_air.specs.declared.filed_run.FiledRun.{FiledRun}
 use Rattle.sim_air_model.specs.Timetable.{Rules}
 use Rattle.sim_queue.specs.Queues.{filed_in}
 use Rattle.sim_scenario.specs.Airs.{moment_of}
 use Rattle.sim_scenario.specs.declared.events.event.FileEvent.{FileEvent}
-use Rattle.sim_scenario.specs.declared.events.event.FileEvent.TheVariants as files
-
--- it delivers no frame of a lower number
-abbrev pub KeepsFrom : ℕ → FileEvent → Type 0
-KeepsFrom lowest (files.Happens e) = IsKept lowest (what_of e.what)
-KeepsFrom lowest (files.Leaves station moment) = Unit {0}
 
 -- It is under way: what came from outside is what was taken of the file, and what is to come of it
 -- comes no earlier.

@@ -1,4 +1,5 @@
 -- A run with rows that is under way.
+use Rattle.std.specs.Prelude.{true}
 use Rattle.std.specs.Prelude.{◌≡◌, ◌≤◌, ◌<◌, ◌+◌, ◌*◌, ◌++◌, ◌∷◌, [], ◌⊎◌, ℕ, List, All, map}
 use Rattle.std.specs.Prelude.{Option, Some, None, length, slice_get, take}
 use Rattle.std.specs.BinaryHeap.{heap_items}

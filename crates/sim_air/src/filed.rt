@@ -11,7 +11,8 @@ ghost use Rattle.its_world.specs.State.{RepresentsWorld};
 ghost use Rattle.sim_air.specs.AirRun.{IsAirRun};
 ghost use Rattle.sim_air.specs.AirTimed.{IsTimedRun, rules_of};
 ghost use Rattle.sim_air.specs.Beside.{rules_beside};
-ghost use Rattle.sim_air.specs.Filing.{IsFiling, KeepsFrom};
+ghost use Rattle.sim_air.specs.Delivered.{KeepsFrom};
+ghost use Rattle.sim_air.specs.Filing.{IsFiling};
 ghost use Rattle.sim_air.specs.Keeps.{GoesBy};
 ghost use Rattle.sim_air.specs.Runs.{AreIndexed};
 ghost use Rattle.sim_air_model.specs.Timetable.{Filed, Rules, air_opening};
@@ -23,6 +24,7 @@ ghost use Rattle.sim_scenario.specs.Airs.{end_of, moment_of};
 ghost use Rattle.sim_scenario.specs.declared.events.event.FileEvent.{FileEvent as Line};
 
 use crate::fault::AirFault;
+use crate::filed_run::FiledRun;
 use crate::frames::FrameCount;
 use crate::run::Run;
 use crate::step::take_own;
@@ -94,26 +96,6 @@ pub fn run_air<S: EventSink>(
     Err(AirFault::TooManyEvents)
 }
 
-/// A run over the events of a file, while it is under way.
-#[derive(Drop)]
-struct FiledRun<'a> {
-    run: Run<'a>,
-    count: FrameCount,
-    /// The events and leaves of the file up to the last time, in the order in which they are done.
-    due: Vec<&'a FileEvent>,
-    /// How many of these were done.
-    taken: usize,
-    /// The last time that is run.
-    end: u64,
-    /// No event of the file delivers a frame of a lower number.
-    lowest: usize,
-    ghost ranges: { All (λ e. IsFiledInRange e.now) due.items },
-    ghost within: { All (λ e. moment_of e.now ≤ end) due.items },
-    ghost sorted: { IsNonDecreasingBy (λ e. moment_of e.now) due.items },
-    ghost last: { end ≤ 2 ^ 63 + 10000 },
-    ghost deliveries: { All (λ e. KeepsFrom lowest e.now) due.items },
-}
-
 impl<'a> FiledRun<'a> {
     /// A run of which nothing is done yet.
     fn begin(
@@ -144,6 +126,10 @@ impl<'a> FiledRun<'a> {
         ensures due { IfOk result (λ filed. AreDue (map filed_of file.now)
             (end_of air.now.until file.now) (filed_in filed.due.items)) }
         ensures taken { IfOk result (λ filed. filed.taken ≡ 0) }
+        ensures ranges { IfOk result (λ filed.
+            All (λ e. IsFiledInRange e.now) filed.due.items) }
+        ensures deliveries { IfOk result (λ filed.
+            All (λ e. KeepsFrom filed.lowest e.now) filed.due.items) }
         ensures end { IfOk result (λ filed. filed.end ≡ end_of air.now.until file.now) }
     {
         let end = end_of(air, file);
@@ -167,10 +153,13 @@ impl<'a> FiledRun<'a> {
     fn go_on<S: EventSink>(&mut self, sink: &mut S) -> Result<bool, AirFault>
         requires standings { AreIndexed self.old.run }
         requires kept { self.old.run.world.released ≤ self.old.lowest }
+        requires ranges { All (λ e. IsFiledInRange e.now) self.old.due.items }
+        requires deliveries { All (λ e. KeepsFrom self.old.lowest e.now) self.old.due.items }
         ensures standings { OnOk result (AreIndexed self.new.run) }
         ensures kept { OnOk result (self.new.run.world.released ≤ self.new.lowest) }
         ensures due { self.new.due ≡ self.old.due }
         ensures end { self.new.end ≡ self.old.end }
+        ensures lowest { self.new.lowest ≡ self.old.lowest }
         ensures filing { IfOk result (λ more. more ≡ true →
             (rules : Rules) (configs : List Beginning) →
             IsFiling rules configs self.old (S.Took sink.old) →

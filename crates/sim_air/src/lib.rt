@@ -5,6 +5,7 @@
 mod departures;
 mod fault;
 mod filed;
+mod filed_run;
 mod frames;
 mod moving;
 mod moving_run;

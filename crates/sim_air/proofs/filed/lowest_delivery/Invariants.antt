@@ -1,6 +1,6 @@
 use Rattle.std.proofs.Common.{All, take}
 use denote.Ref.{Bor}
-use Rattle.sim_air.specs.Filing.{KeepsFrom}
+use Rattle.sim_air.specs.Delivered.{KeepsFrom}
 use Rattle.sim_scenario.specs.declared.events.event.FileEvent.{FileEvent}
 use Rattle.sim_air.proofs.filed.lowest_delivery.Given as goal
 

@@ -1,5 +1,6 @@
 use Rattle.std.proofs.Common.{◌≡◌, ◌≤◌, ◌∙◌, ℕ, [], List, Bool, map, subst, sym, ap, arith}
-use Rattle.std.proofs.Common.{append-nil, take, false}
+use Rattle.std.proofs.Common.{append-nil, take, false, All}
+use Rattle.sim_air.specs.Delivered.{KeepsFrom}
 use Rattle.std.specs.Prelude.{Vec}
 use Rattle.std.specs.declared.alloc.Global.{Global}
 use denote.Ref.{Bor}
@@ -14,7 +15,7 @@ use Rattle.sim_air.specs.Filing.{IsFiling}
 use Rattle.sim_air.specs.Moving.{IsMoving}
 use Rattle.sim_air_model.specs.Timetable.{Filed, Rules}
 use Rattle.sim_queue.specs.Due.{AreDue}
-use Rattle.sim_queue.specs.Queues.{filed_in, filed_of}
+use Rattle.sim_queue.specs.Queues.{IsFiledInRange, filed_in, filed_of}
 use Rattle.sim_queue.specs.Traffics.{all_traffic}
 use Rattle.sim_air.proofs.Filing.{filing_begins}
 use Rattle.sim_air.proofs.filed.run_air.Goals as goal
@@ -34,6 +35,8 @@ loop-init g c =
       end = b.end;
       due = subst (λ (n : ℕ). AreDue (map filed_of c.args.file.now) n (filed_in filed.due.items))
           (sym b.end) b.due;
+      ranges = b.ranges;
+      deliveries = b.deliveries;
       filing = λ took. filing_begins by configs filed (g.S.EventSink.Took c.args.sink.now)
           b.rules b.present b.world (c.every_schedule.ensures configs []) b.keeps released b.taken
           b.count.0 b.count.1 took;
@@ -52,6 +55,14 @@ loop-preserved g c =
           AreDue (map filed_of c.args.file.now) c.go_on.new.self.end (filed_in d.items)) (sym due)
           (subst (λ (n : ℕ). AreDue (map filed_of c.args.file.now) n
           (filed_in c.loop.filed.due.items)) (sym end) c.loop.invariant.due);
+      ranges =
+          subst (λ (d : Vec (Bor FileEvent) Global). All (λ (e : Bor FileEvent).
+          IsFiledInRange e.now) d.items) (sym due) c.loop.invariant.ranges;
+      deliveries =
+          subst (λ (d : Vec (Bor FileEvent) Global). All (λ (e : Bor FileEvent).
+          KeepsFrom c.go_on.new.self.lowest e.now) d.items) (sym due)
+          (subst (λ (n : ℕ). All (λ (e : Bor FileEvent). KeepsFrom n e.now)
+          c.loop.filed.due.items) (sym c.go_on.ensures.lowest) c.loop.invariant.deliveries);
       filing = λ took.
           c.in_ok-go_on.ensures.filing c.if-not-branch.false _ _ (c.loop.invariant.filing took);
     }

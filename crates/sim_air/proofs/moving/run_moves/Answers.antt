@@ -1,4 +1,5 @@
 use Rattle.std.proofs.Common.{◌≡◌, ◌∙◌, ℕ, [], List, map, length, sym, subst, ap, arith, Option}
+use Rattle.std.proofs.Common.{true}
 use Rattle.std.proofs.lemmas.List.{length-map}
 use Rattle.its_model.specs.World.{Config}
 use Rattle.sim_scenario.specs.Airs.{end_of}

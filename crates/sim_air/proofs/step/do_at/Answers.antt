@@ -1,3 +1,4 @@
+use Rattle.std.proofs.Common.{true}
 use Rattle.std.proofs.Common.{◌∙◌, ℕ, [], length, subst, sym}
 use Rattle.its_station.specs.State.{StationState}
 use Rattle.sim_air.specs.Moving.{DoesAt}

@@ -1,3 +1,4 @@
+use Rattle.std.proofs.Common.{true}
 use Rattle.std.proofs.Common.{sym, subst, ◌<◌, ◌++◌, ◌∷◌, [], ℕ, List, map, append_assoc}
 use Rattle.its_world.specs.Events.{event_of}
 use Rattle.sim_air.specs.Moving.{IsMoving}

@@ -1,3 +1,4 @@
+use Rattle.std.proofs.Common.{true}
 use Rattle.std.proofs.Common.{refl, ◌≡◌, ◌<◌, ◌+◌, ◌++◌, ◌∷◌, [], ℕ, List, sym, subst, ap, ◌∙◌}
 use Rattle.std.proofs.Common.{append_assoc, map, slice_index_or, take, take_all}
 use Rattle.std.proofs.lemmas.List.{map_more}

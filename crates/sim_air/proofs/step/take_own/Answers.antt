@@ -1,11 +1,12 @@
-use Rattle.std.proofs.Common.{◌≡◌, ◌≤◌, ◌<◌, ◌+◌, ◌∙◌, ℕ, refl, arith}
+use Rattle.std.proofs.Common.{◌≤◌, ◌+◌, ◌∙◌, List, All, refl, arith, subst, sym}
+use Rattle.sim_queue.specs.declared.scheduled.Scheduled.{Scheduled}
 use Rattle.sim_air.specs.Moving.{IsTaken}
 use Rattle.sim_air.specs.declared.run.Run.{Run}
 use Rattle.sim_air.proofs.Moved.{is_taken, stays_moving, still_taken}
 use Rattle.sim_air.proofs.step.take_own.Goals as goal
 
-pub returns-in-Some-clause-taken : goal.returns-in-Some-clause-taken
-returns-in-Some-clause-taken g c = λ is grows rules configs made past last from end most h.
+pub returns-clause-taken : goal.returns-clause-taken
+returns-clause-taken g c = λ is grows rules configs made past last from end most h.
     let old = c.args.run.now in
     let before = c.args.count.now in
     let w = c.in-Some.waiting in
@@ -46,10 +47,16 @@ pub returns-in_default-clause-left : goal.returns-in_default-clause-left
 returns-in_default-clause-left g c = λ is.
     let A = g.S.EventSink.Took c.args.sink.now in
     record {
-      late = ?late;
+      late = subst (λ (xs : List Scheduled). All (λ (w : Scheduled). c.args.limit ≤ w.moment) xs)
+          (sym c.in_default.ensures.none) c.in_default.ensures.late;
       count = refl;
       world = refl;
       stays = stays_moving c.args.run.now _ A refl refl refl refl refl c.pop_before.ensures.due
           c.pop_before.ensures.taken c.pop_before.ensures.until c.pop_before.ensures.put
           c.in_default.ensures.none;
     }
+
+pub returns-clause-kept : goal.returns-clause-kept
+returns-clause-kept g c = λ kept.
+    subst (λ n. n ≤ c.args.lowest) (sym c.do_own.ensures.released)
+    (c.release_delivered.ensures.kept kept)

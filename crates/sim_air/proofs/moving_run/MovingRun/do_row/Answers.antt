@@ -1,3 +1,4 @@
+use Rattle.std.proofs.Common.{true}
 use Rattle.std.proofs.Common.{refl, sym, subst, ap, ◌∙◌, ◌<◌, ◌≡◌, ◌∷◌, ℕ, List, length, map}
 use Rattle.its_model.specs.World.{Event}
 use Rattle.its_world.specs.Events.{event_of}

@@ -39,14 +39,13 @@ returns-then-taken-clause-moving g c = λ is rules configs u.
           (still_comes u.turn old _ refl refl refl refl u.outside.next) u.outside;
     }
 
-pub returns-in_ok-take_in-in-Some-coming-clause-moving :
-    goal.returns-in_ok-take_in-in-Some-coming-clause-moving
-returns-in_ok-take_in-in-Some-coming-clause-moving g c = λ is rules configs u.
+pub returns-in_ok-take_in-in-Some-clause-moving : goal.returns-in_ok-take_in-in-Some-clause-moving
+returns-in_ok-take_in-in-Some-clause-moving g c = λ is rules configs u.
     let old = c.args.self.now in
-    let coming = c.in-Some-coming.coming in
+    let coming = c.in-Some.coming in
     let m = coming.moment in
     let n = is_next_of c.next_until-coming.result old c.limit_of-limit.result coming
-    c.in-Some-coming.is c.next_until-coming.ensures.next c.limit_of-limit.ensures.some in
+    c.in-Some.is c.next_until-coming.ensures.next c.limit_of-limit.ensures.some in
     let left = c.in_ok-taken.ensures.left c.if-taken.false in
     let B = g.S.EventSink.Took c.take_own.new.sink in
     let run = c.take_own.new.run in
@@ -62,7 +61,7 @@ returns-in_ok-take_in-in-Some-coming-clause-moving g c = λ is rules configs u.
     let turn = n.0.turn in
     let outside = next_came (length configs) (length u.made) u.came u.past u.turn old coming n.0
     u.outside in
-    c.in_ok-take_in-in-Some-coming.ensures.moving rules configs u.made u.past u.came
+    c.in_ok-take_in-in-Some.ensures.moving rules configs u.made u.past u.came
     (record {
       moving = moving;
       comings = record { row = first.row; departures = first.departures; events = first.events };

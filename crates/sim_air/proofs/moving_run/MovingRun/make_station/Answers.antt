@@ -1,3 +1,4 @@
+use Rattle.std.proofs.Common.{true}
 use Rattle.std.proofs.Common.{refl, ◌++◌, ◌∷◌, []}
 use Rattle.its_world.specs.Events.{config_of}
 use Rattle.sim_air.proofs.Moved.{one_made, says_moving}

@@ -1,3 +1,4 @@
+use Rattle.std.proofs.Common.{true}
 use Rattle.std.proofs.Common.{◌∙◌, ◌+◌, ◌*◌, subst, sym, ap, ℕ, length, ◌≤◌, add-zero}
 use Rattle.sim_air.specs.UnderRows.{CameUnder, IsComing, IsUnder, class_in, end_in}
 use Rattle.sim_air.specs.declared.moving_run.Outside.{Outside}

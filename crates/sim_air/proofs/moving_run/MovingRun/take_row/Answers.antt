@@ -1,3 +1,4 @@
+use Rattle.std.proofs.Common.{true}
 use Rattle.std.proofs.Common.{◌≡◌, ◌≤◌, ◌∙◌, ℕ, refl, sym, subst, ap, Some, arith, length, ◌*◌}
 use Rattle.sim_moves.specs.declared.row.Row.{Row}
 use Rattle.sim_air.specs.UnderRows.{CameUnder, IsUnder, IsUnderSome, end_in}

@@ -2,7 +2,7 @@ use Rattle.std.proofs.Common.{◌≡◌, ◌≤◌, ◌+◌, ◌∙◌, ℕ, [],
 use Rattle.std.proofs.Common.{false, take, take_all}
 use Rattle.std.proofs.lemmas.List.{length-map}
 use denote.Ref.{Bor}
-use Rattle.sim_air.specs.Filing.{KeepsFrom}
+use Rattle.sim_air.specs.Delivered.{KeepsFrom}
 use Rattle.sim_air.specs.Moving.{IsMoving}
 use Rattle.sim_queue.specs.Queues.{IsFiledInRange, filed_in, filed_of}
 use Rattle.sim_queue.specs.declared.scheduled.Scheduled.{Scheduled}
@@ -11,7 +11,7 @@ use Rattle.sim_scenario.specs.Airs.{moment_of}
 use Rattle.sim_scenario.specs.declared.events.event.FileEvent.{FileEvent}
 use Rattle.sim_air.proofs.Filing.{all_kept, filed_among, filed_next, filed_over, next_of_file}
 use Rattle.sim_air.proofs.Filing.{this_of_file}
-use Rattle.sim_air.proofs.filed.FiledRun.go_on.Goals as goal
+use Rattle.sim_air.proofs.filed_run.FiledRun.go_on.Goals as goal
 
 pub returns-then-taken-clause-filing : goal.returns-then-taken-clause-filing
 returns-then-taken-clause-filing g c = λ is rules configs u.
@@ -32,7 +32,7 @@ returns-then-taken-clause-filing g c = λ is rules configs u.
 pub do_filed-requires-clause-range : goal.do_filed-requires-clause-range
 do_filed-requires-clause-range g c =
     this_of_file IsFiledInRange c.args.self.now.due.items c.args.self.now.taken c.in-Some.filed
-    c.in-Some.ensures.some c.args.self.now.ranges
+    c.in-Some.ensures.some c.requires.ranges
 
 pub do_filed-requires-clause-kept : goal.do_filed-requires-clause-kept
 do_filed-requires-clause-kept g c =
@@ -40,11 +40,10 @@ do_filed-requires-clause-kept g c =
     all_kept c.take_own.new.run.world.released old.lowest c.in-Some.filed.now
     (c.in_ok-taken.ensures.kept c.requires.kept)
     (this_of_file (KeepsFrom old.lowest) old.due.items old.taken c.in-Some.filed
-    c.in-Some.ensures.some old.deliveries)
+    c.in-Some.ensures.some c.requires.deliveries)
 
-pub returns-in_ok-do_filed-in-Some-clause-filing :
-    goal.returns-in_ok-do_filed-in-Some-clause-filing
-returns-in_ok-do_filed-in-Some-clause-filing g c = λ is rules configs u.
+pub returns-clause-filing : goal.returns-clause-filing
+returns-clause-filing g c = λ is rules configs u.
     let old = c.args.self.now in
     let e = c.in-Some.filed in
     let m = moment_of e.now in
@@ -60,7 +59,7 @@ returns-in_ok-do_filed-in-Some-clause-filing g c = λ is rules configs u.
           (g.S.EventSink.Took c.take_own.new.sink) (g.S.EventSink.Took c.do_filed.new.sink)
           here (c.limit-limit.ensures.next e here) (u.next e here) within
           (c.in_ok-taken.ensures.left c.if-taken.false)
-          c.do_filed.ensures.released c.in_ok-do_filed-in-Some.ensures.timed u.moving;
+          c.do_filed.ensures.released c.in_ok-do_filed.ensures.timed u.moving;
       next = λ next at. next_of_file old.due.items old.taken e next old.sorted here at;
       near = omega (arith, within);
     }
