@@ -38,7 +38,7 @@ use Rattle.sim_air.specs.Runs.{SaysAsBefore}
 use Rattle.sim_air_model.specs.Timetable.{AirModel, Filed, Pending, Planned, Rules, Timetable}
 use Rattle.sim_air_model.specs.Timetable.{Traffic}
 use Rattle.sim_air_model.specs.Timetable.{at}
-use Rattle.sim_air_model.specs.Timetable.{NoneWaits, air_opening, air_run, by_file, delivery, given}
+use Rattle.sim_air_model.specs.Timetable.{NoneWaits, air_opening, by_file, delivery, given}
 use Rattle.sim_air_model.specs.Timetable.{draw}
 use Rattle.sim_air_model.specs.Timetable.{is_passed_over, of_file, schedule, schedule_all, sending}
 use Rattle.sim_air_model.specs.Timetable.{take_one, tick}

@@ -1,5 +1,5 @@
 -- One step of an air, as a queue takes it.
-use Rattle.std.proofs.Common.{◌≡◌, ℕ, ◌+◌, List, [], ◌∷◌, ◌++◌, sym, ap}
+use Rattle.std.proofs.Common.{◌≡◌, ℕ, List, [], ◌∷◌, ◌++◌, sym, ap}
 use Rattle.std.proofs.Common.{subst, drop, cond, Bool, true, false, map}
 use Rattle.std.specs.Prelude.{slice_get}
 use Rattle.its_model.specs.World.{Config, Event, WorldModel, opening, world_run}

@@ -1,5 +1,5 @@
 -- What keeps a run under way.
-use Rattle.std.proofs.Common.{◌≡◌, ℕ, zero, suc, ◌+◌, List, [], ◌∷◌, ◌++◌, Some, sym, ap}
+use Rattle.std.proofs.Common.{◌≡◌, ℕ, zero, suc, List, [], ◌∷◌, ◌++◌, Some, sym, ap}
 use Rattle.std.proofs.Common.{subst, ◌∙◌, take, refl}
 use Rattle.std.specs.Prelude.{slice_get}
 use denote.Ref.{Bor}

@@ -1,4 +1,4 @@
-use Rattle.std.proofs.Common.{rules, refl, sym, ◌+◌, List, ◌≤◌, ◌<◌, subst}
+use Rattle.std.proofs.Common.{rules, sym, ◌+◌, List, ◌≤◌, ◌<◌, subst}
 use denote.Ref.{Bor}
 use Rattle.std.proofs.lemmas.List.Sorted.{All-permutation, IsNonDecreasingBy-from_sort_by_key}
 use Rattle.std.proofs.lemmas.Fn.{always_returns_same}

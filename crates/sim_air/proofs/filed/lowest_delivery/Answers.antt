@@ -1,4 +1,4 @@
-use Rattle.std.proofs.Common.{◌++◌, ◌∷◌, [], ◌∙◌, ℕ, All, ap, arith, subst, sym, take, take_all}
+use Rattle.std.proofs.Common.{◌++◌, ◌∷◌, [], ◌∙◌, All, ap, arith, subst, sym, take, take_all}
 use Rattle.std.proofs.Math.Nat.{min-le_left, min-le_right}
 use Rattle.std.proofs.lemmas.List.{take_more}
 use Rattle.std.proofs.lemmas.List.Elements.{All-push}

@@ -1,5 +1,5 @@
-use Rattle.std.proofs.Common.{◌≡◌, ◌≤◌, ◌∙◌, ℕ, [], List, Bool, map, subst, sym, ap, arith}
-use Rattle.std.proofs.Common.{append-nil, take, false, All}
+use Rattle.std.proofs.Common.{◌∙◌, ℕ, [], List, Bool, map, subst, sym, arith}
+use Rattle.std.proofs.Common.{append-nil, All}
 use Rattle.sim_air.specs.Delivered.{KeepsFrom}
 use Rattle.std.specs.Prelude.{Vec}
 use Rattle.std.specs.declared.alloc.Global.{Global}
@@ -11,8 +11,6 @@ use Rattle.sim_scenario.specs.declared.events.event.FileEvent.{FileEvent}
 use Rattle.sim_air.specs.AirRun.{IsAirRun}
 use Rattle.sim_air.specs.AirTimed.{IsTimedRun, rules_of}
 use Rattle.sim_air.specs.Beside.{rules_beside}
-use Rattle.sim_air.specs.Filing.{IsFiling}
-use Rattle.sim_air.specs.Moving.{IsMoving}
 use Rattle.sim_air_model.specs.Timetable.{Filed, Rules}
 use Rattle.sim_queue.specs.Due.{AreDue}
 use Rattle.sim_queue.specs.Queues.{IsFiledInRange, filed_in, filed_of}

@@ -1,7 +1,6 @@
-use Rattle.std.proofs.Common.{◌+◌, ◌≤◌, ◌∙◌, arith, ap, subst, sym, ℕ}
-use Rattle.std.proofs.Math.Nat.{max-le, min-le_left, min-le_right}
+use Rattle.std.proofs.Common.{◌+◌, ◌≤◌, arith, subst, sym}
+use Rattle.std.proofs.Math.Nat.{min-le_left, min-le_right}
 use Rattle.std.specs.List.{AllByRecursion}
-use Rattle.std.specs.Prelude.{max, min}
 use Rattle.sim_air.specs.Moving.{Awaits}
 use Rattle.sim_air.proofs.Moved.{let_go, no_more}
 use Rattle.sim_air.proofs.frames.release_delivered.Goals as goal

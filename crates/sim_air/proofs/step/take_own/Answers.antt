@@ -1,4 +1,4 @@
-use Rattle.std.proofs.Common.{◌≤◌, ◌+◌, ◌∙◌, List, All, refl, arith, subst, sym}
+use Rattle.std.proofs.Common.{◌≤◌, List, All, refl, arith, subst, sym}
 use Rattle.sim_queue.specs.declared.scheduled.Scheduled.{Scheduled}
 use Rattle.sim_air.specs.Moving.{IsTaken}
 use Rattle.sim_air.specs.declared.run.Run.{Run}

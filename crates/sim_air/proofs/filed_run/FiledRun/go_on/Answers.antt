@@ -1,4 +1,4 @@
-use Rattle.std.proofs.Common.{◌≡◌, ◌≤◌, ◌+◌, ◌∙◌, ℕ, [], List, subst, sym, arith, length, All}
+use Rattle.std.proofs.Common.{◌≤◌, ◌+◌, ℕ, [], List, subst, arith, All}
 use Rattle.std.proofs.Common.{false, take, take_all}
 use Rattle.std.proofs.lemmas.List.{length-map}
 use denote.Ref.{Bor}
