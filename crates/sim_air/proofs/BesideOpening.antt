@@ -1,12 +1,14 @@
 -- The opening of a run beside which more comes.
 use Rattle.std.proofs.Common.{◌≡◌, ℕ, zero, suc, ◌+◌, ◌%◌, ◌≤◌, List, [], ◌∷◌, ◌++◌, map, refl}
-use Rattle.std.proofs.Common.{ap, ◌∙◌, arith, length, Bool, true, false, cond}
+use Rattle.std.proofs.Common.{ap, ◌∙◌, arith, length, Bool, true, false, cond, append-nil, subst}
+use Rattle.std.proofs.Common.{sym}
 use Rattle.std.specs.Prelude.{nat_le}
 use Rattle.std.specs.List.{AllByRecursion}
 use Rattle.std.proofs.lemmas.Bool.{leb-true, leb-false}
 use Rattle.std.proofs.lemmas.List.{length-append}
 use Rattle.its_model.specs.World.{Config}
-use Rattle.sim_air.specs.Beside.{absent, rules_beside, beside, Rises, InOrder, IsOwnOf, IsReached}
+use Rattle.sim_air.specs.Beside.{absent, rules_beside, beside, AreThere, Rises, InOrder, IsOwnOf}
+use Rattle.sim_air.specs.Beside.{AreKnown, IsReached, MayBeMade}
 use Rattle.sim_air_model.specs.Draws.{draws_of}
 use Rattle.sim_air_model.specs.Timetable.{Rules, Traffic, Filed, Pending, Timetable, of_file, draw}
 use Rattle.sim_air_model.specs.Timetable.{is_present, tick, schedule_tick, schedule_first_ticks}
@@ -14,7 +16,7 @@ use Rattle.sim_air_model.specs.Timetable.{sending}
 use Rattle.sim_air_model.specs.Timetable.{schedule_send}
 use Rattle.sim_air_model.specs.Timetable.{schedule_first_sends, schedule_traffic, with_file}
 use Rattle.sim_air_model.specs.Timetable.{with_ticks}
-use Rattle.sim_air_model.specs.Timetable.{air_opening}
+use Rattle.sim_air_model.specs.Timetable.{AirModel, air_opening}
 use Rattle.sim_air_model.specs.Timetable.Pending.{Does}
 use Rattle.sim_air.proofs.BesideOrder.{all_put, schedule_all_in_order, file_in_order}
 use Rattle.sim_air.proofs.BesideLater.{later, first_ticks, all_traffic}
@@ -195,25 +197,92 @@ opens_beside r configs made file until long rises =
         ∙ (all_traffic file r.present r.every (length configs)).same (with_ticks r configs [])
         in_turn
 
+-- so it is where no station is made, whoever is present
+opens_alone : (r : Rules) (configs : List Config) (file : List Filed) (until : ℕ) → Rises file
+    → air_opening (rules_beside [] until r) (configs ++ []) file
+    ≡ beside [] file (air_opening r configs [])
+opens_alone r configs file until rises =
+    ap (λ (cs : List Config). air_opening (rules_beside [] until r) cs file) (append-nil configs)
+    ∙ ap (λ (l : List Bool). air_opening (with_present l) configs file) (append-nil r.present)
+    ∙ ap (opened r.present) same
+    ∙ ap (λ (l : List Bool). opened l (later file (air_opening r configs []).timetable))
+    (sym (append-nil r.present))
+  where
+    with_present : List Bool → Rules
+    with_present l =
+        record {
+          range = r.range;
+          delay = r.delay;
+          loss = r.loss;
+          beacons = r.beacons;
+          seed = r.seed;
+          until = until;
+          every = r.every;
+          present = l;
+        }
+
+    opened : List Bool → Timetable → AirModel
+    opened l t = record { done = []; timetable = t; present = l }
+
+    ticks : Timetable → Timetable
+    ticks t = schedule_first_ticks r.present (cond r.beacons (length configs) 0) t
+
+    sends : Timetable → Timetable
+    sends t = schedule_traffic r.present r.every (length configs) t
+
+    filed : with_file (with_present r.present) file ≡ later file (with_file r [])
+    filed =
+        ap (λ (ws : List Pending). record { waiting = ws; draws = draws_of r.seed })
+        (schedule_all_in_order (map of_file file) (file_in_order file rises))
+
+    in_turn : InOrder (with_ticks r configs []).waiting
+    in_turn =
+        (first_ticks [] r.present (cond r.beacons (length configs) 0)).order (with_file r []) tt
+
+    same : sends (ticks (with_file (with_present r.present) file))
+        ≡ later file (sends (ticks (with_file r [])))
+    same =
+        ap (λ (t : Timetable). sends (ticks t)) filed
+        ∙ ap sends
+        ((first_ticks file r.present (cond r.beacons (length configs) 0)).same (with_file r []) tt)
+        ∙ (all_traffic file r.present r.every (length configs)).same (with_ticks r configs [])
+        in_turn
+
+-- so where any may be made
+opens_either : (grows : Bool) (r : Rules) (configs made : List Config) (file : List Filed)
+    (until : ℕ) → MayBeMade grows made → AreKnown grows configs r.present → Rises file
+    → air_opening (rules_beside made until r) (configs ++ made) file
+    ≡ beside made file (air_opening r configs [])
+opens_either true r configs made file until may long rises =
+    opens_beside r configs made file until long rises
+opens_either false r configs made file until may long rises =
+    subst (λ (m : List Config). air_opening (rules_beside m until r) (configs ++ m) file
+    ≡ beside m file (air_opening r configs [])) (sym may)
+    (opens_alone r configs file until rises)
+
 -- nothing is done yet, whatever comes
-pub reached_opening : (r : Rules) (configs : List Config) (from end : ℕ)
-    → length r.present ≡ length configs
-    → IsReached r configs 0 [] from end (air_opening r configs [])
-reached_opening r configs from end long =
+pub reached_opening : (grows : Bool) (r : Rules) (configs : List Config) (from end : ℕ)
+    → AreKnown grows configs r.present
+    → IsReached grows r configs 0 [] from end (air_opening r configs [])
+reached_opening grows r configs from end long =
     let ticks = cond r.beacons (length configs) 0 in
     record {
-      leads = λ made file until le rises is_from.
-          opens_beside r configs made file until long rises;
+      leads = λ made file until may le rises is_from.
+          opens_either grows r configs made file until may long rises;
       in_order = (all_traffic [] r.present r.every (length configs)).order
           (with_ticks r configs []) ((first_ticks [] r.present ticks).order (with_file r []) tt);
       own = traffic_own configs r.present r.every (length configs) (with_ticks r configs [])
           (omega arith) (ticks_own configs r.present ticks (with_file r []) (few r.beacons) tt);
-      done_there = λ k d lt. absurd (omega (arith, lt));
+      done_there = none_done grows;
       present = long;
       past_rises = tt;
       past_before = tt;
     }
   where
+    none_done : (b : Bool) → AreThere b configs []
+    none_done true = λ k d lt. absurd (omega (arith, lt))
+    none_done false = tt
+
     few : (b : Bool) → cond b (length configs) 0 ≤ length configs
     few true = omega arith
     few false = omega arith

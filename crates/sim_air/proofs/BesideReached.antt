@@ -1,15 +1,20 @@
 -- How far a run has come beside which more comes: where a station is made, and at its end.
-use Rattle.std.proofs.Common.{◌≡◌, ℕ, ◌≤◌, List, [], ◌∷◌, ◌++◌, sym, ap, ◌∙◌, subst, arith}
-use Rattle.std.proofs.Common.{Bool, false, append_assoc, append-nil}
+use Rattle.std.proofs.Common.{◌≡◌, ℕ, ◌≤◌, List, [], ◌∷◌, ◌++◌, refl, sym, ap, ◌∙◌, subst}
+use Rattle.std.proofs.Common.{arith, Bool, true, false, append_assoc, append-nil}
 use Rattle.std.proofs.lemmas.List.{length-append}
 use Rattle.its_model.specs.World.{Config}
-use Rattle.sim_air.specs.Beside.{absent, rules_beside, beside, IsOwnOf, IsReached}
+use Rattle.sim_air.specs.Beside.{absent, rules_beside, beside, IsOwnOf, IsReached, MayBeMade}
 use Rattle.sim_air_model.specs.Timetable.{Rules, Filed, Pending, AirModel, air_run}
 use Rattle.sim_air_model.specs.Timetable.{air_opening, NoneWaits, IsOver}
 use Rattle.sim_air_model.specs.Timetable.Pending.{Does, Departs}
 use Rattle.sim_air.proofs.BesideOrder.{all_by, schedule_all_in_order}
 use Rattle.sim_air.proofs.BesideMade.{still_there}
 use Rattle.sim_air.proofs.BesideSteps.{from_later, up_to_later}
+
+-- that none is made is always so
+none_made : (grows : Bool) → MayBeMade grows []
+none_made true = tt
+none_made false = refl
 
 own_more : (configs made : List Config) (p : Pending) → IsOwnOf configs p
     → IsOwnOf (configs ++ made) p
@@ -18,12 +23,12 @@ own_more configs made (Departs station moment) h = absurd h
 
 -- a station is made: so far it was there, and absent
 pub reached_made : (r : Rules) (configs : List Config) (n : ℕ) (past : List Filed)
-    (from end : ℕ) (a : AirModel) (c : Config) → IsReached r configs n past from end a
-    → IsReached (rules_beside (c ∷ []) r.until r) (configs ++ c ∷ []) n past from end
+    (from end : ℕ) (a : AirModel) (c : Config) → IsReached true r configs n past from end a
+    → IsReached true (rules_beside (c ∷ []) r.until r) (configs ++ c ∷ []) n past from end
     (record { done = a.done; timetable = a.timetable; present = a.present ++ false ∷ [] })
 reached_made r configs n past from end a c h =
     record {
-      leads = λ made file until le rises is_from. (
+      leads = λ made file until may le rises is_from. (
           let air_of : Rules → List Config → AirModel =
           λ q cs. air_run q cs n (air_opening q cs (past ++ file)) in
           ap (λ (l : List Bool). air_of (record {
@@ -37,7 +42,7 @@ reached_made r configs n past from end a c h =
             present = l;
           }) ((configs ++ c ∷ []) ++ made)) (append_assoc r.present (false ∷ []) (absent made))
           ∙ ap (air_of (rules_beside (c ∷ made) until r)) (append_assoc configs (c ∷ []) made)
-          ∙ h.leads (c ∷ made) file until le rises is_from
+          ∙ h.leads (c ∷ made) file until tt le rises is_from
           ∙ ap (λ (l : List Bool). record {
             done = a.done;
             timetable = (beside made file a).timetable;
@@ -56,13 +61,13 @@ reached_made r configs n past from end a c h =
     }
 
 -- it stays so up to a later moment, of what comes later
-pub reached_later : (r : Rules) (configs : List Config) (n : ℕ) (past : List Filed)
-    (from from' end end' : ℕ) (a : AirModel) → IsReached r configs n past from end a
-    → from ≤ from' → end ≤ end' → IsReached r configs n past from' end' a
-reached_later r configs n past from from' end end' a h later_from later_end =
+pub reached_later : (grows : Bool) (r : Rules) (configs : List Config) (n : ℕ) (past : List Filed)
+    (from from' end end' : ℕ) (a : AirModel) → IsReached grows r configs n past from end a
+    → from ≤ from' → end ≤ end' → IsReached grows r configs n past from' end' a
+reached_later grows r configs n past from from' end end' a h later_from later_end =
     record {
-      leads = λ made file until le rises is_from.
-          h.leads made file until (omega (arith, le, later_end)) rises
+      leads = λ made file until may le rises is_from.
+          h.leads made file until may (omega (arith, le, later_end)) rises
           (from_later from from' file later_from is_from);
       in_order = h.in_order;
       own = h.own;
@@ -87,15 +92,15 @@ rules_alone r =
     }) (append-nil r.present)
 
 -- nothing more waits up to the last moment: the run is over, and this was done
-pub reached_over : (r : Rules) (configs : List Config) (n : ℕ) (past : List Filed)
-    (from end : ℕ) (a : AirModel) → IsReached r configs n past from end a
+pub reached_over : (grows : Bool) (r : Rules) (configs : List Config) (n : ℕ) (past : List Filed)
+    (from end : ℕ) (a : AirModel) → IsReached grows r configs n past from end a
     → NoneWaits end a.timetable.waiting
     → IsOver (rules_beside [] end r)
     (air_run (rules_beside [] end r) configs n
     (air_opening (rules_beside [] end r) configs past))
     × ((air_run (rules_beside [] end r) configs n
     (air_opening (rules_beside [] end r) configs past)).done ≡ a.done)
-reached_over r configs n past from end a h none =
+reached_over grows r configs n past from end a h none =
     let rules = rules_beside [] end r in
     let air : AirModel = air_run rules configs n (air_opening rules configs past) in
     let same : air ≡ beside [] [] a =
@@ -103,7 +108,7 @@ reached_over r configs n past from end a h none =
     (sym (append-nil configs))
     ∙ ap (λ (l : List Filed). air_run rules (configs ++ []) n
     (air_opening rules (configs ++ []) l)) (sym (append-nil past))
-    ∙ h.leads [] [] end (omega arith) tt tt in (
+    ∙ h.leads [] [] end (none_made grows) (omega arith) tt tt in (
       subst (λ (x : AirModel). NoneWaits end x.timetable.waiting) (sym same)
           (subst (NoneWaits end) (sym (schedule_all_in_order a.timetable.waiting h.in_order)) none),
       ap (λ (x : AirModel). x.done) same,

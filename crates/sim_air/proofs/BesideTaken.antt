@@ -1,17 +1,22 @@
 -- What waits, what was done and who is present, once the first that waits was taken.
-use Rattle.std.proofs.Common.{◌≡◌, ℕ, ◌+◌, ◌%◌, ◌<◌, ◌≤◌, List, [], ◌∷◌, ◌++◌, refl, subst}
+use Rattle.std.proofs.Common.{◌≡◌, ℕ, ◌+◌, ◌%◌, ◌<◌, ◌≤◌, List, [], ◌∷◌, ◌++◌, refl, subst, ap}
+use Rattle.std.proofs.Common.{◌∙◌, ◌⊎◌, inl, inr, sym}
+use Rattle.std.proofs.lemmas.Bool.{cases_lt}
 use Rattle.std.proofs.Common.{arith, length, All, Bool, true, false, cond, Option, Some, None}
 use Rattle.std.specs.Prelude.{slice_get, slice_set, nat_lt, not, ◌&&◌, ◌==◌}
 use Rattle.std.specs.List.{filter, AllByRecursion}
 use Rattle.std.proofs.lemmas.List.Elements.{All-push}
+use Rattle.std.proofs.lemmas.Option.{slice_get_past}
 use Rattle.its_gnvalue.specs.Values.{Position}
 use Rattle.its_model.specs.Station.{StationModel}
-use Rattle.its_model.specs.World.{Config, Event, WorldModel, opening, world_run}
+use Rattle.its_model.specs.Calls.Refusal.{NoSuchStation}
+use Rattle.its_model.specs.World.{Config, Event, WorldModel, at_station, opening, passed_over}
+use Rattle.its_model.specs.World.{world_run, world_step}
 use Rattle.its_model.proofs.Lists.{length_set}
 use Rattle.sim_air_model.specs.Range.{is_within}
-use Rattle.sim_air.specs.Beside.{InOrder, IsOwnOf, station_of_pending}
+use Rattle.sim_air.specs.Beside.{AreThere, InOrder, IsOwnOf, IsThere, station_of_pending}
 use Rattle.sim_air_model.specs.Timetable.{Rules, Traffic, Pending, Planned, Timetable, AirModel}
-use Rattle.sim_air_model.specs.Timetable.{draw}
+use Rattle.sim_air_model.specs.Timetable.{by_file, draw, present_after}
 use Rattle.sim_air_model.specs.Timetable.{draw_and_schedule, draw_alone, delivery, send, send_all}
 use Rattle.sim_air_model.specs.Timetable.{tick}
 use Rattle.sim_air_model.specs.Timetable.{schedule_tick, sending, schedule_send, is_present}
@@ -24,6 +29,8 @@ use Rattle.sim_air_model.specs.Timetable.{none_waits}
 use Rattle.sim_air_model.specs.Timetable.{is_tick_of, is_send_of, come_ticking, come_sending}
 use Rattle.sim_air_model.specs.Timetable.{come_sending_all, come, comes, follow_all, after_one}
 use Rattle.sim_air_model.specs.Timetable.{is_passed_over, do_one, take_one}
+use Rattle.sim_air_model.specs.Timetable.{Filed, of_file}
+use Rattle.sim_air_model.specs.Timetable.Filed.{Happens, Leaves}
 use Rattle.sim_air_model.specs.Timetable.Pending.{Does, Departs}
 use Rattle.sim_air.proofs.BesideOrder.{all_put}
 use Rattle.sim_air.proofs.BesideLater.{one_after}
@@ -198,6 +205,53 @@ taken_own r configs a (Does p) t lt h =
     taken_all (IsOwnOf configs) r configs a p t (λ b j. (refl, lt)) (λ x m le. (refl, lt))
     (λ k j is there. (refl, there)) h
 
+-- ---- an event of a station that isn't there
+
+run_push : (es : List Event) (w : WorldModel) (e : Event)
+    → world_run w (es ++ e ∷ []) ≡ world_step (world_run w es) e
+run_push [] w e = refl
+run_push (x ∷ es) w e = run_push es (world_step w x) e
+
+-- the world refuses it
+refused_away : (configs : List Config) (es : List Event) (e : Event)
+    → length configs ≤ e.station
+    → world_run (opening configs) (es ++ e ∷ [])
+    ≡ passed_over (world_run (opening configs) es) e NoSuchStation
+refused_away configs es e le =
+    let w = world_run (opening configs) es in
+    let many = stations_of_run configs es in
+    run_push es (opening configs) e
+    ∙ ap (at_station w e) (slice_get_past w.stations e.station (omega (arith, le, many)))
+
+-- nothing follows it
+pub taken_away : (r : Rules) (configs : List Config) (a : AirModel) (e : Event) (t : Timetable)
+    → length configs ≤ e.station
+    → take_one r configs a (Does (by_file e)) t
+    ≡ record { done = a.done ++ e ∷ []; timetable = t; present = a.present }
+taken_away r configs a e t le =
+    ap (λ (w : WorldModel). record {
+      done = a.done ++ e ∷ [];
+      timetable = after_one r a.present (by_file e) w t;
+      present = present_after a.present e w;
+    }) (refused_away configs a.done e le)
+
+-- ---- what waits is in order
+
+-- what comes leaves only the air's own waiting, of stations that are there
+pub coming_own : (r : Rules) (configs : List Config) (a : AirModel) (f : Filed) (t : Timetable)
+    → AllByRecursion (IsOwnOf configs) t.waiting
+    → AllByRecursion (IsOwnOf configs) (take_one r configs a (of_file f) t).timetable.waiting
+coming_own r configs a (Leaves station moment) t h = h
+coming_own r configs a (Happens e) t h = either (cases_lt e.station (length configs))
+  where
+    either : (e.station < length configs) ⊎ (length configs ≤ e.station)
+        → AllByRecursion (IsOwnOf configs)
+        (take_one r configs a (Does (by_file e)) t).timetable.waiting
+    either (inl lt) = taken_own r configs a (Does (by_file e)) t lt h
+    either (inr le) =
+        subst (λ (x : AirModel). AllByRecursion (IsOwnOf configs) x.timetable.waiting)
+        (sym (taken_away r configs a e t le)) h
+
 -- it waits in order
 pub taken_in_order : (r : Rules) (configs : List Config) (a : AirModel) (p : Pending)
     (t : Timetable) → InOrder t.waiting
@@ -215,12 +269,12 @@ taken_in_order r configs a (Does p) t h = by (is_passed_over a.present p)
 
 -- ---- what was done
 
-pub taken_there : (r : Rules) (configs : List Config) (a : AirModel) (p : Pending)
-    (t : Timetable) → station_of_pending p < length configs
-    → All (λ e. e.station < length configs) a.done
-    → All (λ e. e.station < length configs) (take_one r configs a p t).done
-taken_there r configs a (Departs station moment) t lt h = h
-taken_there r configs a (Does p) t lt h = by (is_passed_over a.present p)
+pub taken_there : (grows : Bool) (r : Rules) (configs : List Config) (a : AirModel) (p : Pending)
+    (t : Timetable) → IsThere grows (length configs) (station_of_pending p)
+    → AreThere grows configs a.done → AreThere grows configs (take_one r configs a p t).done
+taken_there false r configs a p t lt h = tt
+taken_there true r configs a (Departs station moment) t lt h = h
+taken_there true r configs a (Does p) t lt h = by (is_passed_over a.present p)
   where
     by : (b : Bool) → All (λ e. e.station < length configs) (cond b
         (record { done = a.done; timetable = t; present = a.present })

@@ -16,3 +16,4 @@ pub mod Ranges
 pub mod Moved
 pub mod UnderRows
 pub mod Outside
+pub mod Filing

@@ -20,13 +20,13 @@ use Rattle.its_world.specs.State.{WorldState, RepresentsWorld}
 use Rattle.its_world.specs.Steps.{IsKept}
 use Rattle.sim_air_model.specs.Timetable.{moment_in}
 use Rattle.sim_air.specs.AirTimed.{IsTimedRun}
-use Rattle.sim_air.specs.Beside.{IsOwnOf, InOrder, rules_beside, absent}
+use Rattle.sim_air.specs.Beside.{AreKnown, IsOwnOf, InOrder, IsThere, rules_beside, absent}
 use Rattle.sim_air.specs.Beside.{station_of_pending}
 use Rattle.sim_queue.specs.Files.{filed_due}
 use Rattle.sim_air.specs.Keeps.{GoesBy, IsTimed}
 use Rattle.sim_queue.specs.Keeps.{Keeps}
 use Rattle.sim_air.specs.Moving.{Awaits, AwaitsFrame, IsMoving, IsMovedRun, IsTaken, DoesAt}
-use Rattle.sim_air.specs.Moving.{DoesTaken, without_first}
+use Rattle.sim_air.specs.Moving.{DoesTaken, StaysMoving, without_first}
 use Rattle.sim_air.specs.Outside.{IsOutside, station_of_filed}
 use Rattle.sim_queue.specs.Queues.{filed_in, filed_of}
 use Rattle.sim_queue.specs.Waiting.{own_of, waiting_cmp}
@@ -38,7 +38,7 @@ use Rattle.sim_air.specs.Runs.{SaysAsBefore}
 use Rattle.sim_air_model.specs.Timetable.{AirModel, Filed, Pending, Planned, Rules, Timetable}
 use Rattle.sim_air_model.specs.Timetable.{Traffic}
 use Rattle.sim_air_model.specs.Timetable.{at}
-use Rattle.sim_air_model.specs.Timetable.{NoneWaits, air_opening, air_run, by_file, delivery, given}
+use Rattle.sim_air_model.specs.Timetable.{NoneWaits, air_opening, by_file, delivery, given}
 use Rattle.sim_air_model.specs.Timetable.{draw}
 use Rattle.sim_air_model.specs.Timetable.{is_passed_over, of_file, schedule, schedule_all, sending}
 use Rattle.sim_air_model.specs.Timetable.{take_one, tick}
@@ -60,7 +60,9 @@ use Rattle.sim_air.proofs.BesideTaken.{taken_all}
 use Rattle.sim_queue.proofs.Keeping.{waits_at}
 use Rattle.sim_air.proofs.Keeping.{goes_on}
 use Rattle.sim_air.proofs.BesideMade.{stations_of_run}
-use Rattle.sim_air.proofs.Under.{told_on}
+use Rattle.sim_air.proofs.Among.{among_longer}
+use Rattle.sim_air.proofs.Under.{among_line, told_on}
+use Rattle.sim_air.specs.AirRun.{AreAmong, events_in}
 use Rattle.sim_queue.proofs.Waits.{waits_none, waits_own}
 use Rattle.std.proofs.Common.{◌⊎◌, inl, inr}
 use Rattle.std.proofs.Math.Nat.{le-max_left, max-le, min-le_left}
@@ -78,11 +80,11 @@ as_many configs events world Took h =
     ∙ stations_of_run configs events
 
 -- of a run that is under way: those of the scenario and those that were made
-pub stations_made : (rules : Rules) (configs made : List Config) (past : List Filed)
+pub stations_made : (grows : Bool) (rules : Rules) (configs made : List Config) (past : List Filed)
     (last from end counted by : ℕ) (run : Run) (A : List Event → List Entry → Type 0)
-    → IsMoving rules configs made past last from end counted by run A
+    → IsMoving grows rules configs made past last from end counted by run A
     → length run.world.stations ≡ length configs + length made
-stations_made rules configs made past last from end counted by run A h =
+stations_made grows rules configs made past last from end counted by run A h =
     as_many h.all h.air.done run.world A h.timed.told ∙ ap length h.are_all
     ∙ length-append configs made
 
@@ -185,7 +187,7 @@ keeps_alone old new words t due taken until schedule heap h =
       draws = h.draws;
     }
 
-all_from_first : (m : ℕ) (ws : List Pending) → InOrder ws → NoneWaits m ws
+pub all_from_first : (m : ℕ) (ws : List Pending) → InOrder ws → NoneWaits m ws
     → AllByRecursion (λ p. suc m ≤ at p) ws
 all_from_first m [] order none = tt
 all_from_first m (p ∷ ws) order none =
@@ -330,18 +332,31 @@ no_fewer_after now all a p t = by (is_passed_over a.present p)
 
 -- ---- steps
 
--- what a run with moves has once what came from outside was taken
-coming_taken : (rules : Rules) (configs made : List Config) (past : List Filed) (f : Filed)
-    (end counted by : ℕ)
+-- those before are among what was done, once one of the air's own was taken
+among_after : (now : Rules) (all : List Config) (a : AirModel) (p : Planned) (t : Timetable)
+    (events : List Event) → AreAmong events a.done
+    → AreAmong events (take_one now all a (Does p) t).done
+among_after now all a p t events h = by (is_passed_over a.present p)
+  where
+    by : (b : Bool) → AreAmong events (cond b
+        (record { done = a.done; timetable = t; present = a.present })
+        (do_one now all a p t)).done
+    by true = h
+    by false = among_longer events a.done (p.event ∷ []) h
+
+-- what a run has once what came from outside was taken
+coming_taken : (grows : Bool) (rules : Rules) (configs made : List Config) (past : List Filed)
+    (f : Filed) (end counted by : ℕ)
     (old new : Run) (A B : List Event → List Entry → Type 0) → moment_in f ≤ end
-    → station_of_pending (of_file f) < length old.world.stations
+    → IsThere grows (length old.world.stations) (station_of_pending (of_file f))
     → new.world.released ≡ old.world.released
     → ((r : Rules) (cs : List Config) (a : AirModel) → IsTimed r cs a old A
     → IsTimed r cs (take_one r cs a (of_file f) a.timetable) new B)
-    → IsMoving rules configs made past (moment_in f) (moment_in f) end counted by old A
-    → IsMoving rules configs made (past ++ f ∷ []) (moment_in f) (moment_in f) end counted by new B
-coming_taken rules configs made past (Happens e) end counted by old new A B within there released
-    does h =
+    → IsMoving grows rules configs made past (moment_in f) (moment_in f) end counted by old A
+    → IsMoving grows rules configs made (past ++ f ∷ []) (moment_in f) (moment_in f) end counted by
+    new B
+coming_taken grows rules configs made past (Happens e) end counted by old new A B within there
+    released does h =
     let many = as_many h.all h.air.done old.world A h.timed.told in
     let kept = released_of h.all h.air.done old.world A h.timed.told in
     record {
@@ -353,8 +368,9 @@ coming_taken rules configs made past (Happens e) end counted by old new A B with
       air = take_one h.now h.all h.air (Does (by_file e)) h.air.timetable;
       timed = does h.now h.all h.air h.timed;
       reached =
-          reached_coming h.now h.all h.steps past e.moment end end h.air (Happens e) h.reached
-          (omega arith) h.since (omega arith) within (omega (arith, many, there));
+          reached_coming grows h.now h.all h.steps past e.moment end end h.air (Happens e)
+          h.reached (omega arith) h.since (omega arith) within
+          (subst (λ n. IsThere grows n e.station) many there);
       recent = omega arith;
       near = omega arith;
       since = since_after h.now h.all h.air (by_file e) h.air.timetable h.since;
@@ -366,9 +382,10 @@ coming_taken rules configs made past (Happens e) end counted by old new A B with
       few =
           let more = no_fewer_after h.now h.all h.air (by_file e) h.air.timetable in
           let were = h.few in omega (arith, more, were);
+      among = among_line past h.air.done (Happens e) h.among;
     }
-coming_taken rules configs made past (Leaves n m) end counted by old new A B within there released
-    does h =
+coming_taken grows rules configs made past (Leaves n m) end counted by old new A B within there
+    released does h =
     let many = as_many h.all h.air.done old.world A h.timed.told in
     record {
       all = h.all;
@@ -379,8 +396,8 @@ coming_taken rules configs made past (Leaves n m) end counted by old new A B wit
       air = take_one h.now h.all h.air (Departs n m) h.air.timetable;
       timed = does h.now h.all h.air h.timed;
       reached =
-          reached_coming h.now h.all h.steps past m end end h.air (Leaves n m) h.reached
-          (omega arith) h.since (omega arith) within (omega (arith, many, there));
+          reached_coming grows h.now h.all h.steps past m end end h.air (Leaves n m) h.reached
+          (omega arith) h.since (omega arith) within (subst (λ k. IsThere grows k n) many there);
       recent = omega arith;
       near = omega arith;
       since = h.since;
@@ -388,36 +405,49 @@ coming_taken rules configs made past (Leaves n m) end counted by old new A B wit
           subst (λ k. AllByRecursion (Awaits k counted by (m + h.now.delay))
           h.air.timetable.waiting) (sym released) h.frames;
       few = h.few;
+      among =
+          subst (AreAmong (events_in (past ++ Leaves n m ∷ []))) (append-nil h.air.done)
+          (among_line past h.air.done (Leaves n m) h.among);
     }
 
-pub comes_at : (f : Filed) (old new : Run) (A B : List Event → List Entry → Type 0)
-    → station_of_pending (of_file f) < length old.world.stations
+pub comes_at : (grows : Bool) (f : Filed) (old new : Run) (A B : List Event → List Entry → Type 0)
+    → IsThere grows (length old.world.stations) (station_of_pending (of_file f))
     → new.world.released ≡ old.world.released
     → ((r : Rules) (cs : List Config) (a : AirModel) → IsTimed r cs a old A
     → IsTimed r cs (take_one r cs a (of_file f) a.timetable) new B)
-    → DoesAt (moment_in f) (f ∷ []) old A new B
-comes_at f old new A B there released does = λ rules configs made past end counted by within h.
-    coming_taken rules configs made past f end counted by old new A B within there released does h
+    → DoesAt grows (moment_in f) (f ∷ []) old A new B
+comes_at grows f old new A B there released does = λ rules configs made past end counted by within
+    h.
+    coming_taken grows rules configs made past f end counted by old new A B within there released
+    does h
+
+-- a station that is there is there, whether stations may be made or not
+pub is_there : (grows : Bool) (count station : ℕ) → station < count → IsThere grows count station
+is_there true count station lt = lt
+is_there false count station lt = tt
 
 -- the same of an event
-pub event_comes_at : (e : Event) (old new : Run) (A B : List Event → List Entry → Type 0)
+pub event_comes_at : (grows : Bool) (e : Event) (old new : Run)
+    (A B : List Event → List Entry → Type 0)
     → e.station < length old.world.stations → new.world.released ≡ old.world.released
     → ((r : Rules) (cs : List Config) (a : AirModel) → IsTimed r cs a old A
     → IsTimed r cs (take_one r cs a (Does (by_file e)) a.timetable) new B)
-    → DoesAt e.moment (Happens e ∷ []) old A new B
-event_comes_at e old new A B there released does =
-    comes_at (Happens e) old new A B there released does
+    → DoesAt grows e.moment (Happens e ∷ []) old A new B
+event_comes_at grows e old new A B there released does =
+    comes_at grows (Happens e) old new A B
+    (is_there grows (length old.world.stations) e.station there) released does
 
 -- where it was done well
-pub comes_well : {X E : Type 0} (result : Result X E) (f : Filed) (old new : Run)
+pub comes_well : {X E : Type 0} (result : Result X E) (grows : Bool) (f : Filed) (old new : Run)
     (A B : List Event → List Entry → Type 0)
-    → station_of_pending (of_file f) < length old.world.stations
+    → IsThere grows (length old.world.stations) (station_of_pending (of_file f))
     → new.world.released ≡ old.world.released
     → ((r : Rules) (cs : List Config) (a : AirModel) → IsTimed r cs a old A
     → OnOk result (IsTimed r cs (take_one r cs a (of_file f) a.timetable) new B))
-    → OnOk result (DoesAt (moment_in f) (f ∷ []) old A new B)
-comes_well (Ok x) f old new A B there released does = comes_at f old new A B there released does
-comes_well (Err e) f old new A B there released does = tt
+    → OnOk result (DoesAt grows (moment_in f) (f ∷ []) old A new B)
+comes_well (Ok x) grows f old new A B there released does =
+    comes_at grows f old new A B there released does
+comes_well (Err e) grows f old new A B there released does = tt
 
 pub same_station : (f : FileEvent) → station_of_pending (of_file (filed_of f)) ≡ station_in f
 same_station (files.Happens e) = refl
@@ -428,10 +458,10 @@ station_filed (files.Happens e) = refl
 station_filed (files.Leaves station moment) = refl
 
 -- nothing comes
-pub none_at : (moment : ℕ) (run : Run) (A : List Event → List Entry → Type 0)
-    → DoesAt moment [] run A run A
-none_at moment run A = λ rules configs made past end counted by within h.
-    subst (λ (p : List Filed). IsMoving rules configs made p moment moment end counted by run A)
+pub none_at : (grows : Bool) (moment : ℕ) (run : Run) (A : List Event → List Entry → Type 0)
+    → DoesAt grows moment [] run A run A
+none_at grows moment run A = λ rules configs made past end counted by within h.
+    subst (λ (p : List Filed). IsMoving grows rules configs made p moment moment end counted by run A)
     (sym (append-nil past)) h
 
 -- the first of the air's own is done
@@ -440,7 +470,7 @@ pub own_taken : (w : Scheduled) (old new : Run) (A B : List Event → List Entry
     → ((r : Rules) (cs : List Config) (a : AirModel) → IsTimed r cs a old A
     → IsTimed r cs (take_one r cs a (pending_of w) a.timetable) new B)
     → DoesTaken w old A new B
-own_taken w old new A B released does = λ rules configs made past from end counted by h.
+own_taken w old new A B released does = λ grows rules configs made past from end counted by h.
     let kept = released_of h.all h.air.done old.world A h.timed.told in
     let t : Timetable = record { waiting = h.rest; draws = h.air.timetable.draws } in
     let order : InOrder (pending_of w ∷ h.rest) = subst InOrder h.first h.reached.in_order in
@@ -454,7 +484,7 @@ own_taken w old new A B released does = λ rules configs made past from end coun
       timed = does h.now h.all (without_first h.air h.rest) h.timed;
       reached =
           let near = h.recent in
-          reached_own h.now h.all h.steps past from (w.moment + 1) end end h.air (planned_of w)
+          reached_own grows h.now h.all h.steps past from (w.moment + 1) end end h.air (planned_of w)
           h.rest h.reached h.first near (omega arith) (omega arith) h.within;
       recent = omega arith;
       near = omega arith;
@@ -467,6 +497,7 @@ own_taken w old new A B released does = λ rules configs made past from end coun
       few =
           let more = no_fewer_after h.now h.all h.air (planned_of w) t in
           let were = h.few in omega (arith, more, were);
+      among = among_after h.now h.all h.air (planned_of w) t (events_in past) h.among;
     }
 
 -- where it was done well
@@ -479,12 +510,12 @@ own_well (Ok x) w old new A B released does = own_taken w old new A B released d
 own_well (Err e) w old new A B released does = tt
 
 -- its station is there
-taken_there : (rules : Rules) (configs made : List Config) (past : List Filed)
+taken_there : (grows : Bool) (rules : Rules) (configs made : List Config) (past : List Filed)
     (from end counted by : ℕ) (w : Scheduled)
     (run : Run) (A : List Event → List Entry → Type 0)
-    → IsTaken rules configs made past from end counted by w run A
+    → IsTaken grows rules configs made past from end counted by w run A
     → w.station < length run.world.stations
-taken_there rules configs made past from end counted by w run A h =
+taken_there grows rules configs made past from end counted by w run A h =
     let own : AllByRecursion (IsOwnOf h.all) (pending_of w ∷ h.rest) =
     subst (AllByRecursion (IsOwnOf h.all)) h.first h.reached.own in
     let many = as_many h.all h.air.done run.world A h.timed.told in
@@ -500,8 +531,8 @@ pub always_done : (w : Scheduled) (can : Bool) (run : Run) (A B : List Event →
     → (w.station < length run.world.stations → IsKept run.world.released (own_of w.own)
     → can ≡ true)
     → can ≡ false → DoesTaken w run A run B
-always_done w can run A B does not = λ rules configs made past from end counted by h.
-    let is = does (taken_there rules configs made past from end counted by w run A h)
+always_done w can run A B does not = λ grows rules configs made past from end counted by h.
+    let is = does (taken_there grows rules configs made past from end counted by w run A h)
     (kept_of run.world.released counted by (w.moment + h.now.delay) w.moment (own_of w.own)
     h.frames.0) in
     let no : ⊥ = cc in absurd no
@@ -517,7 +548,7 @@ frames_in_all world w h =
 -- ---- between the steps
 
 -- the first of the air's own was taken from what waits, and isn't done yet
-pub is_taken : (rules : Rules) (configs made : List Config) (past : List Filed)
+pub is_taken : (grows : Bool) (rules : Rules) (configs made : List Config) (past : List Filed)
     (last from end counted by : ℕ)
     (old new : Run) (A : List Event → List Entry → Type 0) (w : Scheduled) → new.air ≡ old.air
     → new.every ≡ old.every → new.world ≡ old.world → new.present ≡ old.present
@@ -525,9 +556,9 @@ pub is_taken : (rules : Rules) (configs made : List Config) (past : List Filed)
     → new.queue.until ≡ old.queue.until → new.queue.pushed ≡ old.queue.pushed
     → IsPermutation old.queue.own (w ∷ new.queue.own)
     → IsUpperBound waiting_cmp w new.queue.own → w.moment ≤ end
-    → IsMoving rules configs made past last from end counted by old A
-    → IsTaken rules configs made past from end counted by w new A
-is_taken rules configs made past last from end counted by old new A w air every world present
+    → IsMoving grows rules configs made past last from end counted by old A
+    → IsTaken grows rules configs made past from end counted by w new A
+is_taken grows rules configs made past last from end counted by old new A w air every world present
     draws due
     taken
     until schedule moves first within h =
@@ -571,10 +602,11 @@ is_taken rules configs made past last from end counted by old new A w air every 
           (subst (AllByRecursion (Awaits old.world.released counted by (last + h.now.delay)))
           got.1 h.frames));
       few = h.few;
+      among = h.among;
     }
 
 -- frames were let go while it was taken
-pub still_taken : (rules : Rules) (configs made : List Config) (past : List Filed)
+pub still_taken : (grows : Bool) (rules : Rules) (configs made : List Config) (past : List Filed)
     (from end counted by counted' by' : ℕ)
     (old new : Run) (A : List Event → List Entry → Type 0) (w : Scheduled) → new.air ≡ old.air
     → new.every ≡ old.every → new.queue ≡ old.queue → new.draws ≡ old.draws
@@ -585,9 +617,9 @@ pub still_taken : (rules : Rules) (configs made : List Config) (past : List File
     → ((waiting : List Pending) → AllByRecursion (λ p. w.moment ≤ at p) waiting
     → AllByRecursion (Awaits old.world.released counted by (w.moment + old.air.delay)) waiting
     → AllByRecursion (Awaits new.world.released counted' by' (w.moment + old.air.delay)) waiting)
-    → IsTaken rules configs made past from end counted by w old A
-    → IsTaken rules configs made past from end counted' by' w new A
-still_taken rules configs made past from end counted by counted' by' old new A w air every queue
+    → IsTaken grows rules configs made past from end counted by w old A
+    → IsTaken grows rules configs made past from end counted' by' w new A
+still_taken grows rules configs made past from end counted by counted' by' old new A w air every queue
     draws
     present
     stands count frames h =
@@ -639,24 +671,17 @@ still_taken rules configs made past from end counted by counted' by' old new A w
       few =
           count (length (world_run (opening h.all) h.air.done).air) h.few
           (frames_in_all old.world (world_run (opening h.all) h.air.done) told.stands);
+      among = h.among;
     }
 
--- none was taken: what comes from outside is the next
-pub is_next : (rules : Rules) (configs made : List Config) (past : List Filed)
-    (last from end counted by moment : ℕ)
-    (old new : Run) (A : List Event → List Entry → Type 0) → new.air ≡ old.air
+-- none was taken
+pub stays_moving : (old new : Run) (A : List Event → List Entry → Type 0) → new.air ≡ old.air
     → new.every ≡ old.every → new.world ≡ old.world → new.present ≡ old.present
     → new.draws ≡ old.draws → new.queue.due ≡ old.queue.due → new.queue.taken ≡ old.queue.taken
     → new.queue.until ≡ old.queue.until → new.queue.pushed ≡ old.queue.pushed
-    → new.queue.own ≡ old.queue.own
-    → All (λ w. moment ≤ w.moment) old.queue.own → from ≤ moment
-    → IsMoving rules configs made past last from end counted by old A
-    → IsMoving rules configs made past moment moment end counted by new A
-is_next rules configs made past last from end counted by moment old new A air every world present
-    draws
-    due
-    taken until schedule heap late le h =
-    let recent = h.recent in
+    → new.queue.own ≡ old.queue.own → StaysMoving old A new A
+stays_moving old new A air every world present draws due taken until schedule heap =
+    λ grows rules configs made past last from end counted by h.
     record {
       all = h.all;
       now = h.now;
@@ -675,29 +700,25 @@ is_next rules configs made past last from end counted by moment old new A air ev
                 heap
                 h.timed.keeps);
           };
-      reached = reached_later h.now h.all h.steps past from moment end end h.air h.reached le
-          (omega arith);
-      recent = omega arith;
-      near = omega arith;
-      since = waits_from h.all old.queue old.draws h.air.timetable moment late h.reached.own
-          h.reached.in_order h.timed.keeps;
+      reached = h.reached;
+      recent = h.recent;
+      near = h.near;
+      since = h.since;
       frames =
           subst (λ (x : WorldState). AllByRecursion (Awaits x.released counted by
-          (moment + h.now.delay)) h.air.timetable.waiting) (sym world)
-          (all_by (Awaits old.world.released counted by (last + h.now.delay))
-          (Awaits old.world.released counted by (moment + h.now.delay)) h.air.timetable.waiting
-          (awaits_later old.world.released counted by (last + h.now.delay)
-          (moment + h.now.delay) (omega (arith, recent, le))) h.frames);
+          (last + h.now.delay)) h.air.timetable.waiting) (sym world) h.frames;
       few = h.few;
+      among = h.among;
     }
 
--- rows were read: the last moment is later, perhaps
-pub ends_later : (rules : Rules) (configs made : List Config) (past : List Filed)
-    (last from end end' counted by : ℕ)
-    (run : Run) (A : List Event → List Entry → Type 0) → end ≤ end'
-    → IsMoving rules configs made past last from end counted by run A
-    → IsMoving rules configs made past last from end' counted by run A
-ends_later rules configs made past last from end end' counted by run A le h =
+-- what comes from outside is the next
+pub comes_to : (grows : Bool) (rules : Rules) (configs made : List Config) (past : List Filed)
+    (last from end counted by moment : ℕ) (run : Run) (A : List Event → List Entry → Type 0)
+    → All (λ w. moment ≤ w.moment) run.queue.own → from ≤ moment
+    → IsMoving grows rules configs made past last from end counted by run A
+    → IsMoving grows rules configs made past moment moment end counted by run A
+comes_to grows rules configs made past last from end counted by moment run A late le h =
+    let recent = h.recent in
     record {
       all = h.all;
       now = h.now;
@@ -706,22 +727,53 @@ ends_later rules configs made past last from end end' counted by run A le h =
       steps = h.steps;
       air = h.air;
       timed = h.timed;
-      reached = reached_later h.now h.all h.steps past from from end end' h.air h.reached
+      reached = reached_later grows h.now h.all h.steps past from moment end end h.air h.reached le
+          (omega arith);
+      recent = omega arith;
+      near = omega arith;
+      since = waits_from h.all run.queue run.draws h.air.timetable moment late h.reached.own
+          h.reached.in_order h.timed.keeps;
+      frames =
+          all_by (Awaits run.world.released counted by (last + h.now.delay))
+          (Awaits run.world.released counted by (moment + h.now.delay)) h.air.timetable.waiting
+          (awaits_later run.world.released counted by (last + h.now.delay)
+          (moment + h.now.delay) (omega (arith, recent, le))) h.frames;
+      few = h.few;
+      among = h.among;
+    }
+
+-- rows were read: the last moment is later, perhaps
+pub ends_later : (grows : Bool) (rules : Rules) (configs made : List Config) (past : List Filed)
+    (last from end end' counted by : ℕ)
+    (run : Run) (A : List Event → List Entry → Type 0) → end ≤ end'
+    → IsMoving grows rules configs made past last from end counted by run A
+    → IsMoving grows rules configs made past last from end' counted by run A
+ends_later grows rules configs made past last from end end' counted by run A le h =
+    record {
+      all = h.all;
+      now = h.now;
+      are_all = h.are_all;
+      are_now = h.are_now;
+      steps = h.steps;
+      air = h.air;
+      timed = h.timed;
+      reached = reached_later grows h.now h.all h.steps past from from end end' h.air h.reached
           (omega arith) le;
       recent = h.recent;
       near = h.near;
       since = h.since;
       frames = h.frames;
       few = h.few;
+      among = h.among;
     }
 
 -- the sink was told more, of which it says nothing
-pub says_moving : (rules : Rules) (configs made : List Config) (past : List Filed)
+pub says_moving : (grows : Bool) (rules : Rules) (configs made : List Config) (past : List Filed)
     (last from end counted by : ℕ)
     (run : Run) (A B : List Event → List Entry → Type 0) → SaysAsBefore A B
-    → IsMoving rules configs made past last from end counted by run A
-    → IsMoving rules configs made past last from end counted by run B
-says_moving rules configs made past last from end counted by run A B says h =
+    → IsMoving grows rules configs made past last from end counted by run A
+    → IsMoving grows rules configs made past last from end counted by run B
+says_moving grows rules configs made past last from end counted by run A B says h =
     record {
       all = h.all;
       now = h.now;
@@ -742,6 +794,7 @@ says_moving rules configs made past last from end counted by run A B says h =
       since = h.since;
       frames = h.frames;
       few = h.few;
+      among = h.among;
     }
 
 -- ---- stations that are made
@@ -777,8 +830,8 @@ pub one_made : (rules : Rules) (configs made : List Config) (past : List Filed)
     → new.world.released ≡ old.world.released
     → ((cs : List Config) (events : List Event) → IsSimulation cs events old.world
     → All (λ e. e.station < length cs) events → IsSimulation (cs ++ c ∷ []) events new.world)
-    → IsMoving rules configs made past last from end counted by old A
-    → IsMoving rules configs (made ++ c ∷ []) past last from end counted by new A
+    → IsMoving true rules configs made past last from end counted by old A
+    → IsMoving true rules configs (made ++ c ∷ []) past last from end counted by new A
 one_made rules configs made past last from end counted by old new A c air every queue draws present
     released
     adds h =
@@ -829,6 +882,7 @@ one_made rules configs made past last from end counted by old new A c air every 
           h.air.timetable.waiting) (sym released) h.frames;
       few =
           subst (λ (w : WorldModel). counted ≤ length w.air) (sym same) h.few;
+      among = h.among;
     }
 
 -- ---- the beginning and the end
@@ -892,15 +946,15 @@ all_rules r =
     }) (sym (append-nil r.present))
 
 -- nothing is done yet
-pub begun : (rules : Rules) (configs : List Config) (end : ℕ) (run : Run)
-    (Took : List Event → List Entry → Type 0) → length rules.present ≡ length configs
+pub begun : (grows : Bool) (rules : Rules) (configs : List Config) (end : ℕ) (run : Run)
+    (Took : List Event → List Entry → Type 0) → AreKnown grows configs rules.present
     → GoesBy rules run → run.present.items ≡ rules.present
     → RepresentsWorld run.world (opening configs) → HoldsOfSchedules configs (opening configs)
     → Keeps run.queue run.draws (air_opening rules configs []).timetable
     → run.world.released ≡ 0 → Took [] []
-    → IsMoving rules configs [] [] 0 0 end 0 0 run Took
-begun rules configs end run Took long goes present stands laws keeps released took =
-    let opened = reached_opening rules configs 0 end long in
+    → IsMoving grows rules configs [] [] 0 0 end 0 0 run Took
+begun grows rules configs end run Took long goes present stands laws keeps released took =
+    let opened = reached_opening grows rules configs 0 end long in
     record {
       all = configs;
       now = rules;
@@ -927,9 +981,10 @@ begun rules configs end run Took long goes present stands laws keeps released to
           (air_opening rules configs []).timetable.waiting
           (awaits_later 0 0 0 0 (0 + rules.delay) (omega arith)) (opening_awaits rules configs));
       few = omega arith;
+      among = tt;
     }
 
-rules_at_end : (r : Rules) (made : List Config) (end : ℕ) (now : Rules)
+pub rules_at_end : (r : Rules) (made : List Config) (end : ℕ) (now : Rules)
     → now ≡ rules_beside made r.until r → rules_beside [] end now ≡ rules_beside made end r
 rules_at_end r made end now is =
     ap (λ (x : Rules). rules_beside [] end x) is
@@ -945,20 +1000,15 @@ rules_at_end r made end now is =
     }) (append-nil (r.present ++ absent made))
 
 -- Nothing waits up to the last moment, and nothing comes any more: it is the run of an air.
-pub ended : (rules : Rules) (configs made : List Config) (past : List Filed)
-    (last from end counted by : ℕ) (run : Run)
-    (A : List Event → List Entry → Type 0) (moves : Moves) (asked : List AddressedEvent)
-    (given : Option ℕ) → IfSome given (λ moment. end ≡ moment)
+pub timed_at_end : (grows : Bool) (rules : Rules) (configs made : List Config) (past : List Filed)
+    (last from end counted by : ℕ) (run : Run) (A : List Event → List Entry → Type 0)
     → All (λ w. end + 1 ≤ w.moment) run.queue.own
-    → IsMoving rules configs made past last from end counted by run A
-    → IsOutside (length configs) (length made) moves asked end past
-    → IsMovedRun rules configs moves asked given run.world A
-ended rules configs made past last from end counted by run A moves asked given is late h outside =
-    let over = reached_over h.now h.all h.steps past from end h.air h.reached
+    → IsMoving grows rules configs made past last from end counted by run A
+    → IsTimedRun (rules_beside made end rules) (configs ++ made) past run.world A
+timed_at_end grows rules configs made past last from end counted by run A late h =
+    let over = reached_over grows h.now h.all h.steps past from end h.air h.reached
     (none_waits_after h.all run.queue run.draws h.air.timetable end late h.reached.own
     h.timed.keeps) in
-    let at_end : Rules → List Config → AirModel =
-    λ r cs. air_run r cs h.steps (air_opening r cs past) in
     let same = rules_at_end rules made end h.now h.are_now in
     let here : IsTimedRun (rules_beside [] end h.now) h.all past run.world A =
     record {
@@ -967,15 +1017,25 @@ ended rules configs made past last from end counted by run A moves asked given i
       run = subst (λ (es : List Event). IsSimulated h.all es run.world A) (sym over.1)
           h.timed.told;
     } in
+    subst (λ (cs : List Config). IsTimedRun (rules_beside made end rules) cs past run.world A)
+    h.are_all (subst (λ (r : Rules). IsTimedRun r h.all past run.world A) same here)
+
+-- with rows
+pub ended : (rules : Rules) (configs made : List Config) (past : List Filed)
+    (last from end counted by : ℕ) (run : Run)
+    (A : List Event → List Entry → Type 0) (moves : Moves) (asked : List AddressedEvent)
+    (given : Option ℕ) → IfSome given (λ moment. end ≡ moment)
+    → All (λ w. end + 1 ≤ w.moment) run.queue.own
+    → IsMoving true rules configs made past last from end counted by run A
+    → IsOutside (length configs) (length made) moves asked end past
+    → IsMovedRun rules configs moves asked given run.world A
+ended rules configs made past last from end counted by run A moves asked given is late h outside =
     record {
       made = made;
       file = past;
       until = end;
       rises = h.reached.past_rises;
       last = is;
-      run =
-          subst (λ (cs : List Config). IsTimedRun (rules_beside made end rules) cs past
-          run.world A) h.are_all
-          (subst (λ (r : Rules). IsTimedRun r h.all past run.world A) same here);
+      run = timed_at_end true rules configs made past last from end counted by run A late h;
       outside = outside;
     }

@@ -9,14 +9,10 @@ use Rattle.std.proofs.lemmas.Bool.{eqb-true, eq-eqb, ne_eqb, le-leb, lt-leb, cas
 use Rattle.std.proofs.lemmas.List.{append-nil}
 use Rattle.std.proofs.lemmas.List.Elements.{recursion_from_All}
 use Rattle.sim_queue.specs.Due.{of_moment, AreDue}
+use Rattle.sim_air.specs.Beside.{Rises}
 use Rattle.sim_air_model.specs.Timetable.{moment_in}
 use Rattle.sim_air_model.specs.Timetable.{Pending, Filed, of_file, schedule, schedule_all}
 use Rattle.sim_queue.specs.Waits.{Waits}
-
--- each is no later than those behind it
-abbrev Rises : List Filed → Type 0
-Rises [] = Unit {0}
-Rises (x ∷ xs) = AllByRecursion (λ y. moment_in x ≤ moment_in y) xs × Rises xs
 
 rises_sorted : (xs : List Filed) → IsNonDecreasingBy moment_in xs → Rises xs
 rises_sorted [] h = tt
@@ -249,6 +245,22 @@ front until (d ∷ due) (x ∷ xs) up in' rises same =
         sym (none_of (moment_in x) (d ∷ due) (lt, farther (moment_in x) (moment_in d) lt due up.0))
         ∙ same (moment_in x) (omega (arith, lt, below)) ∙ here_of x xs in
         let no : ⊥ = cc in absurd no
+
+-- a file waits as what is due of it, and then what is late
+pub due_and_late : (file due : List Filed) (until : ℕ) → AreDue file until due
+    → (late : List Filed) × AllByRecursion (λ e. until < (moment_in e)) late
+    × Rises (due ++ late) × (schedule_all (map of_file file) [] ≡ map of_file (due ++ late))
+due_and_late file due until h =
+    let all = enter_all file [] in
+    let rises = enter_all_rises file [] tt in
+    let parts = front until due all (rises_sorted due h.by_moment)
+    (recursion_from_All (λ e. (moment_in e) ≤ until) due h.until_then) rises
+    (λ m le. h.as_in_file m le ∙ sym (enter_all_of m file [] tt)) in (
+      parts.0,
+      parts.1,
+      subst Rises parts.2 rises,
+      schedule_all_enter file [] ∙ ap (map of_file) parts.2,
+    )
 
 -- nothing was taken yet, and nothing of the air's own put
 pub waits_opening : (file due : List Filed) (until : ℕ) → AreDue file until due

@@ -1,4 +1,5 @@
 -- A run with rows that is under way, from one step to the next.
+use Rattle.std.proofs.Common.{true}
 use Rattle.std.proofs.Common.{◌≡◌, ℕ, ◌+◌, ◌≤◌, ◌<◌, List, [], refl, sym, ap, subst, ◌∙◌, arith}
 use Rattle.std.proofs.Common.{All}
 use Rattle.std.proofs.Common.{Option, Some, None, length, slice_index_or, ◌++◌, append-nil, ◌∷◌}
@@ -101,20 +102,20 @@ pub under_moving : (rules : Rules) (configs made made' : List Config) (past past
     (last from begin clock : ℕ) (old new : MovingRun) (A B : List Event → List Entry → Type 0)
     → new.row ≡ old.row → All (λ d. from ≤ d.moment) (heap_items new.departures.waiting)
     → new.events ≡ old.events → new.taken ≡ old.taken → end_in new ≡ end_in old
-    → new.frames_before ≡ old.frames_before → new.delivered_by ≡ old.delivered_by
-    → IsMoving rules configs made' past' last from (end_in old) old.frames_before
-    old.delivered_by new.run B → IsUnder rules configs made past last from begin clock old A
+    → new.count.before ≡ old.count.before → new.count.delivered_by ≡ old.count.delivered_by
+    → IsMoving true rules configs made' past' last from (end_in old) old.count.before
+    old.count.delivered_by new.run B → IsUnder rules configs made past last from begin clock old A
     → IsUnder rules configs made' past' last from begin clock new B
 under_moving rules configs made made' past past' last from begin clock old new A B row departures
     events taken end counted by moving h =
     record {
       moving =
-          subst (λ n. IsMoving rules configs made' past' last from n new.frames_before
-          new.delivered_by new.run B) (sym end)
-          (subst (λ n. IsMoving rules configs made' past' last from (end_in old) n
-          new.delivered_by new.run B) (sym counted)
-          (subst (λ n. IsMoving rules configs made' past' last from (end_in old)
-          old.frames_before n new.run B) (sym by) moving));
+          subst (λ n. IsMoving true rules configs made' past' last from n new.count.before
+          new.count.delivered_by new.run B) (sym end)
+          (subst (λ n. IsMoving true rules configs made' past' last from (end_in old) n
+          new.count.delivered_by new.run B) (sym counted)
+          (subst (λ n. IsMoving true rules configs made' past' last from (end_in old)
+          old.count.before n new.run B) (sym by) moving));
       comings = same_comes from old new row departures events taken h.comings;
       ahead = λ r is. h.ahead r (sym row ∙ is);
     }
@@ -123,8 +124,8 @@ under_moving rules configs made made' past past' last from begin clock old new A
 pub under_does : (moment : ℕ) (came : List Filed) (old new : MovingRun)
     (A B : List Event → List Entry → Type 0) → new.row ≡ old.row
     → new.departures ≡ old.departures → new.events ≡ old.events → new.taken ≡ old.taken
-    → end_in new ≡ end_in old → new.frames_before ≡ old.frames_before
-    → new.delivered_by ≡ old.delivered_by → DoesAt moment came old.run A new.run B
+    → end_in new ≡ end_in old → new.count.before ≡ old.count.before
+    → new.count.delivered_by ≡ old.count.delivered_by → DoesAt true moment came old.run A new.run B
     → StaysAt moment came old A new B
 under_does moment came old new A B row departures events taken end counted by does =
     λ rules configs made past begin clock within h.
@@ -132,7 +133,7 @@ under_does moment came old new A B row departures events taken end counted by do
     row
     (subst (λ (d : Departures). All (λ (x : Departure). moment ≤ x.moment) (heap_items d.waiting))
     (sym departures) h.comings.departures) events taken end counted by
-    (does rules configs made past (end_in old) old.frames_before old.delivered_by within h.moving) h
+    (does rules configs made past (end_in old) old.count.before old.count.delivered_by within h.moving) h
 
 -- and where other stations may leave, none before that
 pub under_leaves : (moment : ℕ) (came : List Filed) (old new : MovingRun)
@@ -140,14 +141,14 @@ pub under_leaves : (moment : ℕ) (came : List Filed) (old new : MovingRun)
     → ((from : ℕ) → All (λ d. from ≤ d.moment) (heap_items old.departures.waiting)
     → All (λ d. from ≤ d.moment) (heap_items new.departures.waiting))
     → new.events ≡ old.events → new.taken ≡ old.taken
-    → end_in new ≡ end_in old → new.frames_before ≡ old.frames_before
-    → new.delivered_by ≡ old.delivered_by → DoesAt moment came old.run A new.run B
+    → end_in new ≡ end_in old → new.count.before ≡ old.count.before
+    → new.count.delivered_by ≡ old.count.delivered_by → DoesAt true moment came old.run A new.run B
     → StaysAt moment came old A new B
 under_leaves moment came old new A B row departures events taken end counted by does =
     λ rules configs made past begin clock within h.
     under_moving rules configs made made past (past ++ came) moment moment begin clock old new A B
     row (departures moment h.comings.departures) events taken end counted by
-    (does rules configs made past (end_in old) old.frames_before old.delivered_by within h.moving) h
+    (does rules configs made past (end_in old) old.count.before old.count.delivered_by within h.moving) h
 
 -- nothing comes to the file
 pub none_comes : (moment : ℕ) (old new : MovingRun) (A B : List Event → List Entry → Type 0)
@@ -193,8 +194,8 @@ pub event_taken : (rules : Rules) (configs made : List Config) (past : List File
     (e : Bor AddressedEvent) (old new : MovingRun) (A : List Event → List Entry → Type 0)
     → slice_get old.events.items old.taken ≡ Some e → new.run ≡ old.run → new.row ≡ old.row
     → new.departures ≡ old.departures → new.events ≡ old.events → new.taken ≡ old.taken + 1
-    → end_in new ≡ end_in old → new.frames_before ≡ old.frames_before
-    → new.delivered_by ≡ old.delivered_by
+    → end_in new ≡ end_in old → new.count.before ≡ old.count.before
+    → new.count.delivered_by ≡ old.count.delivered_by
     → IsUnder rules configs made past (e.now.moment) (e.now.moment) begin clock
     old A
     → IsUnder rules configs made past (e.now.moment) (e.now.moment) begin clock
@@ -204,15 +205,15 @@ event_taken rules configs made past begin clock e old new A is run row departure
     let m = e.now.moment in
     record {
       moving =
-          subst (λ (r : Run). IsMoving rules configs made past m m (end_in new) new.frames_before
-          new.delivered_by r A) (sym run)
-          (subst (λ n. IsMoving rules configs made past m m n new.frames_before new.delivered_by
+          subst (λ (r : Run). IsMoving true rules configs made past m m (end_in new) new.count.before
+          new.count.delivered_by r A) (sym run)
+          (subst (λ n. IsMoving true rules configs made past m m n new.count.before new.count.delivered_by
           old.run A)
           (sym end)
-          (subst (λ n. IsMoving rules configs made past m m (end_in old) n new.delivered_by
+          (subst (λ n. IsMoving true rules configs made past m m (end_in old) n new.count.delivered_by
           old.run A)
           (sym counted)
-          (subst (λ n. IsMoving rules configs made past m m (end_in old) old.frames_before n
+          (subst (λ n. IsMoving true rules configs made past m m (end_in old) old.count.before n
           old.run A)
           (sym by) h.moving)));
       comings = event_comes e old new is row departures events taken h.comings;
@@ -224,22 +225,22 @@ pub event_done : (e : Bor AddressedEvent) (came : List Filed) (old new : MovingR
     (A B : List Event → List Entry → Type 0)
     → slice_get old.events.items old.taken ≡ Some e → new.row ≡ old.row
     → new.departures ≡ old.departures → new.events ≡ old.events → new.taken ≡ old.taken + 1
-    → end_in new ≡ end_in old → new.frames_before ≡ old.frames_before
-    → new.delivered_by ≡ old.delivered_by
-    → DoesAt (e.now.moment) came old.run A new.run B
+    → end_in new ≡ end_in old → new.count.before ≡ old.count.before
+    → new.count.delivered_by ≡ old.count.delivered_by
+    → DoesAt true (e.now.moment) came old.run A new.run B
     → StaysAt (e.now.moment) came old A new B
 event_done e came old new A B is row departures events taken end counted by does =
     λ rules configs made past begin clock within h.
     let m = e.now.moment in
     record {
       moving =
-          subst (λ n. IsMoving rules configs made (past ++ came) m m n new.frames_before
-          new.delivered_by new.run B) (sym end)
-          (subst (λ n. IsMoving rules configs made (past ++ came) m m (end_in old) n
-          new.delivered_by new.run B) (sym counted)
-          (subst (λ n. IsMoving rules configs made (past ++ came) m m (end_in old)
-          old.frames_before n new.run B) (sym by)
-          (does rules configs made past (end_in old) old.frames_before old.delivered_by within
+          subst (λ n. IsMoving true rules configs made (past ++ came) m m n new.count.before
+          new.count.delivered_by new.run B) (sym end)
+          (subst (λ n. IsMoving true rules configs made (past ++ came) m m (end_in old) n
+          new.count.delivered_by new.run B) (sym counted)
+          (subst (λ n. IsMoving true rules configs made (past ++ came) m m (end_in old)
+          old.count.before n new.run B) (sym by)
+          (does rules configs made past (end_in old) old.count.before old.count.delivered_by within
           h.moving)));
       comings = event_comes e old new is row departures events taken h.comings;
       ahead = λ r here. h.ahead r (sym row ∙ here);
@@ -253,8 +254,8 @@ pub says_under : (rules : Rules) (configs made : List Config) (past : List Filed
 says_under rules configs made past last from begin clock m A B says h =
     record {
       moving =
-          says_moving rules configs made past last from (end_in m) m.frames_before
-          m.delivered_by m.run A B says h.moving;
+          says_moving true rules configs made past last from (end_in m) m.count.before
+          m.count.delivered_by m.run A B says h.moving;
       comings = h.comings;
       ahead = h.ahead;
     }
@@ -264,10 +265,10 @@ pub event_does : (event e : Bor AddressedEvent) (came : List Filed) (old new : M
     (A B : List Event → List Entry → Type 0) → event ≡ e
     → slice_get old.events.items old.taken ≡ Some event → new.row ≡ old.row
     → new.departures ≡ old.departures → new.events ≡ old.events → new.taken ≡ old.taken + 1
-    → end_in new ≡ end_in old → new.frames_before ≡ old.frames_before
-    → new.delivered_by ≡ old.delivered_by
+    → end_in new ≡ end_in old → new.count.before ≡ old.count.before
+    → new.count.delivered_by ≡ old.count.delivered_by
     → MayAsk (stations_in old) event.now event.now.addressee came
-    → DoesAt (event.now.moment) came old.run A new.run B → DoesEvent e.now old A new B
+    → DoesAt true (event.now.moment) came old.run A new.run B → DoesEvent e.now old A new B
 event_does event e came old new A B one is row departures events taken end counted by may does =
     subst (λ (x : Bor AddressedEvent). DoesEvent x.now old A new B) one (
       came,
@@ -282,7 +283,7 @@ pub event_passed : (event e : Bor AddressedEvent) (old new : MovingRun)
     → slice_get old.events.items old.taken ≡ Some event → new.run ≡ old.run
     → new.row ≡ old.row → new.departures ≡ old.departures → new.events ≡ old.events
     → new.taken ≡ old.taken + 1 → end_in new ≡ end_in old
-    → new.frames_before ≡ old.frames_before → new.delivered_by ≡ old.delivered_by
+    → new.count.before ≡ old.count.before → new.count.delivered_by ≡ old.count.delivered_by
     → MayAsk (stations_in old) event.now event.now.addressee []
     → SaysAsBefore A B → DoesEvent e.now old A new B
 event_passed event e old new A B one is run row departures events taken end counted by may says =
@@ -316,7 +317,7 @@ pub row_read : (rules : Rules) (configs made : List Config) (past : List Filed)
     (last from begin clock clock' : ℕ)
     (old new : MovingRun) (A : List Event → List Entry → Type 0) → new.run ≡ old.run
     → new.departures ≡ old.departures → new.events ≡ old.events → new.taken ≡ old.taken
-    → new.frames_before ≡ old.frames_before → new.delivered_by ≡ old.delivered_by
+    → new.count.before ≡ old.count.before → new.count.delivered_by ≡ old.count.delivered_by
     → new.until ≡ old.until → old.greatest ≤ new.greatest
     → ForSome new.row (IsRowBetween begin clock clock')
     → ((n : ℕ) → clock ≤ n + begin → from ≤ n)
@@ -330,17 +331,17 @@ row_read rules configs made past last from begin clock clock' old new A run depa
     (ends_no_sooner old.until old.greatest new.greatest greatest) in
     record {
       moving =
-          subst (λ (r : Run). IsMoving rules configs made past last from (end_in new)
-          new.frames_before
-          new.delivered_by r A) (sym run)
-          (subst (λ n. IsMoving rules configs made past last from (end_in new) n new.delivered_by
+          subst (λ (r : Run). IsMoving true rules configs made past last from (end_in new)
+          new.count.before
+          new.count.delivered_by r A) (sym run)
+          (subst (λ n. IsMoving true rules configs made past last from (end_in new) n new.count.delivered_by
           old.run A)
           (sym counted)
-          (subst (λ n. IsMoving rules configs made past last from (end_in new) old.frames_before
+          (subst (λ n. IsMoving true rules configs made past last from (end_in new) old.count.before
           n old.run A)
           (sym by)
-          (ends_later rules configs made past last from (end_in old) (end_in new) old.frames_before
-          old.delivered_by old.run A later h.moving)));
+          (ends_later true rules configs made past last from (end_in old) (end_in new) old.count.before
+          old.count.delivered_by old.run A later h.moving)));
       comings =
           record {
             row = λ r is. behind r.moment (row r is).no_earlier;
@@ -363,8 +364,8 @@ pub row_does : (row : Row) (station : ℕ) (ports : List ℕ) (old one new : Mov
     → All (λ d. from ≤ d.moment) (heap_items one.departures.waiting)
     → All (λ d. from ≤ d.moment) (heap_items new.departures.waiting))
     → new.events ≡ one.events → new.taken ≡ one.taken → end_in new ≡ end_in one
-    → new.frames_before ≡ one.frames_before → new.delivered_by ≡ one.delivered_by
-    → DoesAt row.moment (Happens (row_move station row)
+    → new.count.before ≡ one.count.before → new.count.delivered_by ≡ one.count.delivered_by
+    → DoesAt true row.moment (Happens (row_move station row)
     ∷ map (opening_at station row.moment) ports) one.run B new.run C
     → DoesRow row old A new C
 row_does row station ports old one new A B C (inl x) same row_same departures events taken end
@@ -377,12 +378,12 @@ row_does row station ports old one new A B C (inl x) same row_same departures ev
           let m = row.moment in
           let came : List Filed = Happens (row_move station row) ∷ [] in
           let under = x.2 rules configs made past m m begin clock h in
-          let moves : DoesAt m came one.run B new.run C =
-          subst (λ (l : List ℕ). DoesAt m (Happens (row_move station row)
+          let moves : DoesAt true m came one.run B new.run C =
+          subst (λ (l : List ℕ). DoesAt true m (Happens (row_move station row)
           ∷ map (opening_at station m) l) one.run B new.run C) x.1 does in
           under_moving rules configs made made past (past ++ came) m m begin clock one new B C
           row_same (departures m (omega arith) under.comings.departures) events taken end counted by
-          (moves rules configs made past (end_in one) one.frames_before one.delivered_by
+          (moves rules configs made past (end_in one) one.count.before one.count.delivered_by
           (subst (λ (n : ℕ). m ≤ n) (sym same) within) under.moving) under,
     )
 row_does row station ports old one new A B C (inr x) same row_same departures events taken end
@@ -396,16 +397,16 @@ row_does row station ports old one new A B C (inr x) same row_same departures ev
           let opens = old.moves.now.ports.items in
           let came : List Filed = Happens (row_move count row) ∷ map (opening_at count m) opens in
           let under = x.3 rules configs made past m m begin clock h in
-          let moves : DoesAt m came one.run B new.run C =
-          subst (λ (n : ℕ). DoesAt m (Happens (row_move n row) ∷ map (opening_at n m) opens)
+          let moves : DoesAt true m came one.run B new.run C =
+          subst (λ (n : ℕ). DoesAt true m (Happens (row_move n row) ∷ map (opening_at n m) opens)
           one.run B new.run C) x.0
-          (subst (λ (l : List ℕ). DoesAt m (Happens (row_move station row)
+          (subst (λ (l : List ℕ). DoesAt true m (Happens (row_move station row)
           ∷ map (opening_at station m) l) one.run B new.run C) x.1 does) in
           under_moving rules configs (made ++ x.2 ∷ []) (made ++ x.2 ∷ []) past (past ++ came) m m
           begin clock one new B C
           row_same (departures m (omega arith) under.comings.departures) events taken end counted by
-          (moves rules configs (made ++ x.2 ∷ []) past (end_in one) one.frames_before
-          one.delivered_by (subst (λ (n : ℕ). m ≤ n) (sym same) within) under.moving) under,
+          (moves rules configs (made ++ x.2 ∷ []) past (end_in one) one.count.before
+          one.count.delivered_by (subst (λ (n : ℕ). m ≤ n) (sym same) within) under.moving) under,
     )
 
 -- the next row was taken, and isn't done yet
@@ -413,8 +414,8 @@ pub row_taken : (rules : Rules) (configs made : List Config) (past : List Filed)
     (last from begin clock : ℕ)
     (old new : MovingRun) (A : List Event → List Entry → Type 0) → new.row ≡ None
     → new.run ≡ old.run → new.departures ≡ old.departures → new.events ≡ old.events
-    → new.taken ≡ old.taken → end_in new ≡ end_in old → new.frames_before ≡ old.frames_before
-    → new.delivered_by ≡ old.delivered_by → IsUnder rules configs made past last from begin clock
+    → new.taken ≡ old.taken → end_in new ≡ end_in old → new.count.before ≡ old.count.before
+    → new.count.delivered_by ≡ old.count.delivered_by → IsUnder rules configs made past last from begin clock
     old A
     → IsUnder rules configs made past last from begin clock new A
 row_taken rules configs made past last from begin clock old new A row run departures events taken
@@ -422,16 +423,16 @@ row_taken rules configs made past last from begin clock old new A row run depart
     by h =
     record {
       moving =
-          subst (λ (r : Run). IsMoving rules configs made past last from (end_in new)
-          new.frames_before
-          new.delivered_by r A) (sym run)
-          (subst (λ n. IsMoving rules configs made past last from n new.frames_before
-          new.delivered_by
+          subst (λ (r : Run). IsMoving true rules configs made past last from (end_in new)
+          new.count.before
+          new.count.delivered_by r A) (sym run)
+          (subst (λ n. IsMoving true rules configs made past last from n new.count.before
+          new.count.delivered_by
           old.run A) (sym end)
-          (subst (λ n. IsMoving rules configs made past last from (end_in old) n new.delivered_by
+          (subst (λ n. IsMoving true rules configs made past last from (end_in old) n new.count.delivered_by
           old.run A)
           (sym counted)
-          (subst (λ n. IsMoving rules configs made past last from (end_in old) old.frames_before
+          (subst (λ n. IsMoving true rules configs made past last from (end_in old) old.count.before
           n old.run A)
           (sym by) h.moving)));
       comings =
@@ -452,15 +453,15 @@ row_taken rules configs made past last from begin clock old new A row run depart
 pub begun_under : (rules : Rules) (configs made : List Config) (past : List Filed)
     (begin clock : ℕ) (m : MovingRun)
     (Took : List Event → List Entry → Type 0)
-    → IsMoving rules configs made past 0 0 (end_in m) 0 0 m.run Took → m.row ≡ None
-    → heap_items m.departures.waiting ≡ [] → m.frames_before ≡ 0 → m.delivered_by ≡ 0
+    → IsMoving true rules configs made past 0 0 (end_in m) 0 0 m.run Took → m.row ≡ None
+    → heap_items m.departures.waiting ≡ [] → m.count.before ≡ 0 → m.count.delivered_by ≡ 0
     → IsUnder rules configs made past 0 0 begin clock m Took
 begun_under rules configs made past begin clock m Took moving row none counted by =
     record {
       moving =
-          subst (λ n. IsMoving rules configs made past 0 0 (end_in m) n m.delivered_by m.run Took)
+          subst (λ n. IsMoving true rules configs made past 0 0 (end_in m) n m.count.delivered_by m.run Took)
           (sym counted)
-          (subst (λ n. IsMoving rules configs made past 0 0 (end_in m) 0 n m.run Took) (sym by)
+          (subst (λ n. IsMoving true rules configs made past 0 0 (end_in m) 0 n m.run Took) (sym by)
           moving);
       comings =
           record {
@@ -524,15 +525,15 @@ pub own_under : (rules : Rules) (configs made : List Config) (past : List Filed)
     → new.departures ≡ old.departures → new.events ≡ old.events → new.taken ≡ old.taken
     → end_in new ≡ end_in old → ComesFrom (moment + 1) old
     → ForSome old.row (λ row. row.moment + begin ≤ clock)
-    → IsMoving rules configs made past moment (moment + 1) (end_in old) new.frames_before
-    new.delivered_by new.run B
+    → IsMoving true rules configs made past moment (moment + 1) (end_in old) new.count.before
+    new.count.delivered_by new.run B
     → IsUnder rules configs made past moment (moment + 1) begin clock new B
 own_under rules configs made past moment begin clock old new B row departures events taken end
     comes ahead moving =
     record {
       moving =
-          subst (λ n. IsMoving rules configs made past moment (moment + 1) n new.frames_before
-          new.delivered_by new.run B) (sym end) moving;
+          subst (λ n. IsMoving true rules configs made past moment (moment + 1) n new.count.before
+          new.count.delivered_by new.run B) (sym end) moving;
       comings =
           same_comes (moment + 1) old new row
           (subst (λ (d : Departures). All (λ (x : Departure). moment + 1 ≤ x.moment)

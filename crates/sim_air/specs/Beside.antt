@@ -3,7 +3,7 @@
 use Rattle.std.specs.Prelude.{◌≡◌, ℕ, ◌≤◌, ◌<◌, List, [], ◌∷◌, ◌++◌, map, length, All}
 use Rattle.std.specs.Prelude.{Bool, true, false}
 use Rattle.std.specs.List.{AllByRecursion}
-use Rattle.its_model.specs.World.{Config}
+use Rattle.its_model.specs.World.{Config, Event}
 use Rattle.sim_air_model.specs.Timetable.{moment_in}
 use Rattle.sim_air_model.specs.Timetable.{Rules, Filed, Pending, AirModel, at, of_file}
 use Rattle.sim_air_model.specs.Timetable.{schedule_all}
@@ -69,18 +69,39 @@ abbrev pub IsOwnOf : List Config → Pending → Type 0
 IsOwnOf configs (Does p) = (p.own ≡ true) × (p.event.station < length configs)
 IsOwnOf configs (Departs station moment) = ⊥
 
+-- these stations may be made yet: any, or none
+abbrev pub MayBeMade : Bool → List Config → Type 0
+MayBeMade true made = Unit {0}
+MayBeMade false made = made ≡ []
+
+-- of so many stations this one is there, if stations may be made yet
+abbrev pub IsThere : Bool → ℕ → ℕ → Type 0
+IsThere true count station = station < count
+IsThere false count station = Unit {0}
+
+-- so is that of each of these events
+abbrev pub AreThere : Bool → List Config → List Event → Type 0
+AreThere true configs events = All (λ e. e.station < length configs) events
+AreThere false configs events = Unit {0}
+
+-- of each station it is known whether it is present, if stations may be made yet
+abbrev pub AreKnown : Bool → List Config → List Bool → Type 0
+AreKnown true configs present = length present ≡ length configs
+AreKnown false configs present = Unit {0}
+
 -- So many steps lead to this air, by which all that came is taken: whatever comes from then on,
--- and whichever stations are made, a run of all that comes goes this far in the same way.
-pub record IsReached (r : Rules) (configs : List Config) (steps : ℕ) (past : List Filed)
-    (from end : ℕ) (a : AirModel) : Type 0 where
-  pub leads : (made : List Config) (file : List Filed) (until : ℕ) → end ≤ until → Rises file
-      → IsFrom from file
+-- and whichever stations are made, if any may be, a run of all that comes goes this far in the same
+-- way.
+pub record IsReached (grows : Bool) (r : Rules) (configs : List Config) (steps : ℕ)
+    (past : List Filed) (from end : ℕ) (a : AirModel) : Type 0 where
+  pub leads : (made : List Config) (file : List Filed) (until : ℕ) → MayBeMade grows made
+      → end ≤ until → Rises file → IsFrom from file
       → air_run (rules_beside made until r) (configs ++ made) steps
       (air_opening (rules_beside made until r) (configs ++ made) (past ++ file))
       ≡ beside made file a
   pub in_order : InOrder a.timetable.waiting
   pub own : AllByRecursion (IsOwnOf configs) a.timetable.waiting
-  pub done_there : All (λ e. e.station < length configs) a.done
-  pub present : length a.present ≡ length configs
+  pub done_there : AreThere grows configs a.done
+  pub present : AreKnown grows configs a.present
   pub past_rises : Rises past
   pub past_before : IsUpTo from past

@@ -1,5 +1,5 @@
 -- A run keeps the timetable of the model's air.
-use Rattle.std.specs.Prelude.{◌≡◌, ℕ, List, Bool, true, false, Option, cond, not, ◌&&◌}
+use Rattle.std.specs.Prelude.{◌≡◌, ℕ, List, Bool, Option, cond, not, ◌&&◌}
 use Rattle.its_model.specs.Calls.{Answer}
 use Rattle.its_model.specs.Station.{StationModel}
 use Rattle.its_model.specs.World.{Config, Event, WorldModel, frame_of}
@@ -9,7 +9,7 @@ use Rattle.sim_simulation.specs.Simulated.{IsSimulated}
 use Rattle.sim_air.specs.AirTimed.{rules_of}
 use Rattle.sim_queue.specs.Keeps.{Keeps}
 use Rattle.its_model.specs.Reach.{is_moved}
-use Rattle.sim_air_model.specs.Timetable.{Rules, Timetable, AirModel, air_step, IsOver, was_moved}
+use Rattle.sim_air_model.specs.Timetable.{Rules, Timetable, AirModel, was_moved}
 use Rattle.sim_queue.specs.Waiting.{happening_of, own_of}
 use Rattle.sim_air_model.specs.Timetable.{given, was_refused, is_refusal, is_tick, tick_again}
 use Rattle.sim_air_model.specs.Timetable.{send_again}
@@ -43,9 +43,3 @@ pub record IsTimed (rules : Rules) (configs : List Config) (a : AirModel) (run :
   pub present : run.present.items ≡ a.present
   pub told : IsSimulated configs a.done run.world Took
   pub keeps : Keeps run.queue run.draws a.timetable
-
--- it is one step further, or it was over
-abbrev pub GoesOn : Bool → Rules → List Config → AirModel → Run
-    → (List Event → List Entry → Type 0) → Type 0
-GoesOn true rules configs a run Took = IsTimed rules configs (air_step rules configs a) run Took
-GoesOn false rules configs a run Took = IsOver rules a × IsTimed rules configs a run Took

@@ -8,3 +8,5 @@ pub mod Outside
 pub mod Moving
 pub mod UnderRows
 pub mod Beside
+pub mod Delivered
+pub mod Filing

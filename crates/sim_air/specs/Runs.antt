@@ -1,18 +1,9 @@
 -- A run that is under way.
-use Rattle.std.specs.Prelude.{◌≡◌, List, take}
-use Rattle.its_model.specs.World.{Config, Event}
+use Rattle.std.specs.Prelude.{◌≡◌, List}
+use Rattle.its_model.specs.World.{Event}
 use Rattle.its_world.specs.declared.entry.Entry.{Entry}
-use Rattle.sim_simulation.specs.Simulated.{IsSimulated}
-use Rattle.sim_air.specs.AirRun.{AreAmong, events_in}
-use Rattle.sim_queue.specs.Files.{filed_due}
 use Rattle.sim_queue.specs.PlaceIndexes.{AreStandingsOf}
 use Rattle.sim_air.specs.declared.run.Run.{Run}
-
--- these events were done so far, and those of the file that were taken are among them
-pub record IsUnderWay (configs : List Config) (events : List Event) (run : Run)
-    (Took : List Event → List Entry → Type 0) : Type 0 where
-  pub told : IsSimulated configs events run.world Took
-  pub among : AreAmong (events_in (take run.queue.taken (filed_due run.queue))) events
 
 -- each station stands in the index once, at its place in the world, and no other does
 abbrev pub AreIndexed : Run → Type 0

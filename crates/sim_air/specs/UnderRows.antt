@@ -1,4 +1,5 @@
 -- A run with rows that is under way.
+use Rattle.std.specs.Prelude.{true}
 use Rattle.std.specs.Prelude.{◌≡◌, ◌≤◌, ◌<◌, ◌+◌, ◌*◌, ◌++◌, ◌∷◌, [], ◌⊎◌, ℕ, List, All, map}
 use Rattle.std.specs.Prelude.{Option, Some, None, length, slice_get, take}
 use Rattle.std.specs.BinaryHeap.{heap_items}
@@ -78,8 +79,8 @@ pub record IsNext (m : MovingRun) (coming : Coming) : Type 0 where
 pub record IsUnder (rules : Rules) (configs made : List Config) (past : List Filed)
     (last from begin clock : ℕ) (m : MovingRun) (Took : List Event → List Entry → Type 0)
     : Type 0 where
-  pub moving : IsMoving rules configs made past last from (end_in m) m.frames_before
-      m.delivered_by m.run Took
+  pub moving : IsMoving true rules configs made past last from (end_in m) m.count.before
+      m.count.delivered_by m.run Took
   pub comings : ComesFrom from m
   pub ahead : ForSome m.row (λ row. row.moment + begin ≤ clock)
 

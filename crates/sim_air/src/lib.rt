@@ -4,6 +4,9 @@
 
 mod departures;
 mod fault;
+mod filed;
+mod filed_run;
+mod frames;
 mod moving;
 mod moving_run;
 mod run;
@@ -12,7 +15,7 @@ mod step;
 mod vehicles;
 
 pub use fault::AirFault;
+pub use filed::run_air;
 pub use moving::run_moves;
-pub use run::run_air;
 pub use scenario::run_scenario;
 pub use sim_queue::places::{find_hearers, is_within};

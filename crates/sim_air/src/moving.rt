@@ -33,9 +33,10 @@ ghost use Rattle.sim_air.specs.UnderRows.{turn_in};
 
 use crate::departures::Departures;
 use crate::fault::AirFault;
+use crate::frames::FrameCount;
 use crate::moving_run::{Coming, MovingRun, Outside};
 use crate::run::Run;
-use crate::step::{do_at, do_filed, do_own, move_in};
+use crate::step::{do_at, do_filed, move_in, take_own};
 use crate::vehicles::Vehicles;
 use its_gnvalue::Place;
 use its_model::laws::every_schedule;
@@ -138,7 +139,7 @@ impl<'a> MovingRun<'a> {
         ensures taken { IfOk result (λ moving. moving.taken ≡ 0) }
         ensures until { IfOk result (λ moving. moving.until ≡ timeline.now.air.until) }
         ensures frames { IfOk result (λ moving. (moving.run.world.released ≡ 0)
-            × (moving.frames_before ≡ 0) × (moving.delivered_by ≡ 0)) }
+            × (moving.count.before ≡ 0) × (moving.count.delivered_by ≡ 0)) }
     {
         let stations = scenario.stations.as_slice();
         let present = scenario.present.as_slice();
@@ -159,8 +160,10 @@ impl<'a> MovingRun<'a> {
             known: None,
             until: timeline.air.until,
             greatest,
-            frames_before: 0,
-            delivered_by: 0,
+            count: FrameCount {
+                before: 0,
+                delivered_by: 0,
+            },
         })
     }
 
@@ -169,8 +172,8 @@ impl<'a> MovingRun<'a> {
         ensures run { self.new.run ≡ self.old.run }
         ensures departures { self.new.departures ≡ self.old.departures }
         ensures events { (self.new.events ≡ self.old.events) × (self.new.taken ≡ self.old.taken) }
-        ensures frames { (self.new.frames_before ≡ self.old.frames_before)
-            × (self.new.delivered_by ≡ self.old.delivered_by) }
+        ensures frames { (self.new.count.before ≡ self.old.count.before)
+            × (self.new.count.delivered_by ≡ self.old.count.delivered_by) }
         ensures until { self.new.until ≡ self.old.until }
         ensures end { self.old.greatest ≤ self.new.greatest }
         ensures moves { self.new.moves ≡ self.old.moves }
@@ -231,9 +234,9 @@ impl<'a> MovingRun<'a> {
         let end = self.end();
         let coming = self.next_until(end);
         let limit = limit_of(coming, end);
-        if let Some(waiting) = self.run.queue.pop_before(limit) {
-            self.release_delivered(waiting.moment);
-            do_own(&mut self.run, &waiting, sink)?;
+        // Where stations move by rows an event that delivers a frame is left out.
+        let taken = take_own(&mut self.run, &mut self.count, usize::MAX, limit, sink)?;
+        if taken {
             return Ok(true);
         }
         match coming {
@@ -254,44 +257,6 @@ impl<'a> MovingRun<'a> {
         match self.until {
             Some(until) => until,
             None => self.greatest + AFTER_EVENTS,
-        }
-    }
-
-    /// Lets frames go whose deliveries are done, where the next of the air's own is of this moment.
-    /// Each delivery comes the delay after its frame was given, and what waits is taken by its
-    /// moment: so those that had been given when they were last counted have all been delivered
-    /// once the delay after that is over, to whomever heard them. Then they are counted again.
-    fn release_delivered(&mut self, moment: u64)
-        requires moment { moment ≤ 2 ^ 63 + 10000 }
-        ensures stands { (w : WorldModel) → RepresentsWorld self.old.run.world w →
-            RepresentsWorld self.new.run.world w }
-        ensures stations { self.new.run.world.stations ≡ self.old.run.world.stations }
-        ensures standings { self.new.run.standings ≡ self.old.run.standings }
-        ensures air { self.new.run.air ≡ self.old.run.air }
-        ensures every { self.new.run.every ≡ self.old.run.every }
-        ensures queue { self.new.run.queue ≡ self.old.run.queue }
-        ensures draws { self.new.run.draws ≡ self.old.run.draws }
-        ensures present { self.new.run.present ≡ self.old.run.present }
-        ensures row { self.new.row ≡ self.old.row }
-        ensures moves { self.new.moves ≡ self.old.moves }
-        ensures departures { self.new.departures ≡ self.old.departures }
-        ensures events { (self.new.events ≡ self.old.events) × (self.new.taken ≡ self.old.taken) }
-        ensures end { (self.new.until ≡ self.old.until)
-            × (self.new.greatest ≡ self.old.greatest) }
-        ensures counted { (count : ℕ) → self.old.frames_before ≤ count →
-            count ≡ self.old.run.world.released + length self.old.run.world.frames →
-            self.new.frames_before ≤ count }
-        ensures frames { (waiting : List Pending) →
-            AllByRecursion (λ p. moment ≤ at p) waiting →
-            AllByRecursion (Awaits self.old.run.world.released self.old.frames_before
-            self.old.delivered_by (moment + self.old.run.air.delay)) waiting →
-            AllByRecursion (Awaits self.new.run.world.released self.new.frames_before
-            self.new.delivered_by (moment + self.old.run.air.delay)) waiting }
-    {
-        if moment > self.delivered_by {
-            self.run.world.release(self.frames_before);
-            self.frames_before = self.run.world.frames();
-            self.delivered_by = moment + self.run.delay();
         }
     }
 

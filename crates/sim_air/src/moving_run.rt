@@ -8,6 +8,7 @@ ghost use Rattle.sim_scenario.specs.Events.{FitsAddressed};
 ghost use Rattle.sim_air.specs.FitsRun.{FitsRun};
 
 use crate::departures::Departures;
+use crate::frames::FrameCount;
 use crate::run::Run;
 use crate::vehicles::Vehicles;
 use sim_moves::Row;
@@ -54,10 +55,7 @@ pub(crate) struct MovingRun<'a> {
     pub(crate) until: Option<u64>,
     /// The greatest moment of an event, and of a row that was read; 0 where there is neither.
     pub(crate) greatest: u64,
-    /// How many frames had been given when they were last counted.
-    pub(crate) frames_before: usize,
-    /// The moment of the last delivery of one of these, at the latest.
-    pub(crate) delivered_by: u64,
+    pub(crate) count: FrameCount,
     ghost ranges: { All (λ a. FitsAddressed a.now) events.items },
     ghost sorted: { IsNonDecreasingBy (λ a. a.now.moment) events.items },
     ghost next: { ForSome row FitsRun },

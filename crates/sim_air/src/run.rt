@@ -1,4 +1,4 @@
-//! The run of an air.
+//! What a run has while it is under way, and what it does with one event.
 
 ghost use Rattle.std.specs.Prelude.{◌≡◌, ◌≤◌, ◌<◌, ◌^◌, ◌++◌, ◌∷◌, [], List, All, map, length};
 ghost use Rattle.std.specs.Prelude.{ℕ, ◌+◌, ◌↔◌, cond, slice_set};
@@ -18,11 +18,11 @@ ghost use Rattle.its_world.specs.Mids.{AreApart};
 ghost use Rattle.sim_scenario.specs.Airs.{end_of, moment_of};
 ghost use Rattle.sim_simulation.specs.Simulated.{IsSimulated, IsSimulation};
 ghost use Rattle.sim_queue.specs.Due.{AreDue};
-ghost use Rattle.sim_air.specs.AirRun.{IsAirRun, events_in};
-ghost use Rattle.sim_air.specs.AirTimed.{IsTimedRun, rules_of};
+ghost use Rattle.sim_air.specs.AirRun.{events_in};
+ghost use Rattle.sim_air.specs.AirTimed.{rules_of};
 ghost use Rattle.sim_queue.specs.Files.{SameFile, filed_due};
 ghost use Rattle.sim_queue.specs.Keeps.{Keeps};
-ghost use Rattle.sim_air.specs.Keeps.{IsAnswered, IsTimed, GoesBy, GoesOn, follow_own};
+ghost use Rattle.sim_air.specs.Keeps.{IsAnswered, IsTimed, GoesBy, follow_own};
 ghost use Rattle.sim_air.specs.Outside.{IsDelivery};
 ghost use Rattle.sim_air_model.specs.Timetable.{Timetable, send, send_all, is_refusal, is_present};
 ghost use Rattle.sim_air_model.specs.Timetable.{schedule_first_ticks};
@@ -33,7 +33,7 @@ ghost use Rattle.sim_air_model.specs.Timetable.{comes};
 ghost use Rattle.sim_air_model.specs.Timetable.{present_after, is_passed_over};
 ghost use Rattle.sim_air_model.specs.Timetable.{Rules, AirModel, spread, air_opening};
 ghost use Rattle.sim_air_model.specs.Timetable.Filed.{Happens};
-ghost use Rattle.sim_air.specs.Runs.{AreIndexed, IsUnderWay, SameWorld, SaysAsBefore};
+ghost use Rattle.sim_air.specs.Runs.{AreIndexed, SameWorld, SaysAsBefore};
 ghost use Rattle.sim_queue.specs.PlaceIndexes.{AreStandingsOf};
 ghost use Rattle.sim_queue.specs.Queues.{filed_of, IsFiledInRange};
 ghost use Rattle.sim_queue.specs.Waiting.{happening_of, own_of};
@@ -48,74 +48,13 @@ use its_world::laws::late_stations_were_there;
 use its_world::{Config, Entry, Event, What, World};
 use sim_queue::places::PlaceIndex;
 use sim_queue::{
-    AirAction, Delivery, Draws, Next, Queue, Scheduled, is_present, schedule_coming_sends,
+    AirAction, Delivery, Draws, Queue, Scheduled, is_present, schedule_coming_sends,
     schedule_coming_tick, schedule_first_ticks, schedule_tick, schedule_traffic,
 };
 use sim_scenario::events::{FileEvent, end_of};
 use sim_settings::{Air, Traffic};
 use sim_simulation::{EventSink, Note, do_event};
 use std::alloc::Global;
-
-/// Runs the events and leaves of a file in an air, in which each frame that a station gives is
-/// heard by those in reach, and hands each event to a sink as it is done. Gives the world that the
-/// last one left.
-///
-/// Events wait in the order of their moments, those of one moment in the order in which they were
-/// put: first those of the file, then, with beacons, a tick of each present station at a jitter,
-/// then, of each traffic in order, a send of each present station at a draw below its period. A
-/// frame that a present station gives is heard by each other present station in reach, in order,
-/// unless a draw loses it, and is delivered to it after the delay. After a tick of the air's own
-/// that wasn't refused, the station's next one is put at the event's moment or, where that is
-/// later, when its beacon is due by the next jitter; after a send of traffic, refused or not, its
-/// next one a period later. The run ends where nothing waits up to the last moment.
-///
-/// A station leaves where the file says so: it is absent then. A tick or a send of the air's own
-/// that is taken of an absent station isn't run, and nothing follows it. A move that isn't refused
-/// makes an absent station present: with beacons, where no tick of the air's own waits for it, its
-/// first one is put, later by a jitter; then of each traffic, in order, its first send where none
-/// waits, later by a draw below the period.
-///
-/// There is a list of events of which the world stands at the end, by the written rules: of that
-/// very end hold the laws over every schedule; the sink took just these events and their entries;
-/// and those of the file, up to the last moment, are among them, in their order. One of these laws:
-/// where deliveries come, a geobroadcast reaches (`what_is_delivered_reaches` of `its_model`).
-///
-/// The numbers of each config have to be in their ranges, of no two the MIDs the same, of at most
-/// 65535, and the speed of each `MoveTo` has to be in its range. `present` has, by numbers, which
-/// stations are present at the start. Where an allocation or the sink failed, the sink has the
-/// events before.
-pub fn run_air<S: EventSink>(
-    alloc: Global,
-    configs: &[Config],
-    present: &[bool],
-    file: &[FileEvent],
-    air: &Air,
-    every: &[Traffic],
-    sink: &mut S,
-) -> Result<World, AirFault>
-    requires configs { All IsConfig configs.now }
-    requires count { length configs.now ≤ 65535 }
-    requires apart { AreApart configs.now }
-    requires events { All IsFiledInRange file.now }
-    requires moments { All (λ filed. moment_of filed < 2 ^ 63) file.now }
-    ensures file { S.Took sink.old [] [] → IfOk result (λ world.
-        IsAirRun (map config_of configs.now) (map filed_of file.now)
-        (end_of air.now.until file.now) world (S.Took sink.new)) }
-    ensures timed { S.Took sink.old [] [] → IfOk result (λ world.
-        IsTimedRun (rules_of air.now (all_traffic every.now) (end_of air.now.until file.now)
-        present.now) (map config_of configs.now) (map filed_of file.now) world
-        (S.Took sink.new)) }
-{
-    // A law, for the proof alone.
-    every_schedule();
-    let mut run = Run::begin(alloc, configs, present, file, air, every)?;
-    for _ in 0..usize::MAX {
-        if !run.go_on(sink)? {
-            return Ok(run.world);
-        }
-    }
-    Err(AirFault::TooManyEvents)
-}
 
 /// A run that is under way.
 #[derive(Drop)]
@@ -294,61 +233,6 @@ impl<'a> Run<'a> {
         is_present(self.present.as_slice(), station)
     }
 
-    /// Takes the first that waits, if one does. Most are deliveries, for which no event of any kind
-    /// is copied.
-    fn go_on<S: EventSink>(&mut self, sink: &mut S) -> Result<bool, AirFault>
-        requires ranges { All (λ filed. IsFiledInRange filed.now) self.old.queue.due.items }
-        requires kept { self.old.world.released ≡ 0 }
-        requires standings { AreIndexed self.old }
-        ensures standings { OnOk result (AreIndexed self.new) }
-        ensures due { self.new.queue.due ≡ self.old.queue.due }
-        ensures kept { self.new.world.released ≡ 0 }
-        ensures ended { IfOk result (λ more.
-            more ≡ false → length self.new.queue.due.items ≤ self.new.queue.taken) }
-        ensures run { (configs : List Beginning) (events : List Happening) →
-            IsUnderWay configs events self.old (S.Took sink.old) → OnOk result (
-            (more : List Happening) × IsUnderWay configs more self.new (S.Took sink.new)) }
-        ensures timed { (rules : Rules) (configs : List Beginning) (a : AirModel) →
-            IsTimed rules configs a self.old (S.Took sink.old) → IfOk result (λ more.
-            GoesOn more rules configs a self.new (S.Took sink.new)) }
-    {
-        let Some(delivery) = self.queue.pop_delivery() else {
-            return self.take_first(sink);
-        };
-        self.deliver(&delivery, sink)?;
-        Ok(true)
-    }
-
-    /// The same of whatever waits.
-    fn take_first<S: EventSink>(&mut self, sink: &mut S) -> Result<bool, AirFault>
-        requires ranges { All (λ filed. IsFiledInRange filed.now) self.old.queue.due.items }
-        requires kept { self.old.world.released ≡ 0 }
-        requires standings { AreIndexed self.old }
-        ensures standings { OnOk result (AreIndexed self.new) }
-        ensures due { self.new.queue.due ≡ self.old.queue.due }
-        ensures kept { self.new.world.released ≡ 0 }
-        ensures ended { IfOk result (λ more.
-            more ≡ false → length self.new.queue.due.items ≤ self.new.queue.taken) }
-        ensures run { (configs : List Beginning) (events : List Happening) →
-            IsUnderWay configs events self.old (S.Took sink.old) → OnOk result (
-            (more : List Happening) × IsUnderWay configs more self.new (S.Took sink.new)) }
-        ensures timed { (rules : Rules) (configs : List Beginning) (a : AirModel) →
-            IsTimed rules configs a self.old (S.Took sink.old) → IfOk result (λ more.
-            GoesOn more rules configs a self.new (S.Took sink.new)) }
-    {
-        match self.queue.pop() {
-            None => Ok(false),
-            Some(Next::OfFile(filed)) => {
-                self.do_filed(filed, sink)?;
-                Ok(true)
-            }
-            Some(Next::Own(waiting)) => {
-                self.do_own(&waiting, sink)?;
-                Ok(true)
-            }
-        }
-    }
-
     /// Does what the file has: an event, with which its station may come, or a leave.
     pub(crate) fn do_filed<S: EventSink>(
         &mut self,
@@ -360,13 +244,8 @@ impl<'a> Run<'a> {
         requires kept { All (λ event. IsKept self.old.world.released event.what)
             (events_in (filed_of filed.now ∷ [])) }
         requires standings { AreIndexed self.old }
-        ensures file { SameFile self.old.queue self.new.queue }
         ensures released { self.new.world.released ≡ self.old.world.released }
         ensures standings { OnOk result (AreIndexed self.new) }
-        ensures run { (configs : List Beginning) (events : List Happening) →
-            IsSimulated configs events self.old.world (S.Took sink.old) → OnOk result (
-            IsSimulated configs (events ++ events_in (filed_of filed.now ∷ [])) self.new.world
-            (S.Took sink.new)) }
         ensures timed { (rules : Rules) (configs : List Beginning) (a : AirModel) →
             IsTimed rules configs a self.old (S.Took sink.old) → OnOk result
             (IsTimed rules configs (take_one rules configs a (of_file (filed_of filed.now))
@@ -394,14 +273,9 @@ impl<'a> Run<'a> {
         requires moment { event.now.moment ≤ 2 ^ 63 + 10000 }
         requires kept { IsKept self.old.world.released (what_of event.now.what) }
         requires standings { AreIndexed self.old }
-        ensures file { SameFile self.old.queue self.new.queue }
         ensures released { self.new.world.released ≡ self.old.world.released }
         ensures count { length self.new.world.stations ≡ length self.old.world.stations }
         ensures standings { OnOk result (AreIndexed self.new) }
-        ensures run { (configs : List Beginning) (events : List Happening) →
-            IsSimulated configs events self.old.world (S.Took sink.old) → OnOk result (
-            IsSimulated configs (events ++ event_of event.now ∷ []) self.new.world
-            (S.Took sink.new)) }
         ensures timed { (rules : Rules) (configs : List Beginning) (a : AirModel) →
             IsTimed rules configs a self.old (S.Took sink.old) → OnOk result
             (IsTimed rules configs (take_one rules configs a
@@ -434,17 +308,16 @@ impl<'a> Run<'a> {
     }
 
     /// Does a delivery. Nothing follows it but the deliveries of the frame that it gives.
-    fn deliver<S: EventSink>(&mut self, delivery: &Delivery, sink: &mut S) -> Result<(), AirFault>
+    pub(crate) fn deliver<S: EventSink>(
+        &mut self,
+        delivery: &Delivery,
+        sink: &mut S,
+    ) -> Result<(), AirFault>
         requires moment { delivery.now.moment ≤ 2 ^ 63 + 10000 }
         requires kept { self.old.world.released ≤ delivery.now.frame }
         requires standings { AreIndexed self.old }
-        ensures file { SameFile self.old.queue self.new.queue }
         ensures released { self.new.world.released ≡ self.old.world.released }
         ensures standings { OnOk result (AreIndexed self.new) }
-        ensures run { (configs : List Beginning) (events : List Happening) →
-            IsSimulated configs events self.old.world (S.Took sink.old) → OnOk result (
-            (more : List Happening) × IsSimulated configs (events ++ more) self.new.world
-            (S.Took sink.new)) }
         ensures timed { (rules : Rules) (configs : List Beginning) (a : AirModel) →
             IsTimed rules configs a self.old (S.Took sink.old) → OnOk result
             (IsTimed rules configs
@@ -476,23 +349,6 @@ impl<'a> Run<'a> {
         self.world.expect(delivery.moment, delivery.frame, stations);
     }
 
-    /// `announce` of one of the air's own, if it is a delivery.
-    pub(crate) fn announce_own(&mut self, waiting: &Scheduled)
-        ensures world { SameWorld self.old self.new }
-        ensures present { self.new.present ≡ self.old.present }
-        ensures queue { self.new.queue ≡ self.old.queue }
-        ensures draws { self.new.draws ≡ self.old.draws }
-    {
-        if let AirAction::Deliver(frame) = waiting.own {
-            self.announce(&Delivery {
-                moment: waiting.moment,
-                place: waiting.place,
-                station: waiting.station,
-                frame,
-            });
-        }
-    }
-
     /// Does one of the air's own, and puts what follows it. A tick or a send of an absent station
     /// is passed over.
     pub(crate) fn do_own<S: EventSink>(
@@ -503,17 +359,8 @@ impl<'a> Run<'a> {
         requires moment { waiting.now.moment ≤ 2 ^ 63 + 10000 }
         requires kept { IsKept self.old.world.released (own_of waiting.now.own) }
         requires standings { AreIndexed self.old }
-        ensures file { SameFile self.old.queue self.new.queue }
         ensures released { self.new.world.released ≡ self.old.world.released }
         ensures standings { OnOk result (AreIndexed self.new) }
-        ensures run { (configs : List Beginning) (events : List Happening) →
-            IsSimulated configs events self.old.world (S.Took sink.old) → OnOk result (
-            (more : List Happening) × IsSimulated configs (events ++ more) self.new.world
-            (S.Took sink.new)) }
-        ensures own { (configs : List Beginning) (events : List Happening) →
-            IsSimulated configs events self.old.world (S.Took sink.old) → OnOk result (
-            (more : List Happening) × All (λ event. event.station ≡ waiting.now.station) more
-            × IsSimulated configs (events ++ more) self.new.world (S.Took sink.new)) }
         ensures timed { (rules : Rules) (configs : List Beginning) (a : AirModel) →
             IsTimed rules configs a self.old (S.Took sink.old) → OnOk result
             (IsTimed rules configs (take_one rules configs a (pending_of waiting.now) a.timetable)

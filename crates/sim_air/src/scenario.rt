@@ -4,7 +4,7 @@ ghost use Rattle.std.specs.Prelude.{◌≤◌, [], IfOk, vec_len};
 ghost use Rattle.sim_air.specs.Scenarios.{IsRunOf};
 
 use crate::fault::AirFault;
-use crate::run::run_air;
+use crate::filed::run_air;
 use its_world::World;
 use sim_scenario::{Scenario, Timeline};
 use sim_simulation::{EventSink, simulate_into};

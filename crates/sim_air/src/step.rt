@@ -1,13 +1,14 @@
 //! What comes to a run from outside is done, and what is the air's own.
 
 ghost use Rattle.std.specs.Prelude.{[], ℕ, IsTrue, ◌≡◌, ◌≤◌, ◌<◌, ◌+◌, ◌^◌, ◌∷◌, All, length};
-ghost use Rattle.std.specs.Prelude.{IfOk, OnOk, ◌⊎◌, false, map};
+ghost use Rattle.std.specs.Prelude.{IfOk, OnOk, ◌⊎◌, true, false, map};
 ghost use Rattle.sim_scenario.specs.Airs.{moment_of};
 ghost use Rattle.sim_scenario.specs.Events.{FitsAddressed, station_in};
 ghost use Rattle.its_world.specs.Events.{IsInRange, event_of, what_of};
 ghost use Rattle.its_world.specs.Steps.{IsKept};
 ghost use Rattle.sim_air.specs.AirRun.{events_in};
 ghost use Rattle.sim_air.specs.Moving.{DoesAsked, DoesFiled, DoesTaken, DoesThere};
+ghost use Rattle.sim_air.specs.Moving.{LeavesOwn, TakesOwn};
 ghost use Rattle.sim_air.specs.Outside.{Delivers, opening_at, station_of_filed};
 ghost use Rattle.sim_queue.specs.Queues.{IsFiledInRange, filed_of};
 ghost use Rattle.sim_air.specs.Runs.{AreIndexed};
@@ -15,9 +16,10 @@ ghost use Rattle.sim_queue.specs.Waiting.{own_of};
 ghost use Rattle.sim_air_model.specs.Timetable.Filed.{Happens};
 
 use crate::fault::AirFault;
+use crate::frames::{FrameCount, release_delivered};
 use crate::run::{Run, place_of};
 use its_world::{Event, What};
-use sim_queue::Scheduled;
+use sim_queue::{AirAction, Delivery, Scheduled};
 use sim_scenario::events::{AddressedEvent, FileEvent};
 use sim_simulation::EventSink;
 use std::alloc::Global;
@@ -80,9 +82,39 @@ fn is_there(run: &Run<'_>, filed: &FileEvent) -> bool
     }
 }
 
+/// Takes the first of the radio model's own, if its time is before a limit, and does it. Returns
+/// whether it did. Before that frames are released whose deliveries are done, and none of the lowest
+/// number that an event delivers, or a higher one.
+pub(crate) fn take_own<S: EventSink>(
+    run: &mut Run<'_>,
+    count: &mut FrameCount,
+    lowest: usize,
+    limit: u64,
+    sink: &mut S,
+) -> Result<bool, AirFault>
+    requires limit { limit ≤ 2 ^ 63 + 10001 }
+    requires standings { AreIndexed run.old }
+    ensures standings { OnOk result (AreIndexed run.new) }
+    ensures kept { OnOk result (run.old.world.released ≤ lowest →
+        run.new.world.released ≤ lowest) }
+    ensures taken { IfOk result (λ taken. taken ≡ true →
+        TakesOwn limit count.old run.old (S.Took sink.old) count.new run.new
+        (S.Took sink.new)) }
+    ensures left { IfOk result (λ taken. taken ≡ false →
+        LeavesOwn limit count.old run.old (S.Took sink.old) count.new run.new
+        (S.Took sink.new)) }
+{
+    let Some(waiting) = run.queue.pop_before(limit) else {
+        return Ok(false);
+    };
+    release_delivered(run, count, lowest, waiting.moment);
+    do_own(run, &waiting, sink)?;
+    Ok(true)
+}
+
 /// Does one of the air's own, where its station is there, and the frame that it delivers, if it
 /// does, is kept. Both always are so.
-pub(crate) fn do_own<S: EventSink>(
+fn do_own<S: EventSink>(
     run: &mut Run<'_>,
     waiting: &Scheduled,
     sink: &mut S,
@@ -90,15 +122,24 @@ pub(crate) fn do_own<S: EventSink>(
     requires moment { waiting.now.moment ≤ 2 ^ 63 + 10000 }
     requires standings { AreIndexed run.old }
     ensures standings { OnOk result (AreIndexed run.new) }
+    ensures released { run.new.world.released ≡ run.old.world.released }
     ensures moving { OnOk result (DoesTaken waiting.now run.old (S.Took sink.old) run.new
         (S.Took sink.new)) }
 {
-    if can_do(run, waiting) {
-        run.announce_own(waiting);
-        run.do_own(waiting, sink)
-    } else {
-        Ok(())
+    if !can_do(run, waiting) {
+        return Ok(());
     }
+    let AirAction::Deliver(frame) = waiting.own else {
+        return run.do_own(waiting, sink);
+    };
+    // Most are deliveries: of these no event of any kind is copied.
+    let delivery = Delivery {
+        moment: waiting.moment,
+        place: waiting.place,
+        station: waiting.station,
+        frame,
+    };
+    run.deliver(&delivery, sink)
 }
 
 /// Whether the station is there of one of the air's own, and the frame is kept that it delivers, if

@@ -1,4 +1,5 @@
 use Rattle.std.proofs.Common.{◌≡◌, ◌∙◌, ℕ, [], List, map, length, sym, subst, ap, arith, Option}
+use Rattle.std.proofs.Common.{true}
 use Rattle.std.proofs.lemmas.List.{length-map}
 use Rattle.its_model.specs.World.{Config}
 use Rattle.sim_scenario.specs.Airs.{end_of}
@@ -52,7 +53,7 @@ loop-init g c =
           subst (λ (v : Vec (Bor AddressedEvent) Global). IsByMoment t.events.items
           (map (λ (e : Bor AddressedEvent). e.now) v.items)) (sym read.events.0) b.asked;
       under = λ took.
-          let moving = begun by configs (end_in m) m.run Took long b.rules b.present b.world
+          let moving = begun true by configs (end_in m) m.run Took long b.rules b.present b.world
           (c.every_schedule.ensures configs []) b.keeps b.frames.0 took in
           subst (λ (n : ℕ). IsUnderSome by configs n c.read_row.new.rows.before next Took)
           (sym read.begin)

@@ -1,3 +1,4 @@
+use Rattle.std.proofs.Common.{true}
 use Rattle.std.proofs.Common.{◌∙◌, ℕ, [], length, subst, sym}
 use Rattle.its_station.specs.State.{StationState}
 use Rattle.sim_air.specs.Moving.{DoesAt}
@@ -26,7 +27,7 @@ returns-clause-moving g c =
         subst (λ (f : Filed). MayCome (length run.world.stations) f does.came)
             (filed_done event.action station event.moment place filed done) does.may,
       );
-      does = subst (λ (n : ℕ). DoesAt n does.came run A c.do_filed.new.run B) done.1 does.does;
+      does = subst (λ (n : ℕ). DoesAt true n does.came run A c.do_filed.new.run B) done.1 does.does;
     })
     c.do_filed.ensures.moving
 
@@ -37,5 +38,5 @@ returns-in_default-clause-moving g c =
       may = away_at (length c.args.run.now.world.stations) c.args.event.now c.args.station
           (none_past (λ (st : StationState). st.vector.place) c.args.run.now.world.stations
           c.args.station (sym c.place_of.ensures ∙ c.in_default.is));
-      does = none_at _ c.args.run.now (g.S.EventSink.Took c.args.sink.now);
+      does = none_at true _ c.args.run.now (g.S.EventSink.Took c.args.sink.now);
     }

@@ -1,3 +1,4 @@
+use Rattle.std.proofs.Common.{true}
 use Rattle.std.proofs.Common.{◌<◌, ◌∷◌, [], ℕ, length, refl, sym, subst, inl, inr}
 use Rattle.std.specs.Prelude.{OnOk}
 use Rattle.sim_air.specs.Moving.{DoesAt}
@@ -23,9 +24,9 @@ returns-then-is_there-clause-moving g c =
       );
       does = does;
     })
-    (subst (λ (n : ℕ). OnOk c.do_filed.result (DoesAt n (filed_of filed ∷ []) run A
+    (subst (λ (n : ℕ). OnOk c.do_filed.result (DoesAt true n (filed_of filed ∷ []) run A
     c.do_filed.new.self B)) (same_moment filed)
-    (comes_well c.do_filed.result (filed_of filed) run c.do_filed.new.self A B
+    (comes_well c.do_filed.result true (filed_of filed) run c.do_filed.new.self A B
     (subst (λ (n : ℕ). n < length run.world.stations) (sym (same_station filed)) there)
     c.do_filed.ensures.released c.do_filed.ensures.timed))
 
@@ -34,5 +35,5 @@ returns-else-is_there-clause-moving g c =
     record {
       came = [];
       may = inr (c.is_there.ensures.away c.if-is_there.false, refl);
-      does = none_at _ c.args.run.now (g.S.EventSink.Took c.args.sink.now);
+      does = none_at true _ c.args.run.now (g.S.EventSink.Took c.args.sink.now);
     }

@@ -1,3 +1,4 @@
+use Rattle.std.proofs.Common.{true}
 use Rattle.std.proofs.Common.{sym, subst, ◌<◌, ◌++◌, ◌∷◌, [], ℕ, List, map, append_assoc}
 use Rattle.its_world.specs.Events.{event_of}
 use Rattle.sim_air.specs.Moving.{IsMoving}
@@ -21,14 +22,14 @@ returns-in_ok-note_coming-clause-moving g c = λ there rules configs made past e
     let D = g.S.EventSink.Took c.note_coming.new.sink in
     let moves : List Filed = Happens (event_of e) ∷ [] in
     let opens : List Filed = map (opening_at e.station e.moment) c.args.ports.now in
-    says_moving rules configs made (past ++ Happens (event_of e) ∷ opens) e.moment e.moment end
+    says_moving true rules configs made (past ++ Happens (event_of e) ∷ opens) e.moment e.moment end
     counted by c.open_ports.new.run C D c.in_ok-note_coming.ensures.told
-    (subst (λ (p : List Filed). IsMoving rules configs made p e.moment e.moment end counted by
+    (subst (λ (p : List Filed). IsMoving true rules configs made p e.moment e.moment end counted by
     c.open_ports.new.run C) (append_assoc past moves opens)
     (c.in_ok-open_ports.ensures.moving
     (subst (λ (n : ℕ). e.station < n) (sym c.do_outer.ensures.count) there) rules configs made
     (past ++ moves) end counted by within
-    (comes_at (Happens (event_of e)) c.args.run.now one A B there c.do_outer.ensures.released
+    (comes_at true (Happens (event_of e)) c.args.run.now one A B there c.do_outer.ensures.released
     c.in_ok-came.ensures.timed rules configs made past end counted by within h)))
 
 pub returns-else-came-clause-moving : goal.returns-else-came-clause-moving
@@ -40,10 +41,10 @@ returns-else-came-clause-moving g c = λ there rules configs made past end count
     let C = g.S.EventSink.Took c.open_ports.new.sink in
     let moves : List Filed = Happens (event_of e) ∷ [] in
     let opens : List Filed = map (opening_at e.station e.moment) c.args.ports.now in
-    subst (λ (p : List Filed). IsMoving rules configs made p e.moment e.moment end counted by
+    subst (λ (p : List Filed). IsMoving true rules configs made p e.moment e.moment end counted by
     c.open_ports.new.run C) (append_assoc past moves opens)
     (c.in_ok-open_ports.ensures.moving
     (subst (λ (n : ℕ). e.station < n) (sym c.do_outer.ensures.count) there) rules configs made
     (past ++ moves) end counted by within
-    (comes_at (Happens (event_of e)) c.args.run.now one A B there c.do_outer.ensures.released
+    (comes_at true (Happens (event_of e)) c.args.run.now one A B there c.do_outer.ensures.released
     c.in_ok-came.ensures.timed rules configs made past end counted by within h))

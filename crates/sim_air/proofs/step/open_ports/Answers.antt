@@ -1,3 +1,4 @@
+use Rattle.std.proofs.Common.{true}
 use Rattle.std.proofs.Common.{refl, ◌≡◌, ◌<◌, ◌+◌, ◌++◌, ◌∷◌, [], ℕ, List, sym, subst, ap, ◌∙◌}
 use Rattle.std.proofs.Common.{append_assoc, map, slice_index_or, take, take_all}
 use Rattle.std.proofs.lemmas.List.{map_more}
@@ -12,7 +13,7 @@ loop-port-init g c =
     record {
       standings = c.requires.standings;
       count = refl;
-      moving = λ there. none_at c.args.event.now.moment c.args.run.now
+      moving = λ there. none_at true c.args.event.now.moment c.args.run.now
           (g.S.EventSink.Took c.args.sink.now);
     }
 
@@ -35,9 +36,9 @@ loop-port-preserved g c =
       standings = c.in_ok-do_outer.ensures.standings;
       count = c.do_outer.ensures.count ∙ c.loop-port.invariant.count;
       moving = λ there rules configs made past end counted by within h.
-          subst (λ (p : List Filed). IsMoving rules configs made p e.moment e.moment end counted by
+          subst (λ (p : List Filed). IsMoving true rules configs made p e.moment e.moment end counted by
           new C) (append_assoc past came (f port ∷ []) ∙ ap (λ (l : List Filed). past ++ l) more)
-          (event_comes_at _ old new B C
+          (event_comes_at true _ old new B C
           (subst (λ (n : ℕ). e.station < n) (sym c.loop-port.invariant.count) there)
           c.do_outer.ensures.released c.in_ok-do_outer.ensures.timed rules configs made
           (past ++ came) end counted by within

@@ -1,3 +1,4 @@
+use Rattle.std.proofs.Common.{true}
 use Rattle.std.proofs.Common.{refl, sym, subst, ap, ◌∙◌, ◌<◌, ◌≡◌, ◌∷◌, ℕ, List, length, map}
 use Rattle.its_model.specs.World.{Event}
 use Rattle.its_world.specs.Events.{event_of}
@@ -36,8 +37,8 @@ returns-clause-moving g c =
     row_does row station ports old one _ A B C c.in_ok-found.ensures.moving
     (same_end old one c.station_of.ensures.until c.station_of.ensures.end) refl
     c.in_ok-note_row.ensures.from refl refl refl refl refl
-    (subst (λ (l : List Filed). DoesAt m l one.run B c.move_in.new.run C) came
-    (subst (λ (n : ℕ). DoesAt n (Happens (event_of event)
+    (subst (λ (l : List Filed). DoesAt true m l one.run B c.move_in.new.run C) came
+    (subst (λ (n : ℕ). DoesAt true n (Happens (event_of event)
     ∷ map (opening_at event.station event.moment) ports) one.run B c.move_in.new.run C) is.moment
     (moves there))))
     c.move_in.ensures.moving

@@ -1,112 +1,67 @@
-use Rattle.std.proofs.Common.{◌≡◌, ◌≤◌, ◌+◌, ◌∙◌, ℕ, refl, subst, ap, arith, All, length}
-use Rattle.sim_air.specs.Moving.{IsMoving, IsTaken}
+use Rattle.std.proofs.Common.{◌≡◌, ◌≤◌, ◌+◌, ◌∙◌, ℕ, refl, subst, sym, ap, arith, length, All, true}
+use Rattle.sim_air.specs.Moving.{IsMoving}
 use Rattle.sim_air.specs.UnderRows.{ComesFrom, end_in, turn_in}
-use Rattle.sim_air.specs.declared.run.Run.{Run}
+use Rattle.sim_air.specs.declared.frames.FrameCount.{FrameCount}
 use Rattle.sim_queue.specs.declared.scheduled.Scheduled.{Scheduled}
-use Rattle.sim_air.proofs.Moved.{ended, is_next, is_taken, still_taken}
+use Rattle.sim_air.proofs.Moved.{comes_to, ended}
 use Rattle.sim_air.proofs.UnderRows.{comes_later, end_given, from_coming, is_last_of, is_next_of}
-use Rattle.sim_air.proofs.UnderRows.{limits, none_until, own_under, same_end}
+use Rattle.sim_air.proofs.UnderRows.{limits, none_until, own_under}
 use Rattle.sim_air.proofs.Outside.{is_outside, next_came, same_came, still_comes}
 use Rattle.sim_air.proofs.moving_run.MovingRun.go_on.Goals as goal
 
-pub returns-in-Some-clause-moving : goal.returns-in-Some-clause-moving
-returns-in-Some-clause-moving g c = λ is rules configs u.
+pub returns-then-taken-clause-moving : goal.returns-then-taken-clause-moving
+returns-then-taken-clause-moving g c = λ is rules configs u.
     let old = c.args.self.now in
-    let w = c.in-Some.waiting in
-    let A = g.S.EventSink.Took c.args.sink.now in
-    let B = g.S.EventSink.Took c.do_own.new.sink in
+    let B = g.S.EventSink.Took c.take_own.new.sink in
     let next = c.next_until-coming.ensures in
     let end = c.end-end.ensures.end in
     let limit = c.limit_of-limit.result in
     let l = limits c.next_until-coming.result old limit c.end-end.result next.until next.next
-    next.none
-    c.limit_of-limit.ensures.some c.limit_of-limit.ensures.none in
+    next.none c.limit_of-limit.ensures.some c.limit_of-limit.ensures.none in
     let most = l.0 in
-    let before = c.in-Some.ensures.before in
-    let one : Run = record {
-      alloc = old.run.alloc;
-      air = old.run.air;
-      every = old.run.every;
-      world = old.run.world;
-      queue = c.pop_before.new.self;
-      draws = old.run.draws;
-      present = old.run.present;
-      standings = old.run.standings;
-      hearers = old.run.hearers;
-      done = old.run.done;
-      announced = old.run.announced;
-    } in
-    let taken : IsTaken rules configs u.made u.past u.from (end_in old) old.frames_before
-    old.delivered_by w one A =
-    is_taken rules configs u.made u.past u.last u.from (end_in old) old.frames_before
-    old.delivered_by old.run one A
-    w refl refl refl refl refl c.pop_before.ensures.due c.pop_before.ensures.taken
-    c.pop_before.ensures.until c.pop_before.ensures.put c.in-Some.ensures.left
-    c.in-Some.ensures.first (omega (arith, end, most, before)) u.under.moving in
-    let let_go = c.release_delivered.new.self in
-    let goes = c.release_delivered.ensures in
-    let still = still_taken rules configs u.made u.past u.from (end_in old) old.frames_before
-    old.delivered_by
-    let_go.frames_before let_go.delivered_by one let_go.run A w goes.air goes.every goes.queue
-    goes.draws goes.present goes.stands goes.counted goes.frames taken in
+    let done = c.in_ok-taken.ensures.taken c.if-taken.true true rules configs u.made u.past u.last
+    u.from (end_in old) (omega (arith, end, most)) u.under.moving in
+    let before = done.1 in
     record {
-      last = w.moment;
-      from = w.moment + 1;
+      last = done.0;
+      from = done.0 + 1;
       made = u.made;
       past = u.past;
       came = u.came;
       turn = u.turn;
       under =
-          own_under rules configs u.made u.past w.moment c.args.rows.now.begin
-          c.args.rows.now.before old _ B goes.row goes.departures goes.events.0 goes.events.1
-          (same_end old let_go goes.end.0 goes.end.1)
-          (comes_later old limit (w.moment + 1) (omega (arith, before)) l.1) u.under.ahead
-          (c.in_ok-do_own.ensures.moving rules configs u.made u.past u.from (end_in old)
-          let_go.frames_before let_go.delivered_by still);
+          own_under rules configs u.made u.past done.0 c.args.rows.now.begin
+          c.args.rows.now.before old _ B refl refl refl refl refl
+          (comes_later old limit (done.0 + 1) (omega (arith, before)) l.1) u.under.ahead done.2;
       outside =
-          same_came (length configs) (length u.made) u.came u.past u.turn u.turn old _ goes.moves
-          goes.events.0 goes.events.1 (omega arith)
-          (still_comes u.turn old _ goes.row goes.departures goes.events.0 goes.events.1
-          u.outside.next) u.outside;
+          same_came (length configs) (length u.made) u.came u.past u.turn u.turn old _ refl
+          refl refl (omega arith)
+          (still_comes u.turn old _ refl refl refl refl u.outside.next) u.outside;
     }
 
-pub returns-in_ok-take_in-in-Some-coming-clause-moving :
-    goal.returns-in_ok-take_in-in-Some-coming-clause-moving
-returns-in_ok-take_in-in-Some-coming-clause-moving g c = λ is rules configs u.
+pub returns-in_ok-take_in-in-Some-clause-moving : goal.returns-in_ok-take_in-in-Some-clause-moving
+returns-in_ok-take_in-in-Some-clause-moving g c = λ is rules configs u.
     let old = c.args.self.now in
-    let coming = c.in-Some-coming.coming in
+    let coming = c.in-Some.coming in
     let m = coming.moment in
-    let A = g.S.EventSink.Took c.args.sink.now in
     let n = is_next_of c.next_until-coming.result old c.limit_of-limit.result coming
-    c.in-Some-coming.is c.next_until-coming.ensures.next c.limit_of-limit.ensures.some in
-    let one : Run = record {
-      alloc = old.run.alloc;
-      air = old.run.air;
-      every = old.run.every;
-      world = old.run.world;
-      queue = c.pop_before.new.self;
-      draws = old.run.draws;
-      present = old.run.present;
-      standings = old.run.standings;
-      hearers = old.run.hearers;
-      done = old.run.done;
-      announced = old.run.announced;
-    } in
-    let late : All (λ (w : Scheduled). m ≤ w.moment) old.run.queue.own =
-    subst (λ (k : ℕ). All (λ (w : Scheduled). k ≤ w.moment) old.run.queue.own) n.1
-    c.in_default.ensures.late in
-    let moving : IsMoving rules configs u.made u.past m m (end_in old) old.frames_before
-    old.delivered_by one A =
-    is_next rules configs u.made u.past u.last u.from (end_in old) old.frames_before
-    old.delivered_by m old.run one
-    A refl refl refl refl refl c.pop_before.ensures.due c.pop_before.ensures.taken
-    c.pop_before.ensures.until c.pop_before.ensures.put c.in_default.ensures.none late
-    (from_coming old u.from m coming.outside n.0.is u.under.comings) u.under.moving in
+    c.in-Some.is c.next_until-coming.ensures.next c.limit_of-limit.ensures.some in
+    let left = c.in_ok-taken.ensures.left c.if-taken.false in
+    let B = g.S.EventSink.Took c.take_own.new.sink in
+    let run = c.take_own.new.run in
+    let moving = subst (λ (f : FrameCount). IsMoving true rules configs u.made u.past m m
+    (end_in old) f.before f.delivered_by run B) (sym left.count)
+    (comes_to true rules configs u.made u.past u.last u.from (end_in old) old.count.before
+    old.count.delivered_by m run B
+    (subst (λ (k : ℕ). All (λ (w : Scheduled). k ≤ w.moment) run.queue.own) n.1 left.late)
+    (from_coming old u.from m coming.outside n.0.is u.under.comings)
+    (left.stays true rules configs u.made u.past u.last u.from (end_in old) old.count.before
+    old.count.delivered_by u.under.moving)) in
     let first = n.0.first in
     let turn = n.0.turn in
     let outside = next_came (length configs) (length u.made) u.came u.past u.turn old coming n.0
     u.outside in
-    c.in_ok-take_in-in-Some-coming.ensures.moving rules configs u.made u.past u.came
+    c.in_ok-take_in-in-Some.ensures.moving rules configs u.made u.past u.came
     (record {
       moving = moving;
       comings = record { row = first.row; departures = first.departures; events = first.events };
@@ -135,10 +90,13 @@ returns-in-None-clause-ended g c = λ is rules configs asked by u.
     is_last_of c.next_until-coming.result c.limit_of-limit.result c.end-end.result
     c.in-None.is c.limit_of-limit.ensures.none
     ∙ ap (λ n. n + 1) c.end-end.ensures.end in
-    ended rules configs u.made u.past u.last u.from end old.frames_before old.delivered_by
-    old.run (g.S.EventSink.Took c.args.sink.now) old.moves.now asked old.until
+    let left = c.in_ok-taken.ensures.left c.if-taken.false in
+    let run = c.take_own.new.run in
+    ended rules configs u.made u.past u.last u.from end old.count.before old.count.delivered_by
+    run (g.S.EventSink.Took c.take_own.new.sink) old.moves.now asked old.until
     (end_given old.until old.greatest)
-    (subst (λ (k : ℕ). All (λ (w : Scheduled). k ≤ w.moment) old.run.queue.own) last
-    c.in_default.ensures.late) u.under.moving
+    (subst (λ (k : ℕ). All (λ (w : Scheduled). k ≤ w.moment) run.queue.own) last left.late)
+    (left.stays true rules configs u.made u.past u.last u.from end old.count.before
+    old.count.delivered_by u.under.moving)
     (is_outside (length configs) (length u.made) u.came u.past u.turn end old asked by comes
     u.outside)

@@ -1,3 +1,4 @@
+use Rattle.std.proofs.Common.{true}
 use Rattle.std.proofs.Common.{refl, ◌++◌, ◌∷◌, []}
 use Rattle.its_world.specs.Events.{config_of}
 use Rattle.sim_air.proofs.Moved.{one_made, says_moving}
@@ -19,10 +20,10 @@ returns-clause-moving g c = (
       refl
       (same_heap from old.departures c.add_station-2.new.self c.add_station-2.ensures.waiting
       h.comings.departures) refl refl refl refl refl
-      (says_moving rules configs (made ++ config ∷ []) past last from (end_in old)
-      old.frames_before old.delivered_by run A B c.in_ok-note.ensures
-      (one_made rules configs made past last from (end_in old) old.frames_before
-      old.delivered_by old.run run A config c.add_station.ensures.air c.add_station.ensures.every
+      (says_moving true rules configs (made ++ config ∷ []) past last from (end_in old)
+      old.count.before old.count.delivered_by run A B c.in_ok-note.ensures
+      (one_made rules configs made past last from (end_in old) old.count.before
+      old.count.delivered_by old.run run A config c.add_station.ensures.air c.add_station.ensures.every
       c.add_station.ensures.queue c.add_station.ensures.draws
       c.in_ok-add_station.ensures.present c.in_ok-add_station.ensures.frames.0
       c.in_ok-add_station.ensures.late h.moving)) h,

@@ -1,3 +1,4 @@
+use Rattle.std.proofs.Common.{true}
 use Rattle.std.proofs.Common.{◌∙◌, ◌+◌, ◌*◌, subst, sym, ap, ℕ, length, ◌≤◌, add-zero}
 use Rattle.sim_air.specs.UnderRows.{CameUnder, IsComing, IsUnder, class_in, end_in}
 use Rattle.sim_air.specs.declared.moving_run.Outside.{Outside}
@@ -30,8 +31,8 @@ returns-in-Departure-clause-moving g c =
     on_ok c.do_departure.result _ _
     (λ leaves rules configs made past came h outside.
     leave_done rules configs made past came begin clock _ moment old c.do_departure.new.self A B
-    (stations_made rules configs made past moment moment (end_in old) old.frames_before
-    old.delivered_by old.run A h.moving) does.moves does.row does.events.0 does.events.1
+    (stations_made true rules configs made past moment moment (end_in old) old.count.before
+    old.count.delivered_by old.run A h.moving) does.moves does.row does.events.0 does.events.1
     c.requires.until h
     (subst (λ (n : ℕ). CameUnder (length configs) (length made) came past n old)
     (ap (λ (o : Outside). 3 * moment + class_in o) c.in-Departure.is) outside) leaves)
@@ -51,8 +52,8 @@ returns-in-Event-clause-moving g c =
     on_ok c.do_next_event.result _ _
     (λ done rules configs made past came h outside.
     event_done_under rules configs made past came begin clock e old c.do_next_event.new.self A B
-    (stations_made rules configs made past moment moment (end_in old) old.frames_before
-    old.delivered_by old.run A h.moving) event.1 does.moves does.row does.departures (does.events
+    (stations_made true rules configs made past moment moment (end_in old) old.count.before
+    old.count.delivered_by old.run A h.moving) event.1 does.moves does.row does.departures (does.events
     e event.1).0
     (does.events e event.1).1
     (subst (λ (n : ℕ). n ≤ end_in old) (sym event.2) c.requires.until)

@@ -13,33 +13,11 @@ use Rattle.sim_air.specs.Runs.{SaysAsBefore}
 use Rattle.sim_air_model.specs.Timetable.{come, comes, is_passed_over}
 use Rattle.sim_air_model.specs.Timetable.{present_after, spread, take_one}
 use Rattle.sim_queue.specs.Waits.{pending_of, planned_of}
-use Rattle.sim_queue.proofs.Keeping.{on_ok, on_ok_both}
-use Rattle.sim_air.proofs.Keeping.{goes_on, same_file, timed_on}
+use Rattle.sim_queue.proofs.Keeping.{on_ok_both}
+use Rattle.sim_air.proofs.Keeping.{goes_on, timed_on}
 use Rattle.sim_air.proofs.Stepping.{own_done}
 use Rattle.sim_air.proofs.Under.{told_on}
-use Rattle.sim_queue.specs.Files.{SameFile}
-use Rattle.sim_queue.specs.declared.queue.Queue.{Queue}
 use Rattle.sim_air.proofs.run.Run.deliver.Goals as goal
-
-pub returns-clause-run : goal.returns-clause-run
-returns-clause-run g c = λ configs events before.
-    let e = event_of c.event-event.result in
-    let done = c.do_event.new.self in
-    let After = g.S.EventSink.Took c.come-came.new.sink in
-    subst (λ (v : WorldState). OnOk c.come-came.result
-    ((more : List Event) × IsSimulated configs (events ++ more) v After)) (sym c.reuse.ensures)
-    (on_ok c.come-came.result _ ((more : List Event)
-    × IsSimulated configs (events ++ more) c.come-came.new.self.world After)
-    (λ says. (
-      e ∷ [],
-      subst (λ (x : WorldState). IsSimulated configs (events ++ e ∷ []) x After)
-          (sym c.come-came.ensures.world.world)
-          (told_on configs (events ++ e ∷ []) done.world (g.S.EventSink.Took c.do_event.new.sink)
-          After says (c.in_ok-entry.ensures.run configs events
-          (subst (λ (v : WorldState). IsSimulated configs events v
-          (g.S.EventSink.Took c.args.sink.now)) (sym c.announce.ensures.world.world) before))),
-    ))
-    c.come-came.ensures.told)
 
 pub returns-clause-timed : goal.returns-clause-timed
 returns-clause-timed g c = λ rules configs a h0.
@@ -100,9 +78,3 @@ returns-clause-timed g c = λ rules configs a h0.
     c.come-came.ensures.told
     (on_ok_both c.come-came.result Presence Timing _ (λ x y. (x, y)) (c.come-came.ensures.present after said)
     (c.come-came.ensures.come rules after t goes said kept)))
-
-pub returns-clause-file : goal.returns-clause-file
-returns-clause-file g c =
-    subst (λ (q : Queue). SameFile q c.come-came.new.self.queue) c.announce.ensures.queue
-    (same_file c.announce.new.self.queue c.do_event.new.self.queue c.come-came.new.self.queue
-    c.do_event.ensures.file c.come-came.ensures.file)

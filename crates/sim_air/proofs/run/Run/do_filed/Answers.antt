@@ -1,4 +1,4 @@
-use Rattle.std.proofs.Common.{◌∙◌, [], ◌∷◌, ◌++◌, ap, sym, subst, List, Bool, false, ℕ}
+use Rattle.std.proofs.Common.{◌∙◌, [], ◌∷◌, ap, sym, subst, List, Bool, false, ℕ}
 use Rattle.std.specs.Prelude.{slice_set}
 use Rattle.its_model.specs.World.{Event}
 use Rattle.sim_scenario.specs.declared.events.event.FileEvent.{FileEvent}
@@ -10,7 +10,6 @@ use Rattle.sim_queue.specs.Keeps.{Keeps}
 use Rattle.sim_air.specs.Keeps.{IsTimed}
 use Rattle.sim_queue.specs.Queues.{filed_of}
 use Rattle.sim_air_model.specs.Timetable.{of_file, take_one}
-use Rattle.std.proofs.lemmas.List.{append-nil}
 use Rattle.sim_queue.specs.declared.queue.Queue.{Queue}
 use Rattle.sim_queue.proofs.Keeping.{on_ok}
 use Rattle.sim_air.proofs.Keeping.{goes_on}
@@ -18,20 +17,6 @@ use Rattle.sim_air.proofs.Under.{told_on}
 use Rattle.std.proofs.Common.{All, arith}
 use Rattle.its_world.specs.Steps.{IsKept}
 use Rattle.sim_air.proofs.run.Run.do_filed.Goals as goal
-
-pub returns-in-Leaves-clause-run : goal.returns-in-Leaves-clause-run
-returns-in-Leaves-clause-run g c = λ configs events before.
-    let last = c.leave.new.self in
-    let After = g.S.EventSink.Took c.leave.new.sink in
-    on_ok c.leave.result _ _
-    (λ says. subst (λ (f : FileEvent). IsSimulated configs
-    (events ++ events_in (filed_of f ∷ [])) last.world After) (sym c.in-Leaves.is)
-    (subst (λ (l : List Event). IsSimulated configs l last.world After) (sym (append-nil events))
-    (subst (λ (x : WorldState). IsSimulated configs events x After)
-    (sym c.leave.ensures.world.world)
-    (told_on configs events c.args.self.now.world (g.S.EventSink.Took c.args.sink.now) After says
-    before))))
-    c.leave.ensures.told
 
 pub returns-in-Leaves-clause-timed : goal.returns-in-Leaves-clause-timed
 returns-in-Leaves-clause-timed g c = λ rules configs a h.

@@ -1,9 +1,6 @@
 use Rattle.std.proofs.Common.{◌≡◌, ◌∙◌, [], ◌∷◌, ◌++◌, ap, sym, subst, List, Bool, cond, false}
 use Rattle.std.specs.Prelude.{Vec}
 use Rattle.std.specs.declared.alloc.Global.{Global}
-use Rattle.std.proofs.Common.{arith}
-use Rattle.std.proofs.lemmas.List.{append-nil}
-use Rattle.std.proofs.lemmas.List.Elements.{All-cons, All-nil}
 use Rattle.its_model.specs.World.{Event, opening, world_run}
 use Rattle.sim_simulation.specs.Simulated.{IsSimulated}
 use Rattle.its_world.specs.Events.{event_of}
@@ -16,18 +13,11 @@ use Rattle.sim_air_model.specs.Timetable.{Timetable, come, comes, follow_all, is
 use Rattle.sim_air_model.specs.Timetable.{is_refusal}
 use Rattle.sim_air_model.specs.Timetable.{present_after, spread}
 use Rattle.sim_queue.specs.Waits.{planned_of}
-use Rattle.sim_queue.proofs.Keeping.{on_ok, on_ok_both}
-use Rattle.sim_air.proofs.Keeping.{goes_on, same_file}
+use Rattle.sim_queue.proofs.Keeping.{on_ok_both}
+use Rattle.sim_air.proofs.Keeping.{goes_on}
 use Rattle.sim_air.proofs.Stepping.{follows, own_done, own_passed_over}
 use Rattle.sim_air.proofs.Under.{told_on}
 use Rattle.sim_air.proofs.run.Run.do_own.Goals as goal
-
-pub returns-then-is_passed_over-clause-run : goal.returns-then-is_passed_over-clause-run
-returns-then-is_passed_over-clause-run g c = λ configs events before. (
-  [],
-  subst (λ (l : List Event). IsSimulated configs l c.args.self.now.world
-      (g.S.EventSink.Took c.args.sink.now)) (sym (append-nil events)) before,
-)
 
 pub returns-then-is_passed_over-clause-timed : goal.returns-then-is_passed_over-clause-timed
 returns-then-is_passed_over-clause-timed g c = λ rules configs a h.
@@ -35,22 +25,6 @@ returns-then-is_passed_over-clause-timed g c = λ rules configs a h.
     (g.S.EventSink.Took c.args.sink.now)
     (ap (λ (l : List Bool). is_passed_over l (planned_of c.args.waiting.now)) (sym h.present)
     ∙ sym c.is_passed_over.ensures ∙ c.if-is_passed_over.true) h
-
-pub returns-clause-run : goal.returns-clause-run
-returns-clause-run g c = λ configs events before.
-    let e = event_of c.in_ok-event.event in
-    let done = c.do_event.new.self in
-    let last = c.come.new.self in
-    let After = g.S.EventSink.Took c.come.new.sink in
-    on_ok c.come.result _ _
-    (λ says. (
-      e ∷ [],
-      subst (λ (x : WorldState). IsSimulated configs (events ++ e ∷ []) x After)
-          (sym (c.come.ensures.world.world ∙ c.schedule_next.ensures.world.world))
-          (told_on configs (events ++ e ∷ []) done.world (g.S.EventSink.Took c.do_event.new.sink)
-          After says (c.in_ok-entry.ensures.run configs events before)),
-    ))
-    c.come.ensures.told
 
 pub returns-clause-timed : goal.returns-clause-timed
 returns-clause-timed g c = λ rules configs a h.
@@ -116,35 +90,3 @@ returns-clause-timed g c = λ rules configs a h.
     c.come.ensures.told
     (on_ok_both c.come.result Presence Timing _ (λ x y. (x, y)) (c.come.ensures.present after said)
     (c.come.ensures.come rules after t goes_next said followed))
-
-pub returns-clause-file : goal.returns-clause-file
-returns-clause-file g c =
-    same_file c.args.self.now.queue c.schedule_next.new.self.queue c.come.new.self.queue
-    (same_file c.args.self.now.queue c.do_event.new.self.queue c.schedule_next.new.self.queue
-    c.do_event.ensures.file c.schedule_next.ensures.file) c.come.ensures.file
-
-pub returns-then-is_passed_over-clause-own : goal.returns-then-is_passed_over-clause-own
-returns-then-is_passed_over-clause-own g c = λ configs events before. (
-  [],
-  λ k d lt. absurd (omega (arith, lt)),
-  subst (λ (l : List Event). IsSimulated configs l c.args.self.now.world
-      (g.S.EventSink.Took c.args.sink.now)) (sym (append-nil events)) before,
-)
-
-pub returns-clause-own : goal.returns-clause-own
-returns-clause-own g c = λ configs events before.
-    let e = event_of c.in_ok-event.event in
-    let done = c.do_event.new.self in
-    let After = g.S.EventSink.Took c.come.new.sink in
-    on_ok c.come.result _ _
-    (λ says. (
-      e ∷ [],
-      All-cons (λ (x : Event). x.station ≡ c.args.waiting.now.station) e []
-          (ap (λ (x : Event). x.station) c.in_ok-event.ensures.event)
-          (All-nil (λ (x : Event). x.station ≡ c.args.waiting.now.station)),
-      subst (λ (x : WorldState). IsSimulated configs (events ++ e ∷ []) x After)
-          (sym (c.come.ensures.world.world ∙ c.schedule_next.ensures.world.world))
-          (told_on configs (events ++ e ∷ []) done.world (g.S.EventSink.Took c.do_event.new.sink)
-          After says (c.in_ok-entry.ensures.run configs events before)),
-    ))
-    c.come.ensures.told

@@ -1,0 +1,258 @@
+//! The run of an air over the events of a file.
+
+ghost use Rattle.std.specs.Prelude.{[], List, Some, All, map, length, slice_get, true, false};
+ghost use Rattle.std.specs.Prelude.{◌≡◌, ◌≤◌, ◌<◌, ◌+◌, ◌^◌, ◌∷◌, IfNone, IfOk, IfSome, OnOk};
+ghost use Rattle.std.specs.List.Sorted.{IsNonDecreasingBy};
+ghost use denote.Ref.{Bor};
+ghost use Rattle.its_model.specs.World.{Config as Beginning, opening};
+ghost use Rattle.its_world.specs.Events.{IsConfig, config_of};
+ghost use Rattle.its_world.specs.Mids.{AreApart};
+ghost use Rattle.its_world.specs.State.{RepresentsWorld};
+ghost use Rattle.sim_air.specs.AirRun.{IsAirRun};
+ghost use Rattle.sim_air.specs.AirTimed.{IsTimedRun, rules_of};
+ghost use Rattle.sim_air.specs.Beside.{rules_beside};
+ghost use Rattle.sim_air.specs.Delivered.{KeepsFrom};
+ghost use Rattle.sim_air.specs.Filing.{IsFiling};
+ghost use Rattle.sim_air.specs.Keeps.{GoesBy};
+ghost use Rattle.sim_air.specs.Runs.{AreIndexed};
+ghost use Rattle.sim_air_model.specs.Timetable.{Filed, Rules, air_opening};
+ghost use Rattle.sim_queue.specs.Due.{AreDue};
+ghost use Rattle.sim_queue.specs.Keeps.{Keeps};
+ghost use Rattle.sim_queue.specs.Queues.{IsFiledInRange, filed_in, filed_of};
+ghost use Rattle.sim_queue.specs.Traffics.{all_traffic};
+ghost use Rattle.sim_scenario.specs.Airs.{end_of, moment_of};
+ghost use Rattle.sim_scenario.specs.declared.events.event.FileEvent.{FileEvent as Line};
+
+use crate::fault::AirFault;
+use crate::filed_run::FiledRun;
+use crate::frames::FrameCount;
+use crate::run::Run;
+use crate::step::take_own;
+use its_model::laws::every_schedule;
+use its_world::{Config, What, World};
+use sim_scenario::events::{FileEvent, end_of};
+use sim_settings::{Air, Traffic};
+use sim_simulation::EventSink;
+use std::alloc::{AllocError, Global};
+
+/// Runs the events and leaves of a file in an air, in which each frame that a station gives is
+/// heard by those in reach, and hands each event to a sink as it is done. Gives the world that the
+/// last one left.
+///
+/// Events wait in the order of their moments, those of one moment in the order in which they were
+/// put: first those of the file, then, with beacons, a tick of each present station at a jitter,
+/// then, of each traffic in order, a send of each present station at a draw below its period. A
+/// frame that a present station gives is heard by each other present station in reach, in order,
+/// unless a draw loses it, and is delivered to it after the delay. After a tick of the air's own
+/// that wasn't refused, the station's next one is put at the event's moment or, where that is
+/// later, when its beacon is due by the next jitter; after a send of traffic, refused or not, its
+/// next one a period later. The run ends where nothing waits up to the last moment.
+///
+/// A station leaves where the file says so: it is absent then. A tick or a send of the air's own
+/// that is taken of an absent station isn't run, and nothing follows it. A move that isn't refused
+/// makes an absent station present: with beacons, where no tick of the air's own waits for it, its
+/// first one is put, later by a jitter; then of each traffic, in order, its first send where none
+/// waits, later by a draw below the period.
+///
+/// There is a list of events of which the world stands at the end, by the written rules: of that
+/// very end hold the laws over every schedule; the sink took just these events and their entries;
+/// and those of the file, up to the last moment, are among them, in their order. One of these laws:
+/// where deliveries come, a geobroadcast reaches (`what_is_delivered_reaches` of `its_model`).
+///
+/// The numbers of each config have to be in their ranges, of no two the MIDs the same, of at most
+/// 65535, and the speed of each `MoveTo` has to be in its range. `present` has, by numbers, which
+/// stations are present at the start. Where an allocation or the sink failed, the sink has the
+/// events before.
+pub fn run_air<S: EventSink>(
+    alloc: Global,
+    configs: &[Config],
+    present: &[bool],
+    file: &[FileEvent],
+    air: &Air,
+    every: &[Traffic],
+    sink: &mut S,
+) -> Result<World, AirFault>
+    requires configs { All IsConfig configs.now }
+    requires count { length configs.now ≤ 65535 }
+    requires apart { AreApart configs.now }
+    requires events { All IsFiledInRange file.now }
+    requires moments { All (λ filed. moment_of filed < 2 ^ 63) file.now }
+    ensures file { S.Took sink.old [] [] → IfOk result (λ world.
+        IsAirRun (map config_of configs.now) (map filed_of file.now)
+        (end_of air.now.until file.now) world (S.Took sink.new)) }
+    ensures timed { S.Took sink.old [] [] → IfOk result (λ world.
+        IsTimedRun (rules_of air.now (all_traffic every.now) (end_of air.now.until file.now)
+        present.now) (map config_of configs.now) (map filed_of file.now) world
+        (S.Took sink.new)) }
+{
+    // A law, for the proof alone.
+    every_schedule();
+    let mut filed = FiledRun::begin(alloc, configs, present, file, air, every)?;
+    for _ in 0..usize::MAX {
+        if !filed.go_on(sink)? {
+            return Ok(filed.run.world);
+        }
+    }
+    Err(AirFault::TooManyEvents)
+}
+
+impl<'a> FiledRun<'a> {
+    /// A run of which nothing is done yet.
+    fn begin(
+        alloc: Global,
+        configs: &[Config],
+        present: &[bool],
+        file: &'a [FileEvent],
+        air: &Air,
+        every: &'a [Traffic],
+    ) -> Result<FiledRun<'a>, AirFault>
+        requires configs { All IsConfig configs.now }
+        requires count { length configs.now ≤ 65535 }
+        requires apart { AreApart configs.now }
+        requires events { All IsFiledInRange file.now }
+        requires moments { All (λ filed. moment_of filed < 2 ^ 63) file.now }
+        ensures world { IfOk result (λ filed.
+            RepresentsWorld filed.run.world (opening (map config_of configs.now))) }
+        ensures kept { IfOk result (λ filed. filed.run.world.released ≡ 0) }
+        ensures standings { IfOk result (λ filed. AreIndexed filed.run) }
+        ensures present { IfOk result (λ filed. filed.run.present.items ≡ present.now) }
+        ensures rules { IfOk result (λ filed. GoesBy (rules_of air.now (all_traffic every.now)
+            (end_of air.now.until []) present.now) filed.run) }
+        ensures keeps { IfOk result (λ filed. Keeps filed.run.queue filed.run.draws (air_opening
+            (rules_of air.now (all_traffic every.now) (end_of air.now.until []) present.now)
+            (map config_of configs.now) []).timetable) }
+        ensures count { IfOk result (λ filed. (filed.count.before ≡ 0)
+            × (filed.count.delivered_by ≡ 0)) }
+        ensures due { IfOk result (λ filed. AreDue (map filed_of file.now)
+            (end_of air.now.until file.now) (filed_in filed.due.items)) }
+        ensures taken { IfOk result (λ filed. filed.taken ≡ 0) }
+        ensures ranges { IfOk result (λ filed.
+            All (λ e. IsFiledInRange e.now) filed.due.items) }
+        ensures deliveries { IfOk result (λ filed.
+            All (λ e. KeepsFrom filed.lowest e.now) filed.due.items) }
+        ensures end { IfOk result (λ filed. filed.end ≡ end_of air.now.until file.now) }
+    {
+        let end = end_of(air, file);
+        let due = due_until(alloc, file, end)?;
+        let lowest = lowest_delivery(due.as_slice());
+        let none: &[FileEvent] = &[];
+        Ok(FiledRun {
+            run: Run::begin(alloc, configs, present, none, air, every)?,
+            count: FrameCount {
+                before: 0,
+                delivered_by: 0,
+            },
+            due,
+            taken: 0,
+            end,
+            lowest,
+        })
+    }
+
+    /// Takes the first that waits, if one does: of the file, or of the radio model's own.
+    fn go_on<S: EventSink>(&mut self, sink: &mut S) -> Result<bool, AirFault>
+        requires standings { AreIndexed self.old.run }
+        requires kept { self.old.run.world.released ≤ self.old.lowest }
+        requires ranges { All (λ e. IsFiledInRange e.now) self.old.due.items }
+        requires deliveries { All (λ e. KeepsFrom self.old.lowest e.now) self.old.due.items }
+        ensures standings { OnOk result (AreIndexed self.new.run) }
+        ensures kept { OnOk result (self.new.run.world.released ≤ self.new.lowest) }
+        ensures due { self.new.due ≡ self.old.due }
+        ensures end { self.new.end ≡ self.old.end }
+        ensures lowest { self.new.lowest ≡ self.old.lowest }
+        ensures filing { IfOk result (λ more. more ≡ true →
+            (rules : Rules) (configs : List Beginning) →
+            IsFiling rules configs self.old (S.Took sink.old) →
+            IsFiling rules configs self.new (S.Took sink.new)) }
+        ensures timed { IfOk result (λ more. more ≡ false →
+            (rules : Rules) (configs : List Beginning) (file : List Filed) →
+            AreDue file self.old.end (filed_in self.old.due.items) →
+            IsFiling rules configs self.old (S.Took sink.old) →
+            IsTimedRun (rules_beside [] self.old.end rules) configs file self.new.run.world
+            (S.Took sink.new)) }
+        ensures file { IfOk result (λ more. more ≡ false →
+            (rules : Rules) (configs : List Beginning) (file : List Filed) →
+            AreDue file self.old.end (filed_in self.old.due.items) →
+            IsFiling rules configs self.old (S.Took sink.old) →
+            IsAirRun configs file self.old.end self.new.run.world (S.Took sink.new)) }
+    {
+        let limit = self.limit();
+        let taken = take_own(&mut self.run, &mut self.count, self.lowest, limit, sink)?;
+        if taken {
+            return Ok(true);
+        }
+        let Some(filed) = self.next() else {
+            return Ok(false);
+        };
+        self.taken += 1;
+        self.run.do_filed(filed, sink)?;
+        Ok(true)
+    }
+
+    /// The time before which the radio model's own come first: that of the next of the file, if
+    /// there is one.
+    fn limit(&self) -> u64
+        ensures next { (e : Bor Line) → slice_get self.now.due.items self.now.taken ≡ Some e →
+            result ≡ moment_of e.now }
+        ensures most { result ≤ self.now.end + 1 }
+        ensures last { length self.now.due.items ≤ self.now.taken → result ≡ self.now.end + 1 }
+    {
+        match self.next() {
+            Some(next) => next.moment(),
+            None => self.end + 1,
+        }
+    }
+
+    /// The next event or leave of the file.
+    fn next(&self) -> Option<&'a FileEvent>
+        ensures some { IfSome result (λ next. slice_get self.now.due.items self.now.taken ≡ Some next) }
+        ensures none { IfNone result (length self.now.due.items ≤ self.now.taken) }
+    {
+        match self.due.get(self.taken) {
+            Some(next) => Some(*next),
+            None => None,
+        }
+    }
+}
+
+/// The events and leaves of a file up to a time, by their times, those of one time as in the file.
+fn due_until(alloc: Global, file: &[FileEvent], end: u64) -> Result<Vec<&FileEvent>, AllocError>
+    requires ranges { All IsFiledInRange file.now }
+    ensures due { IfOk result (λ due. AreDue (map filed_of file.now) end (filed_in due.items)) }
+    ensures ranges { IfOk result (λ due. All (λ e. IsFiledInRange e.now) due.items) }
+    ensures within { IfOk result (λ due. All (λ e. moment_of e.now ≤ end) due.items) }
+    ensures sorted { IfOk result (λ due. IsNonDecreasingBy (λ e. moment_of e.now) due.items) }
+{
+    let mut due = Vec::new(alloc);
+    for filed in file {
+        if filed.moment() <= end {
+            due.push(filed)?;
+        }
+    }
+    due.sort_by_key(|filed| filed.moment())?;
+    Ok(due)
+}
+
+/// The lowest number of a frame that one of these delivers, or the greatest number.
+fn lowest_delivery(due: &[&FileEvent]) -> usize
+    ensures { All (λ e. KeepsFrom result e.now) due.now }
+{
+    let mut lowest = usize::MAX;
+    for filed in due {
+        lowest = lowest.min(delivered(filed));
+    }
+    lowest
+}
+
+/// The number of the frame that an event delivers, or the greatest number.
+fn delivered(filed: &FileEvent) -> usize
+    ensures { KeepsFrom result filed.now }
+{
+    match filed {
+        FileEvent::Happens(event) => match &event.what {
+            What::Deliver(frame) => *frame,
+            _ => usize::MAX,
+        },
+        FileEvent::Leaves { .. } => usize::MAX,
+    }
+}
