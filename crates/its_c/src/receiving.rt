@@ -1,7 +1,7 @@
 //! The calls that take a frame, or a beginning of octets that is one.
 
 ghost use Rattle.std.specs.Prelude.{◌≡◌, ◌≢◌, ◌≤◌, ◌<◌, ℕ, pos, length, Err, IfOk, OnErr, List};
-ghost use Rattle.std.specs.Prelude.{OnOk, Some, false};
+ghost use Rattle.std.specs.Prelude.{IsOkAnd, OnOk, Some, false};
 ghost use Rattle.its_governor.specs.declared.governor.Governor.{Governor as Limited};
 ghost use Rattle.its_governor.specs.Governing.{governed_step, after_call, frame_in};
 ghost use Rattle.its_governor.specs.Governing.{governed_verified_step, verified_frame};
@@ -213,6 +213,8 @@ fn hear<'a>(
 ) -> Result<Outcome<'a>, Refused>
     requires nothing { heard.old ≡ nothing_received }
     requires frame { IfOk frame (λ v. EncodesFrame (transmission_of v) octets.now) }
+    requires only { (t : Transmission) → EncodesFrame t octets.now →
+        IsOkAnd frame (λ v. transmission_of v ≡ t) }
     ensures heard { IsHeard heard.new }
     ensures step { (call : Call) × IsFrameCall octets.now call × (heard.new ≡ reception_in call)
         × ((m : StationModel) → RepresentsStation station.old m →
