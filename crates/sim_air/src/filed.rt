@@ -135,9 +135,8 @@ impl<'a> FiledRun<'a> {
         let end = end_of(air, file);
         let due = due_until(alloc, file, end)?;
         let lowest = lowest_delivery(due.as_slice());
-        let none: &[FileEvent] = &[];
         Ok(FiledRun {
-            run: Run::begin(alloc, configs, present, none, air, every)?,
+            run: Run::begin(alloc, configs, present, air, every)?,
             count: FrameCount {
                 before: 0,
                 delivered_by: 0,

@@ -152,11 +152,10 @@ impl<'a> MovingRun<'a> {
         let moves = &timeline.moves;
         let events = in_order(alloc, timeline.events.as_slice())?;
         let greatest = last_moment(events.as_slice());
-        let none: &[FileEvent] = &[];
         let every = timeline.every.as_slice();
         Ok(MovingRun {
             alloc,
-            run: Run::begin(alloc, stations, present, none, &timeline.air, every)?,
+            run: Run::begin(alloc, stations, present, &timeline.air, every)?,
             moves,
             vehicles: Vehicles::beside(alloc, stations, moves)?,
             departures: Departures::of(alloc, stations.len(), moves.gone)?,
