@@ -3,7 +3,8 @@ use Rattle.std.proofs.lemmas.List.{length-map}
 use Rattle.its_world.specs.Events.{config_of}
 use Rattle.sim_air_model.specs.Draws.{draws_of}
 use Rattle.sim_queue.specs.Keeps.{Keeps}
-use Rattle.sim_air_model.specs.Timetable.{Filed, Timetable, of_file, schedule_all, schedule_first_ticks}
+use Rattle.sim_air_model.specs.Timetable.{Filed, Timetable, of_file, schedule_all}
+use Rattle.sim_air_model.specs.Timetable.{schedule_first_ticks}
 use Rattle.sim_air_model.specs.Timetable.{schedule_traffic}
 use Rattle.sim_queue.specs.Traffics.{all_traffic}
 use Rattle.sim_air.proofs.Stepping.{keeps_opening}
