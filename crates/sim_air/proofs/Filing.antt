@@ -39,7 +39,8 @@ use Rattle.sim_air.specs.Moving.{IsMoving, LeavesOwn}
 use Rattle.sim_air.specs.declared.frames.FrameCount.{FrameCount}
 use Rattle.sim_air.specs.declared.run.Run.{Run}
 use Rattle.sim_air.proofs.BesideOrder.{file_in_order, schedule_all_in_order}
-use Rattle.sim_air.proofs.Moved.{all_from_first, begun, comes_at, comes_to, none_waits_after, rules_at_end}
+use Rattle.sim_air.proofs.Moved.{all_from_first, begun, comes_at, comes_to, none_waits_after}
+use Rattle.sim_air.proofs.Moved.{rules_at_end}
 use Rattle.sim_air.proofs.Opening.{due_and_late}
 use Rattle.sim_air.proofs.Under.{front_more}
 

@@ -461,7 +461,8 @@ station_filed (files.Leaves station moment) = refl
 pub none_at : (grows : Bool) (moment : ℕ) (run : Run) (A : List Event → List Entry → Type 0)
     → DoesAt grows moment [] run A run A
 none_at grows moment run A = λ rules configs made past end counted by within h.
-    subst (λ (p : List Filed). IsMoving grows rules configs made p moment moment end counted by run A)
+    subst (λ (p : List Filed). IsMoving grows rules configs made p moment moment end counted by run
+    A)
     (sym (append-nil past)) h
 
 -- the first of the air's own is done
@@ -484,7 +485,8 @@ own_taken w old new A B released does = λ grows rules configs made past from en
       timed = does h.now h.all (without_first h.air h.rest) h.timed;
       reached =
           let near = h.recent in
-          reached_own grows h.now h.all h.steps past from (w.moment + 1) end end h.air (planned_of w)
+          reached_own grows h.now h.all h.steps past from (w.moment + 1) end end h.air (planned_of
+          w)
           h.rest h.reached h.first near (omega arith) (omega arith) h.within;
       recent = omega arith;
       near = omega arith;
@@ -619,7 +621,8 @@ pub still_taken : (grows : Bool) (rules : Rules) (configs made : List Config) (p
     → AllByRecursion (Awaits new.world.released counted' by' (w.moment + old.air.delay)) waiting)
     → IsTaken grows rules configs made past from end counted by w old A
     → IsTaken grows rules configs made past from end counted' by' w new A
-still_taken grows rules configs made past from end counted by counted' by' old new A w air every queue
+still_taken grows rules configs made past from end counted by counted' by' old new A w air every
+    queue
     draws
     present
     stands count frames h =

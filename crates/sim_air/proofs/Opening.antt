@@ -266,10 +266,7 @@ due_and_late file due until h =
 pub waits_opening : (file due : List Filed) (until : ℕ) → AreDue file until due
     → Waits due [] 0 until (schedule_all (map of_file file) [])
 waits_opening file due until h =
-    let all = enter_all file [] in
-    let parts = front until due all (rises_sorted due h.by_moment)
-    (recursion_from_All (λ e. (moment_in e) ≤ until) due h.until_then) (enter_all_rises file [] tt)
-    (λ m le. h.as_in_file m le ∙ sym (enter_all_of m file [] tt)) in
+    let parts = due_and_late file due until h in
     record {
       own = [];
       late = parts.0;
@@ -277,5 +274,5 @@ waits_opening file due until h =
       same = λ f. refl;
       rise = tt;
       below = tt;
-      is = schedule_all_enter file [] ∙ ap (map of_file) parts.2;
+      is = parts.3;
     }

@@ -34,7 +34,8 @@ events_more (Happens x ∷ xs) e = ap (λ (l : List Event). x ∷ l) (events_mor
 events_more (Leaves station moment ∷ xs) e = events_more xs e
 
 pub among_line : (xs : List Filed) (events : List Event) (e : Filed)
-    → AreAmong (events_in xs) events → AreAmong (events_in (xs ++ e ∷ [])) (events ++ events_in (e ∷ []))
+    → AreAmong (events_in xs) events → AreAmong (events_in (xs ++ e ∷ [])) (events ++ events_in (e
+    ∷ []))
 among_line xs events (Happens e) h =
     subst (λ (l : List Event). AreAmong l (events ++ e ∷ [])) (sym (events_more xs (Happens e)))
     (among_both (events_in xs) events e h)

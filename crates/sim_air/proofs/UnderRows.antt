@@ -133,7 +133,8 @@ under_does moment came old new A B row departures events taken end counted by do
     row
     (subst (λ (d : Departures). All (λ (x : Departure). moment ≤ x.moment) (heap_items d.waiting))
     (sym departures) h.comings.departures) events taken end counted by
-    (does rules configs made past (end_in old) old.count.before old.count.delivered_by within h.moving) h
+    (does rules configs made past (end_in old) old.count.before old.count.delivered_by within
+    h.moving) h
 
 -- and where other stations may leave, none before that
 pub under_leaves : (moment : ℕ) (came : List Filed) (old new : MovingRun)
@@ -148,7 +149,8 @@ under_leaves moment came old new A B row departures events taken end counted by 
     λ rules configs made past begin clock within h.
     under_moving rules configs made made past (past ++ came) moment moment begin clock old new A B
     row (departures moment h.comings.departures) events taken end counted by
-    (does rules configs made past (end_in old) old.count.before old.count.delivered_by within h.moving) h
+    (does rules configs made past (end_in old) old.count.before old.count.delivered_by within
+    h.moving) h
 
 -- nothing comes to the file
 pub none_comes : (moment : ℕ) (old new : MovingRun) (A B : List Event → List Entry → Type 0)
@@ -205,12 +207,15 @@ event_taken rules configs made past begin clock e old new A is run row departure
     let m = e.now.moment in
     record {
       moving =
-          subst (λ (r : Run). IsMoving true rules configs made past m m (end_in new) new.count.before
+          subst (λ (r : Run). IsMoving true rules configs made past m m (end_in new)
+          new.count.before
           new.count.delivered_by r A) (sym run)
-          (subst (λ n. IsMoving true rules configs made past m m n new.count.before new.count.delivered_by
+          (subst (λ n. IsMoving true rules configs made past m m n new.count.before
+          new.count.delivered_by
           old.run A)
           (sym end)
-          (subst (λ n. IsMoving true rules configs made past m m (end_in old) n new.count.delivered_by
+          (subst (λ n. IsMoving true rules configs made past m m (end_in old) n
+          new.count.delivered_by
           old.run A)
           (sym counted)
           (subst (λ n. IsMoving true rules configs made past m m (end_in old) old.count.before n
@@ -334,13 +339,15 @@ row_read rules configs made past last from begin clock clock' old new A run depa
           subst (λ (r : Run). IsMoving true rules configs made past last from (end_in new)
           new.count.before
           new.count.delivered_by r A) (sym run)
-          (subst (λ n. IsMoving true rules configs made past last from (end_in new) n new.count.delivered_by
+          (subst (λ n. IsMoving true rules configs made past last from (end_in new) n
+          new.count.delivered_by
           old.run A)
           (sym counted)
           (subst (λ n. IsMoving true rules configs made past last from (end_in new) old.count.before
           n old.run A)
           (sym by)
-          (ends_later true rules configs made past last from (end_in old) (end_in new) old.count.before
+          (ends_later true rules configs made past last from (end_in old) (end_in new)
+          old.count.before
           old.count.delivered_by old.run A later h.moving)));
       comings =
           record {
@@ -415,7 +422,8 @@ pub row_taken : (rules : Rules) (configs made : List Config) (past : List Filed)
     (old new : MovingRun) (A : List Event → List Entry → Type 0) → new.row ≡ None
     → new.run ≡ old.run → new.departures ≡ old.departures → new.events ≡ old.events
     → new.taken ≡ old.taken → end_in new ≡ end_in old → new.count.before ≡ old.count.before
-    → new.count.delivered_by ≡ old.count.delivered_by → IsUnder rules configs made past last from begin clock
+    → new.count.delivered_by ≡ old.count.delivered_by → IsUnder rules configs made past last from
+    begin clock
     old A
     → IsUnder rules configs made past last from begin clock new A
 row_taken rules configs made past last from begin clock old new A row run departures events taken
@@ -429,7 +437,8 @@ row_taken rules configs made past last from begin clock old new A row run depart
           (subst (λ n. IsMoving true rules configs made past last from n new.count.before
           new.count.delivered_by
           old.run A) (sym end)
-          (subst (λ n. IsMoving true rules configs made past last from (end_in old) n new.count.delivered_by
+          (subst (λ n. IsMoving true rules configs made past last from (end_in old) n
+          new.count.delivered_by
           old.run A)
           (sym counted)
           (subst (λ n. IsMoving true rules configs made past last from (end_in old) old.count.before
@@ -459,7 +468,8 @@ pub begun_under : (rules : Rules) (configs made : List Config) (past : List File
 begun_under rules configs made past begin clock m Took moving row none counted by =
     record {
       moving =
-          subst (λ n. IsMoving true rules configs made past 0 0 (end_in m) n m.count.delivered_by m.run Took)
+          subst (λ n. IsMoving true rules configs made past 0 0 (end_in m) n m.count.delivered_by
+          m.run Took)
           (sym counted)
           (subst (λ n. IsMoving true rules configs made past 0 0 (end_in m) 0 n m.run Took) (sym by)
           moving);

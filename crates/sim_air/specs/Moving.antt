@@ -50,26 +50,26 @@ Awaits released counted by latest (Does p) =
 Awaits released counted by latest (Departs station moment) = Unit {0}
 
 -- A run is under way: it stands as the air of the model does to which so many steps lead, whatever
--- comes from a moment on. The last event was done by another moment; nothing waits for an earlier
--- one.
+-- comes from a moment on, and whichever stations are made, if it grows. The last event was done by
+-- another moment; nothing waits for an earlier one. What came is among what was done.
 pub record IsMoving (grows : Bool) (rules : Rules) (configs made : List Config)
     (past : List Filed) (last from end counted by : ℕ) (run : Run)
     (Took : List Event → List Entry → Type 0) : Type 0 where
-    pub all : List Config
-    pub now : Rules
-    pub are_all : all ≡ configs ++ made
-    pub are_now : now ≡ rules_beside made rules.until rules
-    pub steps : ℕ
-    pub air : AirModel
-    pub timed : IsTimed now all air run Took
-    pub reached : IsReached grows now all steps past from end air
-    pub recent : last ≤ from
-    pub near : from ≤ last + 1
-    pub since : AllByRecursion (λ p. last ≤ at p) air.timetable.waiting
-    pub frames : AllByRecursion (Awaits run.world.released counted by (last + now.delay))
-        air.timetable.waiting
-    pub few : counted ≤ length (world_run (opening all) air.done).air
-    pub among : AreAmong (events_in past) air.done
+  pub all : List Config
+  pub now : Rules
+  pub are_all : all ≡ configs ++ made
+  pub are_now : now ≡ rules_beside made rules.until rules
+  pub steps : ℕ
+  pub air : AirModel
+  pub timed : IsTimed now all air run Took
+  pub reached : IsReached grows now all steps past from end air
+  pub recent : last ≤ from
+  pub near : from ≤ last + 1
+  pub since : AllByRecursion (λ p. last ≤ at p) air.timetable.waiting
+  pub frames : AllByRecursion (Awaits run.world.released counted by (last + now.delay))
+      air.timetable.waiting
+  pub few : counted ≤ length (world_run (opening all) air.done).air
+  pub among : AreAmong (events_in past) air.done
 
 -- the air of the model with its first taken
 abbrev pub without_first : AirModel → List Pending → AirModel

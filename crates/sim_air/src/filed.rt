@@ -35,34 +35,36 @@ use sim_settings::{Air, Traffic};
 use sim_simulation::EventSink;
 use std::alloc::{AllocError, Global};
 
-/// Runs the events and leaves of a file in an air, in which each frame that a station gives is
-/// heard by those in reach, and hands each event to a sink as it is done. Gives the world that the
-/// last one left.
+/// Runs the events and departures of a file with a radio model, and passes each event to a sink as
+/// it is done. Returns the world that the last one left.
 ///
-/// Events wait in the order of their moments, those of one moment in the order in which they were
-/// put: first those of the file, then, with beacons, a tick of each present station at a jitter,
-/// then, of each traffic in order, a send of each present station at a draw below its period. A
-/// frame that a present station gives is heard by each other present station in reach, in order,
-/// unless a draw loses it, and is delivered to it after the delay. After a tick of the air's own
-/// that wasn't refused, the station's next one is put at the event's moment or, where that is
-/// later, when its beacon is due by the next jitter; after a send of traffic, refused or not, its
-/// next one a period later. The run ends where nothing waits up to the last moment.
+/// What waits is taken in the order of its time. At one time the events of the file come first, in
+/// their order. After them comes what the radio model put, in the order in which it was put. At the
+/// start it puts a tick of each present station, if beacons are on, at a jitter, and then for each
+/// traffic in order a send of each present station, at a random time below its period.
 ///
-/// A station leaves where the file says so: it is absent then. A tick or a send of the air's own
-/// that is taken of an absent station isn't run, and nothing follows it. A move that isn't refused
-/// makes an absent station present: with beacons, where no tick of the air's own waits for it, its
-/// first one is put, later by a jitter; then of each traffic, in order, its first send where none
-/// waits, later by a draw below the period.
+/// - A frame that a present station sends is received by each other present station in range, after
+///   the delay. Each receiver loses it with the given probability.
+/// - After a tick that was not refused the station's next one is put: at the event's time, or when
+///   its beacon is due by the next jitter, if that is later. After a send of traffic, refused or
+///   not, the next one is put a period later.
+/// - A station is absent once the file has it leave. A tick or a send that is taken of an absent
+///   station is not run, and nothing follows it.
+/// - A move that is not refused makes an absent station present. Its first tick and its first sends
+///   are put as at the start, if none of them waits.
 ///
-/// There is a list of events of which the world stands at the end, by the written rules: of that
-/// very end hold the laws over every schedule; the sink took just these events and their entries;
-/// and those of the file, up to the last moment, are among them, in their order. One of these laws:
-/// where deliveries come, a geobroadcast reaches (`what_is_delivered_reaches` of `its_model`).
+/// The run ends when nothing waits up to the last time. Frames are released some time after their
+/// deliveries are done, except those from the first on that an event of the file delivers.
 ///
-/// The numbers of each config have to be in their ranges, of no two the MIDs the same, of at most
-/// 65535, and the speed of each `MoveTo` has to be in its range. `present` has, by numbers, which
-/// stations are present at the start. Where an allocation or the sink failed, the sink has the
-/// events before.
+/// There is a list of events by which the world stands at the end, by the written rules. The laws
+/// over every schedule hold of that end. The sink took exactly these events and their entries.
+/// Those of the file up to the last time are among them, in their order. One of these laws: where
+/// deliveries come, a geobroadcast reaches (`what_is_delivered_reaches` of `its_model`).
+///
+/// The numbers of each config have to be in their ranges. At most 65535 stations are possible, no
+/// two with the same MID. The speed of each `MoveTo` has to be in its range. `present` has, by
+/// numbers, which stations are present at the start. If an allocation or the sink failed, the sink
+/// has the events before.
 pub fn run_air<S: EventSink>(
     alloc: Global,
     configs: &[Config],
@@ -135,9 +137,8 @@ impl<'a> FiledRun<'a> {
         let end = end_of(air, file);
         let due = due_until(alloc, file, end)?;
         let lowest = lowest_delivery(due.as_slice());
-        let none: &[FileEvent] = &[];
         Ok(FiledRun {
-            run: Run::begin(alloc, configs, present, none, air, every)?,
+            run: Run::begin(alloc, configs, present, air, every)?,
             count: FrameCount {
                 before: 0,
                 delivered_by: 0,
@@ -205,7 +206,8 @@ impl<'a> FiledRun<'a> {
 
     /// The next event or leave of the file.
     fn next(&self) -> Option<&'a FileEvent>
-        ensures some { IfSome result (λ next. slice_get self.now.due.items self.now.taken ≡ Some next) }
+        ensures some { IfSome result (λ next.
+            slice_get self.now.due.items self.now.taken ≡ Some next) }
         ensures none { IfNone result (length self.now.due.items ≤ self.now.taken) }
     {
         match self.due.get(self.taken) {

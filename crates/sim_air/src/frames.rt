@@ -18,8 +18,8 @@ pub(crate) struct FrameCount {
     pub(crate) delivered_by: u64,
 }
 
-/// Releases frames whose deliveries are done, if the next of the radio model's own is of this
-/// time, and none of this number or a higher one.
+/// Releases frames whose deliveries are done, but none from the `lowest` on. `moment` is the time
+/// of what the radio model does next.
 ///
 /// Each delivery comes the delay after its frame was sent, and what waits is taken by its time. So
 /// those that had been sent when they were last counted have all been delivered once the delay

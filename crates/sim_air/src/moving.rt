@@ -61,8 +61,8 @@ use std::io::BufRead;
 /// the air's own as in `run_air`. An event for an id of which no station is present isn't run, and
 /// the sink has a note of it.
 ///
-/// Frames are let go some time after their deliveries are done: the world that is given has only
-/// the last ones.
+/// Frames are released some time after their deliveries are done, so the world that is returned has
+/// only the last ones.
 ///
 /// Without a last moment the run goes on for ten seconds after the greatest moment of an event or a
 /// row, 0 where there is neither. A row is read once the one before it was run, and none once
@@ -146,11 +146,10 @@ impl<'a> MovingRun<'a> {
         let moves = &timeline.moves;
         let events = in_order(alloc, timeline.events.as_slice())?;
         let greatest = last_moment(events.as_slice());
-        let none: &[FileEvent] = &[];
         let every = timeline.every.as_slice();
         Ok(MovingRun {
             alloc,
-            run: Run::begin(alloc, stations, present, none, &timeline.air, every)?,
+            run: Run::begin(alloc, stations, present, &timeline.air, every)?,
             moves,
             vehicles: Vehicles::beside(alloc, stations, moves)?,
             departures: Departures::of(alloc, stations.len(), moves.gone)?,

@@ -84,33 +84,24 @@ impl<'a> Run<'a> {
         alloc: Global,
         configs: &[Config],
         present: &[bool],
-        file: &'a [FileEvent],
         air: &Air,
         every: &'a [Traffic],
     ) -> Result<Run<'a>, AirFault>
         requires configs { All IsConfig configs.now }
         requires count { length configs.now ≤ 65535 }
         requires apart { AreApart configs.now }
-        requires events { All IsFiledInRange file.now }
-        requires moments { All (λ filed. moment_of filed < 2 ^ 63) file.now }
         ensures world { IfOk result (λ run.
             RepresentsWorld run.world (opening (map config_of configs.now))) }
         ensures kept { IfOk result (λ run. run.world.released ≡ 0) }
-        ensures due { IfOk result (λ run.
-            AreDue (map filed_of file.now) (end_of air.now.until file.now)
-            (filed_due run.queue)) }
-        ensures start { IfOk result (λ run. run.queue.taken ≡ 0) }
         ensures present { IfOk result (λ run. run.present.items ≡ present.now) }
         ensures rules { IfOk result (GoesBy (rules_of air.now (all_traffic every.now)
-            (end_of air.now.until file.now) present.now)) }
+            (end_of air.now.until []) present.now)) }
         ensures timed { IfOk result (λ run. Keeps run.queue run.draws (air_opening
-            (rules_of air.now (all_traffic every.now) (end_of air.now.until file.now) present.now)
-            (map config_of configs.now) (map filed_of file.now)).timetable) }
+            (rules_of air.now (all_traffic every.now) (end_of air.now.until []) present.now)
+            (map config_of configs.now) []).timetable) }
         ensures standings { IfOk result AreIndexed }
-        ensures ranges { IfOk result (λ run.
-            All (λ filed. IsFiledInRange filed.now) run.queue.due.items) }
     {
-        let (queue, draws) = Run::begin_queue(alloc, configs, present, file, air, every)?;
+        let (queue, draws) = Run::begin_queue(alloc, configs, present, air, every)?;
         let world = World::of_apart(alloc, configs)?;
         let standings = PlaceIndex::of(alloc, air.range, world.stations())?;
         Ok(Run {
@@ -133,25 +124,18 @@ impl<'a> Run<'a> {
         alloc: Global,
         configs: &[Config],
         present: &[bool],
-        file: &'a [FileEvent],
         air: &Air,
         every: &[Traffic],
     ) -> Result<(Queue<'a>, Draws), AirFault>
-        requires events { All IsFiledInRange file.now }
-        requires moments { All (λ filed. moment_of filed < 2 ^ 63) file.now }
-        ensures due { IfOk result (λ begun.
-            AreDue (map filed_of file.now) (end_of air.now.until file.now)
-            (filed_due begun.0)) }
-        ensures start { IfOk result (λ begun. begun.0.taken ≡ 0) }
-        ensures until { IfOk result (λ begun. begun.0.until ≡ end_of air.now.until file.now) }
+        ensures until { IfOk result (λ begun. begun.0.until ≡ end_of air.now.until []) }
         ensures timed { IfOk result (λ begun. Keeps begun.0 begun.1 (air_opening
-            (rules_of air.now (all_traffic every.now) (end_of air.now.until file.now) present.now)
-            (map config_of configs.now) (map filed_of file.now)).timetable) }
-        ensures ranges { IfOk result (λ begun.
-            All (λ filed. IsFiledInRange filed.now) begun.0.due.items) }
+            (rules_of air.now (all_traffic every.now) (end_of air.now.until []) present.now)
+            (map config_of configs.now) []).timetable) }
     {
         let mut draws = Draws::of_seed(air.seed);
-        let mut queue = Queue::of_file(alloc, file, end_of(air, file), every.len())?;
+        // What comes from outside doesn't wait here: a run has a source of it.
+        let none: &[FileEvent] = &[];
+        let mut queue = Queue::of_file(alloc, none, end_of(air, none), every.len())?;
         let ticking = if air.beacons { configs.len() } else { 0 };
         schedule_first_ticks(&mut queue, &mut draws, present, ticking)?;
         schedule_traffic(&mut queue, &mut draws, present, every, configs.len())?;

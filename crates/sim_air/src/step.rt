@@ -83,8 +83,7 @@ fn is_there(run: &Run<'_>, filed: &FileEvent) -> bool
 }
 
 /// Takes the first of the radio model's own, if its time is before a limit, and does it. Returns
-/// whether it did. Before that frames are released whose deliveries are done, and none of the lowest
-/// number that an event delivers, or a higher one.
+/// whether it did. First it releases frames whose deliveries are done, but none from the `lowest` on.
 pub(crate) fn take_own<S: EventSink>(
     run: &mut Run<'_>,
     count: &mut FrameCount,

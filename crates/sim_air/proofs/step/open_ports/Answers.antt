@@ -36,7 +36,8 @@ loop-port-preserved g c =
       standings = c.in_ok-do_outer.ensures.standings;
       count = c.do_outer.ensures.count ∙ c.loop-port.invariant.count;
       moving = λ there rules configs made past end counted by within h.
-          subst (λ (p : List Filed). IsMoving true rules configs made p e.moment e.moment end counted by
+          subst (λ (p : List Filed). IsMoving true rules configs made p e.moment e.moment end
+          counted by
           new C) (append_assoc past came (f port ∷ []) ∙ ap (λ (l : List Filed). past ++ l) more)
           (event_comes_at true _ old new B C
           (subst (λ (n : ℕ). e.station < n) (sym c.loop-port.invariant.count) there)

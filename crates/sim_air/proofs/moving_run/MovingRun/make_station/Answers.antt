@@ -23,7 +23,8 @@ returns-clause-moving g c = (
       (says_moving true rules configs (made ++ config ∷ []) past last from (end_in old)
       old.count.before old.count.delivered_by run A B c.in_ok-note.ensures
       (one_made rules configs made past last from (end_in old) old.count.before
-      old.count.delivered_by old.run run A config c.add_station.ensures.air c.add_station.ensures.every
+      old.count.delivered_by old.run run A config c.add_station.ensures.air
+      c.add_station.ensures.every
       c.add_station.ensures.queue c.add_station.ensures.draws
       c.in_ok-add_station.ensures.present c.in_ok-add_station.ensures.frames.0
       c.in_ok-add_station.ensures.late h.moving)) h,

@@ -53,7 +53,8 @@ returns-in-Event-clause-moving g c =
     (λ done rules configs made past came h outside.
     event_done_under rules configs made past came begin clock e old c.do_next_event.new.self A B
     (stations_made true rules configs made past moment moment (end_in old) old.count.before
-    old.count.delivered_by old.run A h.moving) event.1 does.moves does.row does.departures (does.events
+    old.count.delivered_by old.run A h.moving) event.1 does.moves does.row does.departures
+    (does.events
     e event.1).0
     (does.events e event.1).1
     (subst (λ (n : ℕ). n ≤ end_in old) (sym event.2) c.requires.until)

@@ -37,7 +37,8 @@ returns-clause-moving g c =
     outside in
     let ahead = under.ahead row here in
     let got = row_done rules configs made past came begin clock row old _ done A B
-    (stations_made true rules configs made past m m (end_in old) old.count.before old.count.delivered_by
+    (stations_made true rules configs made past m m (end_in old) old.count.before
+    old.count.delivered_by
     old.run A under.moving) c.do_row.ensures.moves c.do_row.ensures.events.0
     c.do_row.ensures.events.1 (subst (λ (n : ℕ). n ≤ end_in old) (sym is) within) refl refl
     (row_taken rules configs made past m m begin clock old _ A c.take.ensures.after refl refl refl

@@ -1,10 +1,10 @@
-use Rattle.std.proofs.Common.{◌≡◌, ◌∙◌, [], map, length, cond, ap, sym, subst, Bool}
+use Rattle.std.proofs.Common.{◌≡◌, ◌∙◌, [], List, map, length, cond, ap, sym, subst, Bool}
 use Rattle.std.proofs.lemmas.List.{length-map}
 use Rattle.its_world.specs.Events.{config_of}
-use Rattle.sim_queue.specs.Queues.{filed_of}
 use Rattle.sim_air_model.specs.Draws.{draws_of}
 use Rattle.sim_queue.specs.Keeps.{Keeps}
-use Rattle.sim_air_model.specs.Timetable.{Timetable, of_file, schedule_all, schedule_first_ticks}
+use Rattle.sim_air_model.specs.Timetable.{Filed, Timetable, of_file, schedule_all}
+use Rattle.sim_air_model.specs.Timetable.{schedule_first_ticks}
 use Rattle.sim_air_model.specs.Timetable.{schedule_traffic}
 use Rattle.sim_queue.specs.Traffics.{all_traffic}
 use Rattle.sim_air.proofs.Stepping.{keeps_opening}
@@ -15,7 +15,7 @@ pub returns-clause-timed : goal.returns-clause-timed
 returns-clause-timed c =
     let air = c.args.air.now in
     let configs = c.args.configs.now in
-    let file = map filed_of c.args.file.now in
+    let file : List Filed = [] in
     let empty = c.in_ok-queue.ensures.empty in
     let t : Timetable = record {
       waiting = schedule_all (map of_file file) [];

@@ -76,5 +76,6 @@ returns-clause-timed g c = λ rules configs a h0.
     (subst (λ (x : Event). last.present.items ≡ present_after done.present.items x after) is
     both.0)))
     c.come-came.ensures.told
-    (on_ok_both c.come-came.result Presence Timing _ (λ x y. (x, y)) (c.come-came.ensures.present after said)
+    (on_ok_both c.come-came.result Presence Timing _ (λ x y. (x, y)) (c.come-came.ensures.present
+    after said)
     (c.come-came.ensures.come rules after t goes said kept)))
