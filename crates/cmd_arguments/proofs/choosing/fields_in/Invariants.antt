@@ -1,4 +1,4 @@
-use Rattle.std.proofs.Common.{◌≡◌, ◌++◌, ◌×◌, List, ℕ, eqb, map}
+use Rattle.std.proofs.Common.{◌≡◌, ◌++◌, List, ℕ, eqb, map}
 use Rattle.std.specs.Iterator.{AlwaysYields}
 use Rattle.std.specs.List.{slice_split}
 use Rattle.std.specs.Str.Iter.{split_steps}
