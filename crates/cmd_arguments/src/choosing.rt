@@ -1,10 +1,10 @@
 //! What the options of a command choose: records of a capture, ports, how times are printed.
 
-ghost use Rattle.std.specs.Prelude.{◌≡◌, ℕ, List, Ok, MatchResult, IfOk, IfErr, None};
-ghost use Rattle.std.specs.Prelude.{codes, is_some, map};
+ghost use Rattle.std.specs.Prelude.{◌≡◌, ℕ, List, Ok, MatchResult, IfOk, IfErr, IfSome, None};
+ghost use Rattle.std.specs.Prelude.{codes, map};
 ghost use Rattle.hex.specs.Hex.{decode_sized};
 ghost use Rattle.std.specs.Option.{option_map};
-ghost use Rattle.cmd_arguments.specs.Options.{ArePorts, IsBadValue, IsCount};
+ghost use Rattle.cmd_arguments.specs.Options.{AreNamed, ArePorts, IsBadValue, IsCount};
 ghost use Rattle.cmd_arguments.specs.Options.{IsChoice, IsFieldsFault, IsGiven, IsGivenOr};
 ghost use Rattle.cmd_arguments.specs.Options.{IsMoment, IsRead};
 ghost use Rattle.cmd_arguments.specs.Options.{IsSelection, IsUnread, IsWhole, is_skipping};
@@ -315,8 +315,8 @@ pub fn fields_of<'a>(
     alloc: Global,
     matches: &ArgMatches<'a>,
 ) -> Result<Option<Vec<Field>>, BadArgument<'a>>
-    ensures given { IfOk result (λ fields.
-        is_some fields ≡ is_some (value_in matches.now (codes "fields"))) }
+    ensures named { IfOk result (λ fields. IsGiven AreNamed (value_in matches.now (codes "fields"))
+        (option_map (λ fields. fields.items) fields)) }
     ensures fault { IfErr result (IsFieldsFault (value_in matches.now (codes "fields"))) }
 {
     let Some(names) = matches.get_str("fields") else {
@@ -336,6 +336,7 @@ pub fn fields_of<'a>(
 
 /// The keys of these names, separated by commas, in their order. `None` if one is unknown.
 fn fields_in(alloc: Global, names: &str) -> Result<Option<Vec<Field>>, AllocError>
+    ensures { IfOk result (λ fields. IfSome fields (λ fields. AreNamed names.now fields.items)) }
 {
     let mut fields = Vec::new(alloc);
     for name in names.split(',') {
