@@ -13,9 +13,12 @@ use crate::fault::MeshFault;
 use crate::mesh::Mesh;
 use crate::sockets::Sockets;
 use crate::udp::UdpSockets;
-use cmd_reporting::{FrameFile, Io, Status, Target, WriterFault, frame_target, keep_apart, open};
+use cmd_reporting::{
+    FrameFile, Io, Status, Target, WriterFault, create_frames, end_frames, frame_target,
+    keep_apart, open,
+};
 use its_world::Event;
-use sim_runs::{create_frames, end_frames, read_scenario, report_unknown};
+use sim_runs::{read_scenario, report_unknown};
 use sim_scenario::{AirTable, PlainTimeline, Reading, Scenario, Timeline};
 use std::alloc::Global;
 use std::io;

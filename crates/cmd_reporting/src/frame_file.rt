@@ -4,8 +4,8 @@ ghost use Rattle.std.specs.Prelude.{◌≡◌, ◌^◌, ◌<◌, IfOk, None, Ok,
 ghost use Rattle.cmd_reporting.specs.Statuses.{IsCommandStatus};
 ghost use Rattle.cmd_reporting.specs.FrameFiles.{HasNewInterface, IsBegun, IsNoted, IsEnded};
 
-use crate::fault::{Fault, WriterFault};
-use crate::files::{create, keep_apart};
+use crate::fault::Fault;
+use crate::files::create;
 use crate::left_out::LeftOut;
 use crate::options::OutputFormat;
 use crate::outputs::FrameTarget;
@@ -164,15 +164,14 @@ impl<'a, W: Write + Drop> FrameFile<'a, W> {
     }
 }
 
-/// Creates the file of frames, if there is one, and begins it, for so many stations. It may not be the
-/// file that is read: `SameFile`. `NotWritten` or `CannotWrite` if it can't be created or written,
-/// `OutOfMemory` if an allocation failed.
+/// Creates the file of frames for this number of stations, and begins it, if one is asked for. The
+/// caller first compares its name with those of the files that are read. `NotWritten` or
+/// `CannotWrite` if it can't be created or written, `OutOfMemory` if an allocation failed.
 pub fn create_frames<'a, R: Files + AllocGlobal>(
     rt: &R,
     target: Option<FrameTarget<'a>>,
-    read: &'a str,
     stations: usize,
-) -> Result<Option<FrameFile<'a, BufWriter<R::File>>>, WriterFault<'a, Fault<'a>>>
+) -> Result<Option<FrameFile<'a, BufWriter<R::File>>>, Fault<'a>>
 where
     R::File: Write + Drop,
     ensures { target.entry ≡ None → result ≡ Ok None }
@@ -180,7 +179,23 @@ where
     let Some(FrameTarget { name, format }) = target else {
         return Ok(None);
     };
-    keep_apart(rt, name, read)?;
     let created = create(rt, name)?;
     Ok(Some(FrameFile::start(rt.alloc(), created, name, format, stations)?))
+}
+
+/// Ends the file of frames of a run that ended so, if there is one. Returns how the run ends then:
+/// `Refused` if a frame was left out of a run that is done, `CannotWrite` if the file failed.
+pub fn end_frames<'a, F: Write + Drop>(
+    frames: Option<FrameFile<'a, F>>,
+    ended: Result<Status, Fault<'a>>,
+) -> Result<Status, Fault<'a>>
+    requires { IfOk ended IsCommandStatus }
+    ensures status { IfOk result IsCommandStatus }
+    ensures none { frames.entry ≡ None → result ≡ ended.entry }
+    ensures done { result ≡ Ok Status.Done → ended.entry ≡ Ok Status.Done }
+{
+    match frames {
+        Some(file) => file.end(ended),
+        None => ended,
+    }
 }

@@ -17,7 +17,7 @@ pub use cause::Cause;
 pub use command_io::Io;
 pub use fault::{CommandFault, Fault, WriterFault};
 pub use files::{Destination, Opened, create, create_output, keep_apart, open};
-pub use frame_file::{FrameFile, create_frames};
+pub use frame_file::{FrameFile, create_frames, end_frames};
 pub use left_out::LeftOut;
 pub use named_file::{NamedFile, refuse_same};
 pub use options::OutputFormat;

@@ -22,7 +22,6 @@ pub use fault::RunFault;
 pub use files::{RunFiles, RunInputs, RunReader, read_inputs, simulate_file};
 pub use input::Input;
 pub use options::RunOptions;
-pub use outputs::{create_frames, end_frames};
 pub use sim_results::ResultFiles;
 pub use sim_simulation::VERSION;
 pub use simulating::{read_scenario, report_unknown, simulate, simulate_scenario};

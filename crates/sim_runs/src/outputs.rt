@@ -1,9 +1,6 @@
 //! The files that are written of a run.
 
-ghost use Rattle.std.specs.Prelude.{◌≡◌, IfOk, None, Ok};
-ghost use Rattle.cmd_reporting.specs.Statuses.{IsCommandStatus};
-
-use cmd_reporting::{Fault, FrameFile, FrameTarget, Status, create};
+use cmd_reporting::{Fault, FrameFile, FrameTarget, create, create_frames};
 use sim_results::{ResultFiles, ResultWriters, Results};
 use sim_scenario::Scenario;
 use std::io;
@@ -44,41 +41,6 @@ where
         frames: create_frames(rt, target, scenario.stations.len())?,
         results: create_results(rt, scenario, names)?,
     })
-}
-
-/// Creates the file of frames of so many stations, and begins it, if one is asked for. The fault is
-/// that it could not be created or written, or that memory ran out.
-pub fn create_frames<'a, R: Files + AllocGlobal>(
-    rt: &R,
-    target: Option<FrameTarget<'a>>,
-    stations: usize,
-) -> Result<Option<FrameFile<'a, BufWriter<R::File>>>, Fault<'a>>
-where
-    R::File: Write + Drop,
-    ensures { target.entry ≡ None → IfOk result (λ frames. frames ≡ None) }
-{
-    let Some(FrameTarget { name, format }) = target else {
-        return Ok(None);
-    };
-    let created = create(rt, name)?;
-    Ok(Some(FrameFile::start(rt.alloc(), created, name, format, stations)?))
-}
-
-/// Ends the file of frames of a run that ended so, if there is one. Returns how the run ends then:
-/// `Refused` if a frame was left out of a run that is done, `CannotWrite` if the file failed.
-pub fn end_frames<'a, F: Write + Drop>(
-    frames: Option<FrameFile<'a, F>>,
-    ended: Result<Status, Fault<'a>>,
-) -> Result<Status, Fault<'a>>
-    requires { IfOk ended IsCommandStatus }
-    ensures status { IfOk result IsCommandStatus }
-    ensures none { frames.entry ≡ None → result ≡ ended.entry }
-    ensures done { result ≡ Ok Status.Done → ended.entry ≡ Ok Status.Done }
-{
-    match frames {
-        Some(file) => file.end(ended),
-        None => ended,
-    }
 }
 
 /// Creates the file of this name, where there is one.

@@ -10,8 +10,8 @@ use crate::replay::replaying::replay_records;
 use crate::replay::unit::Unit;
 use cap_records::{FileFault, RefusedCapture, Selection, open_records};
 use cmd_reporting::{
-    Fault, FrameFile, FrameTarget, Io, Status, Target, WriterFault, create_frames, frame_target,
-    is_standard, open,
+    Fault, FrameFile, FrameTarget, Io, Status, Target, WriterFault, create_frames, end_frames,
+    frame_target, is_standard, keep_apart, open,
 };
 use std::alloc::Global;
 use std::io::{Read, Write};
@@ -73,7 +73,10 @@ where
     ensures alone { target.entry ≡ None → IfErr result IsStopped }
 {
     let reader = open(rt, what.file, input)?;
-    let frames = create_frames(rt, target, what.file, 1)?;
+    if let Some(target) = target {
+        keep_apart(rt, target.name, what.file)?;
+    }
+    let frames = create_frames(rt, target, 1)?;
     Ok(replay_into(rt.alloc(), what, reader, frames, io)?)
 }
 
@@ -90,10 +93,7 @@ fn replay_into<'a, R: Read + Drop, F: Write + Drop, W: Write, E: Write>(
 {
     let mut printer = Printer::new(alloc, is_standard(replay.file), frames, io)?;
     let ended = replay_lines(alloc, replay, reader, &mut printer);
-    match printer.file.take() {
-        Some(file) => file.end(ended),
-        None => ended,
-    }
+    end_frames(printer.file.take(), ended)
 }
 
 /// Prints a line of each record, and last why the file was refused, where it was.
