@@ -1,9 +1,8 @@
 //! Reading the events of a scenario.
 
 ghost use Rattle.std.specs.Prelude.{◌≡◌, All, IfOk, IfErr, length, vec_len};
-ghost use Rattle.sim_scenario.specs.Events.{FitsAddressed, FitsEvent, FitsFileEvent, FitsStationEvent};
-ghost use Rattle.sim_scenario.specs.Saying.{SaysAddressed, SaysEvent, SaysFileEvent};
-ghost use Rattle.sim_scenario.specs.Saying.{SaysStationEvent};
+ghost use Rattle.sim_scenario.specs.Events.{FitsFileEvent};
+ghost use Rattle.sim_scenario.specs.Saying.{SaysFileEvent};
 ghost use Rattle.sim_settings.specs.Tables.{table_values};
 ghost use Rattle.sim_scenario.specs.Documents.{IsPastToml};
 ghost use Rattle.sim_settings.specs.Items.{SayItems};
@@ -16,16 +15,82 @@ use crate::fault::ScenarioFault;
 use crate::part::Part;
 use crate::places::Places;
 use its_world::{Config, Event};
-use sim_settings::keys::Key;
+use sim_settings::keys::{Key, KeyFault};
 use std::alloc::Global;
 use toml::{Table, Value};
 
-/// Reads the events of a scenario without an air.
-pub(crate) fn read_events(alloc: Global, items: &[Value]) -> Result<Vec<Event>, ScenarioFault>
+/// An event of a document, which a table of it describes.
+pub(crate) trait TableEvent: Sized + Drop {
+    ghost use Rattle.sim_settings.specs.Fields.{FieldValues};
+
+    /// The keys of its table say this event.
+    ghost Says: { FieldValues → Self → Type 0 };
+
+    /// Its numbers are in their ranges.
+    ghost Fits: { Self → Type 0 };
+
+    /// Reads the event of this number from its table, for a scenario with this number of stations.
+    fn read(alloc: Global, table: &Table, number: usize, stations: usize) -> Result<Self, KeyFault>
+        ensures says { IfOk result (Says (table_values (table_view table.now))) }
+        ensures ranges { IfOk result Fits };
+}
+
+/// An event of a scenario without a radio model.
+impl TableEvent for Event {
+    ghost use Rattle.sim_scenario.specs.Events.{FitsEvent};
+    ghost use Rattle.sim_scenario.specs.Saying.{SaysEvent};
+
+    ghost Says = { SaysEvent };
+
+    ghost Fits = { FitsEvent };
+
+    fn read(alloc: Global, table: &Table, _: usize, _: usize) -> Result<Event, KeyFault> {
+        read_event(alloc, table)
+    }
+}
+
+/// An event or a leave of a scenario with a radio model.
+impl TableEvent for StationEvent {
+    ghost use Rattle.sim_scenario.specs.Events.{FitsStationEvent};
+    ghost use Rattle.sim_scenario.specs.Saying.{SaysStationEvent};
+
+    ghost Says = { SaysStationEvent };
+
+    ghost Fits = { FitsStationEvent };
+
+    fn read(alloc: Global, table: &Table, _: usize, _: usize) -> Result<StationEvent, KeyFault> {
+        read_station_event(alloc, table)
+    }
+}
+
+/// An event or a leave of a scenario with moves.
+impl TableEvent for AddressedEvent {
+    ghost use Rattle.sim_scenario.specs.Events.{FitsAddressed};
+    ghost use Rattle.sim_scenario.specs.Saying.{SaysAddressed};
+
+    ghost Says = { SaysAddressed };
+
+    ghost Fits = { FitsAddressed };
+
+    fn read(
+        alloc: Global,
+        table: &Table,
+        number: usize,
+        stations: usize,
+    ) -> Result<AddressedEvent, KeyFault> {
+        read_addressed(alloc, table, number, stations)
+    }
+}
+
+/// Reads the events of a scenario with this number of stations.
+pub(crate) fn read_events<E: TableEvent>(
+    alloc: Global,
+    items: &[Value],
+    stations: usize,
+) -> Result<Vec<E>, ScenarioFault>
     ensures all { IfOk result (λ events. vec_len events ≡ length items.now) }
-    ensures says { IfOk result (λ events.
-        SayItems SaysEvent (items_view items.now) events.items) }
-    ensures ranges { IfOk result (λ events. All FitsEvent events.items) }
+    ensures says { IfOk result (λ events. SayItems E.Says (items_view items.now) events.items) }
+    ensures ranges { IfOk result (λ events. All E.Fits events.items) }
     ensures refused { IfErr result IsPastToml }
 {
     let mut events = Vec::with_capacity(alloc, items.len())?;
@@ -34,18 +99,23 @@ pub(crate) fn read_events(alloc: Global, items: &[Value]) -> Result<Vec<Event>, 
         let Some(table) = item.as_table() else {
             return Err(ScenarioFault::Kind(Key::Event, None));
         };
-        events.push(read_numbered_event(alloc, table, number)?)?;
+        events.push(read_numbered_event(alloc, table, number, stations)?)?;
     }
     Ok(events)
 }
 
 /// Reads the event of this number.
-fn read_numbered_event(alloc: Global, table: &Table, number: usize) -> Result<Event, ScenarioFault>
-    ensures says { IfOk result (SaysEvent (table_values (table_view table.now))) }
-    ensures ranges { IfOk result FitsEvent }
+fn read_numbered_event<E: TableEvent>(
+    alloc: Global,
+    table: &Table,
+    number: usize,
+    stations: usize,
+) -> Result<E, ScenarioFault>
+    ensures says { IfOk result (E.Says (table_values (table_view table.now))) }
+    ensures ranges { IfOk result E.Fits }
     ensures refused { IfErr result IsPastToml }
 {
-    read_event(alloc, table).map_err(|fault| {
+    E::read(alloc, table, number, stations).map_err(|fault| {
         ScenarioFault::of_key(alloc, fault, Part::Event(number), table)
     })
 }
@@ -62,7 +132,7 @@ pub(crate) fn read_file(
     ensures ranges { IfOk result (λ file. All FitsFileEvent file.items) }
     ensures refused { IfErr result IsPastToml }
 {
-    let events = read_station_events(alloc, items)?;
+    let events: Vec<StationEvent> = read_events(alloc, items, stations.len())?;
     let places = Places::of(alloc, stations, events.as_slice())?;
     let mut file = Vec::with_capacity(alloc, events.len())?;
     for event in events {
@@ -70,76 +140,4 @@ pub(crate) fn read_file(
         file.push(event.action.done_at(event.station, event.moment, place))?;
     }
     Ok(file)
-}
-
-/// Reads the events and leaves of a scenario with a radio model.
-fn read_station_events(alloc: Global, items: &[Value]) -> Result<Vec<StationEvent>, ScenarioFault>
-    ensures says { IfOk result (λ events.
-        SayItems SaysStationEvent (items_view items.now) events.items) }
-    ensures ranges { IfOk result (λ events. All FitsStationEvent events.items) }
-    ensures refused { IfErr result IsPastToml }
-{
-    let mut events = Vec::with_capacity(alloc, items.len())?;
-    for (number, item) in items.iter().enumerate() {
-        // `array_of_tables` has seen that each item is one.
-        let Some(table) = item.as_table() else {
-            return Err(ScenarioFault::Kind(Key::Event, None));
-        };
-        events.push(read_numbered_station_event(alloc, table, number)?)?;
-    }
-    Ok(events)
-}
-
-/// Reads the event or leave of this number.
-fn read_numbered_station_event(
-    alloc: Global,
-    table: &Table,
-    number: usize,
-) -> Result<StationEvent, ScenarioFault>
-    ensures says { IfOk result (SaysStationEvent (table_values (table_view table.now))) }
-    ensures ranges { IfOk result FitsStationEvent }
-    ensures refused { IfErr result IsPastToml }
-{
-    read_station_event(alloc, table).map_err(|fault| {
-        ScenarioFault::of_key(alloc, fault, Part::Event(number), table)
-    })
-}
-
-/// Reads what waits in an air with moves, of a scenario of so many stations.
-pub(crate) fn read_all_addressed(
-    alloc: Global,
-    items: &[Value],
-    stations: usize,
-) -> Result<Vec<AddressedEvent>, ScenarioFault>
-    ensures all { IfOk result (λ addressed. vec_len addressed ≡ length items.now) }
-    ensures says { IfOk result (λ addressed.
-        SayItems SaysAddressed (items_view items.now) addressed.items) }
-    ensures ranges { IfOk result (λ addressed. All FitsAddressed addressed.items) }
-    ensures refused { IfErr result IsPastToml }
-{
-    let mut addressed = Vec::with_capacity(alloc, items.len())?;
-    for (number, item) in items.iter().enumerate() {
-        // `array_of_tables` has seen that each item is one.
-        let Some(table) = item.as_table() else {
-            return Err(ScenarioFault::Kind(Key::Event, None));
-        };
-        addressed.push(read_numbered_addressed(alloc, table, number, stations)?)?;
-    }
-    Ok(addressed)
-}
-
-/// Reads the line of this number of an air with moves.
-fn read_numbered_addressed(
-    alloc: Global,
-    table: &Table,
-    number: usize,
-    stations: usize,
-) -> Result<AddressedEvent, ScenarioFault>
-    ensures says { IfOk result (SaysAddressed (table_values (table_view table.now))) }
-    ensures ranges { IfOk result FitsAddressed }
-    ensures refused { IfErr result IsPastToml }
-{
-    read_addressed(alloc, table, number, stations).map_err(|fault| {
-        ScenarioFault::of_key(alloc, fault, Part::Event(number), table)
-    })
 }

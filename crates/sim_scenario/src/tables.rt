@@ -12,7 +12,7 @@ ghost use Rattle.sim_settings.specs.Moves.{SaysMoves};
 ghost use Rattle.toml.specs.Data.{get_member};
 ghost use Rattle.toml.specs.View.{items_view, table_view};
 
-use crate::event_tables::{read_all_addressed, read_events, read_file};
+use crate::event_tables::{read_events, read_file};
 use crate::fault::ScenarioFault;
 use crate::reading::{AirTable, Reading};
 use crate::scenario::Scenario;
@@ -98,19 +98,19 @@ impl<'a> Tables<'a> {
         ensures says { IfOk result (SayTimeline (parts_in self.entry)) }
     {
         let Some(fields) = self.air else {
-            let events = read_events(alloc, self.events)?;
+            let events = read_events(alloc, self.events, stations.len())?;
             return Ok(Timeline::Plain(PlainTimeline { events }));
         };
         let air = read_known_air(alloc, fields)?;
         let every = read_every(alloc, self.every)?;
         let moves = self.read_moves(alloc)?;
         if self.has_moves {
-            let events = read_all_addressed(alloc, self.events, stations.len())?;
+            let addressed = read_events(alloc, self.events, stations.len())?;
             return Ok(Timeline::Moves(MovesTimeline {
                 air,
                 every,
                 moves,
-                events,
+                events: addressed,
             }));
         }
         let events = read_file(alloc, self.events, stations)?;

@@ -12,5 +12,5 @@ returns-clause-says c =
       air = c.in_ok-air.ensures.says;
       every = c.in_ok-every.ensures.says;
       moves = (c.in_ok-moves.moves, c.in_ok-moves.ensures.says);
-      events = c.in_ok-events-3.ensures.says;
+      events = c.in_ok-events-2.ensures.says;
     })
