@@ -10,16 +10,13 @@ use crate::name::ShownName;
 use crate::way::{CopyError, Way, copy, fault_of};
 use cmd_reporting::{Fault, Io, OutputFormat, Status};
 use sim_runs::{RunFault, RunInputs, RunOptions, read_scenario, simulate_scenario};
-use sim_scenario::{Reading, Scenario};
+use sim_scenario::{MOST_STATIONS, Reading, Scenario};
 use std::alloc::Global;
 use std::io;
 use std::io::{BufRead, Write};
 
 /// The end of a name of a scenario.
 const SCENARIO_ENDING: &str = ".toml";
-
-/// The most stations of a scenario.
-const MOST_STATIONS: usize = 65535;
 
 /// A scenario that can be run.
 #[derive(Drop)]

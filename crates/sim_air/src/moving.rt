@@ -41,8 +41,8 @@ use its_gnvalue::Place;
 use its_model::laws::every_schedule;
 use its_world::{Config, Event, What, World};
 use sim_moves::{MovesFault, Row, Rows, Word};
-use sim_scenario::events::{AddressedEvent, Addressee, FileEvent};
-use sim_scenario::{MovesTimeline, Scenario};
+use sim_scenario::events::{AFTER_EVENTS, AddressedEvent, Addressee, FileEvent};
+use sim_scenario::{MOST_STATIONS, MovesTimeline, Scenario};
 use sim_settings::Moves;
 use sim_simulation::{EventSink, Note};
 use std::alloc::{AllocError, Global};
@@ -99,12 +99,6 @@ pub fn run_moves<R: BufRead + Drop, S: EventSink>(
     }
     Err(AirFault::TooManyEvents)
 }
-
-/// How long an air runs on after the last event or row, in milliseconds.
-const AFTER_EVENTS: u64 = 10_000;
-
-/// The most stations of a run.
-const MOST_STATIONS: usize = 65535;
 
 /// The station of a row.
 #[derive(Clone, Copy, Debug)]

@@ -2,8 +2,10 @@
 
 ghost use Rattle.std.specs.Prelude.{◌≤◌};
 
-/// How many receivers are announced at once.
-pub(crate) const MOST_RECEIVERS: usize = 16;
+use its_loctable::SIDE_BY_SIDE;
+
+/// How many receivers are announced at once: those whose location tables are searched together.
+pub(crate) const MOST_RECEIVERS: usize = SIDE_BY_SIDE;
 
 /// Some stations that will receive the same frame, one after the other.
 #[derive(Clone, Copy, Debug)]

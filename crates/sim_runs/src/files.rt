@@ -13,12 +13,12 @@ use crate::fault::RunFault;
 use crate::input::Input;
 use crate::options::RunOptions;
 use crate::outputs::{Outputs, create_outputs};
-use crate::simulating::{MOST_STATIONS, read_scenario, run_into};
+use crate::simulating::{read_scenario, run_into};
 use cmd_reporting::{
     Fault, Io, NamedFile, Opened, Status, Target, WriterFault, frame_target, open, refuse_same,
 };
 use sim_results::ResultFiles;
-use sim_scenario::{Reading, Scenario, Timeline};
+use sim_scenario::{MOST_STATIONS, Reading, Scenario, Timeline};
 use std::alloc::Global;
 use std::io::{BufRead, BufReader, Read, Write};
 use std::rt::Files;

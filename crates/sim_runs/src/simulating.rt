@@ -17,15 +17,12 @@ use cmd_reporting::{Fault, Io, OutputFormat, Status};
 use cmd_text::frames::Explanation;
 use its_world::World;
 use sim_air::{AirFault, run_moves, run_scenario};
-use sim_scenario::{Reading, Scenario, Timeline};
+use sim_scenario::{MOST_STATIONS, Reading, Scenario, Timeline};
 use sim_simulation::tally::Tally;
 use sim_simulation::{EventSink, JsonLines, TextLines};
 use std::alloc::Global;
 use std::io;
 use std::io::{BufRead, Read, Write};
-
-/// The most stations of a scenario.
-pub(crate) const MOST_STATIONS: usize = 65535;
 
 /// Runs the scenario in the text of a reader and prints a line for each event: its number, its
 /// time, its station and its result. In JSON the stations have a line before. `file` is the name of

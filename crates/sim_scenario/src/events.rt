@@ -12,7 +12,7 @@ mod what;
 
 pub use action::Action;
 pub use around::AroundRequest;
-pub use end::end_of;
+pub use end::{AFTER_EVENTS, end_of};
 pub use event::{AddressedEvent, Addressee, FileEvent, read_addressed, read_event};
 pub(crate) use event::{StationEvent, read_station_event};
 pub use station::{read_present, read_station};

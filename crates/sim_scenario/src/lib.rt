@@ -26,6 +26,6 @@ pub use part::Part;
 pub use position::TomlFault;
 pub use reading::{AirTable, Reading};
 pub use reason::Reason;
-pub use scenario::Scenario;
+pub use scenario::{MOST_STATIONS, Scenario};
 pub use timeline::{AirTimeline, MovesTimeline, PlainTimeline, Timeline};
 pub use unknown::{Misspelled, Tip, UnknownKey};

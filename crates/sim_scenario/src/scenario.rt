@@ -9,6 +9,9 @@ use crate::unknown::UnknownKey;
 use its_world::Config;
 use sim_settings::Expectation;
 
+/// The most stations of a run: their numbers have 16 bits.
+pub const MOST_STATIONS: usize = 65535;
+
 /// Stations, events with what they are run by, and what is expected, in the order of the document.
 #[derive(Debug, Drop, PartialEq, Eq)]
 pub struct Scenario {

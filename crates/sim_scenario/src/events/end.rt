@@ -6,8 +6,8 @@ ghost use Rattle.sim_scenario.specs.Airs.{end_of, greatest_moment, moment_of};
 use crate::events::event::FileEvent;
 use sim_settings::Air;
 
-/// How long an air runs on after the last event, in milliseconds.
-const AFTER_EVENTS: u64 = 10_000;
+/// How long a run with a radio model goes on after the last event or row, in milliseconds.
+pub const AFTER_EVENTS: u64 = 10_000;
 
 /// The last moment that is run in an air over these events and leaves, in milliseconds: the one
 /// that is given, else ten seconds after the greatest moment of one of them.
