@@ -1,7 +1,8 @@
 -- What the options of a command say: their values as texts, and what a text spells.
 use Rattle.std.specs.Prelude.{ℕ, List, [], ◌∷◌, Option, Some, None, Result, Ok, Err, ⊤}
 use Rattle.std.specs.Prelude.{◌≡◌, ◌<◌, ◌^◌, cond, codes, nat_eq, true, false, Bool, ◌==◌}
-use Rattle.std.specs.Prelude.{◌&&◌, ◌||◌, length, slice_index}
+use Rattle.std.specs.Prelude.{◌&&◌, ◌||◌, length, map, slice_index}
+use Rattle.std.specs.List.{join_with_byte}
 use Rattle.std.specs.Option.{option_map_or}
 use Rattle.std.specs.Cmp.Lexicographic.{pointwise}
 use Rattle.std.specs.Str.Parse.{IsNumeral, digits_value, without_leading_plus}
@@ -14,10 +15,12 @@ use Rattle.cap_pcap.specs.declared.format.Format.{Format}
 use Rattle.cap_records.specs.declared.walk.Selection.{Selection}
 use Rattle.clap.specs.Matches.{first_value, found_of, matched_of, one_text, raw_values}
 use Rattle.clap.specs.declared.parser.matches.ArgMatches.{ArgMatches}
+use Rattle.cmd_captures.specs.Fields.{field_word}
+use Rattle.cmd_captures.specs.declared.field.Field.{Field}
 use Rattle.cmd_captures.specs.declared.moment.Time.{Time}
 use Rattle.cmd_captures.specs.declared.moment.Time.TheVariants as times
 use Rattle.cmd_arguments.specs.declared.bad_argument.BadArgument.{BadArgument}
-use Rattle.cmd_arguments.specs.declared.bad_argument.BadArgument.TheVariants.{Value}
+use Rattle.cmd_arguments.specs.declared.bad_argument.BadArgument.TheVariants.{OutOfMemory, Value}
 
 -- the first value of an option, where it is given
 abbrev pub value_in : ArgMatches → List ℕ → Option (List ℕ)
@@ -83,6 +86,7 @@ IsGivenOr Spells other (Some text) value = Spells text value
 -- the fault names this option, and this text as its value
 abbrev pub NamesValue : List ℕ → List ℕ → BadArgument → Type 0
 NamesValue option text (Value name value wanted) = (name.now ≡ option) × (value.now ≡ text)
+NamesValue option text OutOfMemory = ⊥
 
 -- the fault names this option with its text, which spells no value
 abbrev pub IsBadValue : {T : Type 0} → (List ℕ → T → Type 0) → List ℕ → Option (List ℕ)
@@ -124,9 +128,14 @@ abbrev pub time_named : Option (List ℕ) → Time
 time_named None = times.Raw
 time_named (Some word) = time_of_word word
 
--- the fault of `--fields`, where it is given: it lists no keys
+-- the names of the keys, with a comma between each two, are the text
+abbrev pub AreNamed : List ℕ → List Field → Type 0
+AreNamed text fields = join_with_byte 44 (map field_word fields) ≡ text
+
+-- the fault of `--fields`, if it is given: it lists no keys, or there is no memory for them
 abbrev pub IsFieldsFault : Option (List ℕ) → BadArgument → Type 0
 IsFieldsFault None fault = ⊥
+IsFieldsFault (Some names) OutOfMemory = ⊤
 IsFieldsFault (Some names) fault = NamesValue (codes "fields") names fault
 
 -- whether records of another protocol are skipped, by the value of an option

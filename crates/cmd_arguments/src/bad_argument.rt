@@ -6,11 +6,13 @@ use sim_settings::keys::nearest;
 use std::alloc::{AllocError, Global};
 use std::fmt;
 
-/// An argument that can't be taken.
+/// Why an argument isn't taken.
 #[derive(Clone, Copy, Debug, PartialEq, Eq)]
 pub enum BadArgument<'a> {
     /// An option, its value, and what that has to be and isn't.
     Value(&'a str, &'a str, &'a str),
+    /// An allocation failed.
+    OutOfMemory,
 }
 
 impl BadArgument<'_> {
@@ -44,7 +46,19 @@ impl fmt::Display for BadArgument<'_> {
             BadArgument::Value(option, value, wanted) => {
                 write!(f, "invalid value '{value}' for '--{option}': not {wanted}")
             }
+            BadArgument::OutOfMemory => f.write_str("out of memory"),
         }
+    }
+}
+
+impl From<AllocError> for BadArgument<'_> {
+    ghost use Rattle.std.specs.Prelude.{◌≡◌};
+    ghost use Rattle.cmd_arguments.specs.declared.bad_argument.BadArgument.TheVariants.{OutOfMemory};
+
+    ghost from_gives = { λ _ bad. bad ≡ OutOfMemory };
+
+    fn from(_: AllocError) -> Self {
+        BadArgument::OutOfMemory
     }
 }
 

@@ -1,10 +1,12 @@
 //! What the options of a command choose: records of a capture, ports, how moments are told.
 
-ghost use Rattle.std.specs.Prelude.{◌≡◌, ℕ, List, Ok, MatchResult, IfOk, IfErr, None, codes, map};
+ghost use Rattle.std.specs.Prelude.{◌≡◌, ℕ, List, Ok, MatchResult, IfOk, IfErr, IfSome, None};
+ghost use Rattle.std.specs.Prelude.{codes, map};
 ghost use Rattle.hex.specs.Hex.{decode_sized};
 ghost use Rattle.std.specs.Option.{option_map};
-ghost use Rattle.cmd_arguments.specs.Options.{ArePorts, IsBadValue, IsCount, IsFieldsFault};
-ghost use Rattle.cmd_arguments.specs.Options.{IsChoice, IsGiven, IsGivenOr, IsMoment, IsRead};
+ghost use Rattle.cmd_arguments.specs.Options.{AreNamed, ArePorts, IsBadValue, IsCount};
+ghost use Rattle.cmd_arguments.specs.Options.{IsChoice, IsFieldsFault, IsGiven, IsGivenOr};
+ghost use Rattle.cmd_arguments.specs.Options.{IsMoment, IsRead};
 ghost use Rattle.cmd_arguments.specs.Options.{IsSelection, IsUnread, IsWhole, is_skipping};
 ghost use Rattle.cmd_arguments.specs.Options.{bare_digits, has_marks, texts_in, time_named};
 ghost use Rattle.cmd_arguments.specs.Options.{value_in};
@@ -17,6 +19,7 @@ use cmd_captures::{Choice, Field, Kinds, Selection, Time, utc_moment};
 use cmd_stats::replay::PortList;
 use its_gnvalue::{GnAddress, Mac};
 use its_headers::Kind;
+use std::alloc::{AllocError, Global};
 use std::num::NonZeroU64;
 use std::str::FromStr;
 
@@ -306,24 +309,41 @@ pub fn time_of(matches: &ArgMatches<'_>) -> Time
 }
 
 /// The keys whose values are shown, if `--fields` lists them, separated by commas. Refused if one is
-/// no key, or one of secured frames without `--signed`.
-pub fn fields_of<'a>(matches: &ArgMatches<'a>) -> Result<Option<&'a str>, BadArgument<'a>>
-    ensures names { IfOk result (λ names.
-        option_map (λ names. names.now) names ≡ value_in matches.now (codes "fields")) }
+/// unknown, or is a key of secured frames and `--signed` isn't given. `OutOfMemory` if an allocation
+/// failed.
+pub fn fields_of<'a>(
+    alloc: Global,
+    matches: &ArgMatches<'a>,
+) -> Result<Option<Vec<Field>>, BadArgument<'a>>
+    ensures named { IfOk result (λ fields. IsGiven AreNamed (value_in matches.now (codes "fields"))
+        (option_map (λ fields. fields.items) fields)) }
     ensures fault { IfErr result (IsFieldsFault (value_in matches.now (codes "fields"))) }
 {
     let Some(names) = matches.get_str("fields") else {
         return Ok(None);
     };
-    if names.split(',').any(|name| Field::named(name).is_none()) {
+    let Some(fields) = fields_in(alloc, names)? else {
         let wanted = "a list of the keys that show --help lists";
         return Err(BadArgument::Value("fields", names, wanted));
-    }
-    let is_signed = matches.get_flag("signed");
-    let is_missing = |name| Field::named(name).is_some_and(Field::is_of_secured);
-    if !is_signed && names.split(',').any(is_missing) {
+    };
+    let needs_signed = fields.iter().any(|field| field.is_of_secured());
+    if needs_signed && !matches.get_flag("signed") {
         let wanted = "a list of keys that are there without --signed";
         return Err(BadArgument::Value("fields", names, wanted));
     }
-    Ok(Some(names))
+    Ok(Some(fields))
+}
+
+/// The keys of these names, separated by commas, in their order. `None` if one is unknown.
+fn fields_in(alloc: Global, names: &str) -> Result<Option<Vec<Field>>, AllocError>
+    ensures { IfOk result (λ fields. IfSome fields (λ fields. AreNamed names.now fields.items)) }
+{
+    let mut fields = Vec::new(alloc);
+    for name in names.split(',') {
+        match Field::named(name) {
+            Some(field) => fields.push(field)?,
+            None => return Ok(None),
+        }
+    }
+    Ok(Some(fields))
 }

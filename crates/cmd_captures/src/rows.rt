@@ -10,6 +10,7 @@ use cmd_reporting::Fault;
 use its_linkframe::FrameView;
 use std::alloc::{AllocError, Global};
 use std::fmt::Write as _;
+use std::io;
 use std::io::Write;
 
 /// What is known of a record.
@@ -98,32 +99,19 @@ pub(crate) struct Rows {
 }
 
 impl Rows {
-    /// No row yet. The names of the keys are separated by commas; one that is none is skipped. An
-    /// object has a key once.
+    /// No row yet, of the values of these keys. An object has each key once.
     pub(crate) fn new(
         alloc: Global,
-        names: &str,
+        keys: &[Field],
         form: RowForm,
         clock: Clock,
     ) -> Result<Rows, AllocError> {
         let mut fields = Vec::new(alloc);
-        for name in names.split(',') {
-            if let Some(field) = Field::named(name) {
-                if form == RowForm::Csv || !fields.as_slice().contains(&field) {
-                    fields.push(field)?;
-                }
+        for field in keys {
+            if form == RowForm::Csv || !fields.as_slice().contains(field) {
+                fields.push(*field)?;
             }
         }
-        Rows::of(alloc, fields, form, clock)
-    }
-
-    /// No row yet, of these keys.
-    pub(crate) fn of(
-        alloc: Global,
-        fields: Vec<Field>,
-        form: RowForm,
-        clock: Clock,
-    ) -> Result<Rows, AllocError> {
         Ok(Rows {
             fields,
             form,
@@ -131,6 +119,16 @@ impl Rows {
             text: Text::new(alloc)?,
             value: Text::new(alloc)?,
         })
+    }
+
+    /// Writes the names of the keys, as the first row of CSV.
+    pub(crate) fn write_heads<W: Write>(&self, out: &mut W) -> io::Result<()> {
+        let mut part = "";
+        for field in self.fields.iter() {
+            write!(out, "{part}{}", field.word())?;
+            part = ",";
+        }
+        writeln!(out)
     }
 
     /// Prints the values of a record at a moment.

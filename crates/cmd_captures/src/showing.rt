@@ -1,6 +1,6 @@
 //! The command `show`.
 
-ghost use Rattle.std.specs.Prelude.{◌≡◌, IfErr, IfOk, None};
+ghost use Rattle.std.specs.Prelude.{◌≡◌, IfErr, IfOk};
 ghost use Rattle.cmd_captures.specs.Faults.{show_fault_status};
 ghost use Rattle.cmd_captures.specs.declared.moment.Time.TheVariants as times;
 ghost use Rattle.cmd_reporting.specs.Statuses.{IsCommandStatus};
@@ -22,27 +22,14 @@ use std::io::{Read, Write};
 use std::rt::Files;
 use thiserror::Error;
 
-/// How `show` tells records.
-#[derive(Clone, Copy, Debug, PartialEq, Eq)]
-pub struct Showing<'a> {
-    /// How moments are told.
+/// How `show` prints records.
+#[derive(Debug, Drop)]
+pub struct Showing {
+    /// How times are printed.
     pub time: Time,
-    /// The names of the keys, separated by commas, whose values are printed for each record: as a
-    /// row of CSV after a row of the names, or as an object in JSON. Without them each record has a
-    /// line.
-    pub names: Option<&'a str>,
-}
-
-impl<'a> Showing<'a> {
-    /// Lines with the moments of the file.
-    pub fn lines() -> Showing<'a>
-        ensures { (result.time ≡ times.Raw) × (result.names ≡ None) }
-    {
-        Showing {
-            time: Time::Raw,
-            names: None,
-        }
-    }
+    /// The keys whose values are printed for each record: as a row of CSV after a row of their names,
+    /// or as an object in JSON. Without them each record has a line.
+    pub fields: Option<Vec<Field>>,
 }
 
 /// Why records were not shown.
@@ -133,12 +120,12 @@ pub fn show_file<R: Files + AllocGlobal, I: Read + Drop, W: Write, E: Write>(
     file: &str,
     input: I,
     selection: &Selection,
-    showing: Showing<'_>,
+    showing: &Showing,
     io: &mut Io<W, E>,
 ) -> Status
 where
     R::File: Read + Drop,
-    ensures { ¬ (showing.entry.time ≡ times.Utc) → IsCommandStatus result }
+    ensures { ¬ (showing.now.time ≡ times.Utc) → IsCommandStatus result }
 {
     let ended = show_records(rt, file, input, selection, showing, io);
     io.status_of(ended)
@@ -150,13 +137,13 @@ fn show_records<'a, R: Files + AllocGlobal, I: Read + Drop, W: Write, E: Write>(
     file: &'a str,
     input: I,
     selection: &Selection,
-    showing: Showing<'_>,
+    showing: &Showing,
     io: &mut Io<W, E>,
 ) -> Result<Status, ShowFault<'a>>
 where
     R::File: Read + Drop,
     ensures done { IfOk result IsCommandStatus }
-    ensures stopped { ¬ (showing.entry.time ≡ times.Utc) →
+    ensures stopped { ¬ (showing.now.time ≡ times.Utc) →
         IfErr result (λ fault. IsCommandStatus (show_fault_status fault)) }
 {
     let reader = open(rt, file, input)?;
@@ -173,21 +160,21 @@ fn show_opened<'a, S: Source + Drop, W: Write, E: Write>(
     file: &'a str,
     source: &mut AnySource<S>,
     selection: &Selection,
-    showing: Showing<'_>,
+    showing: &Showing,
     io: &mut Io<W, E>,
 ) -> Result<Status, Fault<'a>>
     ensures { IfOk result IsCommandStatus }
 {
     let clock = Clock::new(showing.time);
-    let Some(names) = showing.names else {
+    let Some(fields) = &showing.fields else {
         return show_lines(alloc, file, source, selection, clock, io);
     };
     if io.format.json {
-        let rows = Rows::new(alloc, names, RowForm::Object, clock)?;
+        let rows = Rows::new(alloc, fields.as_slice(), RowForm::Object, clock)?;
         return show_objects(alloc, file, source, selection, rows, io);
     }
-    let rows = Rows::new(alloc, names, RowForm::Csv, clock)?;
-    writeln!(io.out, "{names}")?;
+    let rows = Rows::new(alloc, fields.as_slice(), RowForm::Csv, clock)?;
+    rows.write_heads(&mut io.out)?;
     show_rows(alloc, file, source, selection, rows, io)
 }
 
@@ -221,7 +208,7 @@ fn rows_of_cut(alloc: Global, clock: Clock) -> Result<Rows, AllocError> {
     let mut fields = Vec::new(alloc);
     fields.extend_from_slice(&FIELDS[..FRAME_FIELDS])?;
     fields.push(Field::Cut)?;
-    Rows::of(alloc, fields, RowForm::Object, clock)
+    Rows::new(alloc, fields.as_slice(), RowForm::Object, clock)
 }
 
 /// An object for each record, and one of what is wrong with the file.

@@ -31,9 +31,10 @@ pub fn read<'a>(
     let mut program = whole(alloc)?;
     let matches = program.try_get_matches_from_mut(arguments)?;
     let format = matched_format(&matches, console);
-    match subcommand_of(&matches, console) {
+    match subcommand_of(alloc, &matches, console) {
         Ok(Some(subcommand)) => Ok((subcommand, format)),
         Ok(None) => Err(program.error(ErrorKind::MissingSubcommand, "no command was given")?),
+        Err(BadArgument::OutOfMemory) => Err(Error::from(AllocError)),
         Err(bad) => Err(refusal(alloc, &mut program, matches.subcommand_name(), bad)?),
     }
 }

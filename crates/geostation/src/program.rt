@@ -212,7 +212,7 @@ where
         records.file,
         input,
         &records.selection,
-        show.showing,
+        &show.showing,
         io,
     )
 }

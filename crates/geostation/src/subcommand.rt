@@ -10,16 +10,17 @@ use cmd_arguments::{
     BadArgument, StationArguments, count_of, fields_of, ports_of, selection_of,
     selection_to_any_port, time_of,
 };
-use cmd_captures::{Conversion, Selection, Showing};
+use cmd_captures::{Conversion, Field, Selection, Showing};
 use cmd_mesh::MeshOptions;
 use cmd_page::Viewing;
 use cmd_reporting::{OutputFormat, Target, is_standard};
 use cmd_stats::replay::PortList;
 use sim_runs::{ResultFiles, RunFiles, RunOptions};
 use sim_settings::keys::{AirSettings, SettingFault};
+use std::alloc::Global;
 
 /// What the program is to do.
-#[derive(Clone, Copy)]
+#[derive(Drop)]
 pub enum Subcommand<'a> {
     /// To show records.
     Show(Show<'a>),
@@ -55,10 +56,10 @@ pub struct Records<'a> {
 }
 
 /// `show`.
-#[derive(Clone, Copy)]
+#[derive(Drop)]
 pub struct Show<'a> {
     pub records: Records<'a>,
-    pub showing: Showing<'a>,
+    pub showing: Showing,
     /// How lines in words are coloured, where they are.
     pub painter: Option<Painter>,
 }
@@ -153,8 +154,9 @@ impl Subcommand<'_> {
 }
 
 /// The subcommand that was matched, of a program whose streams are these. One is required, as are
-/// its arguments, so there is an answer.
+/// its arguments, so there is an answer. The fault is that of the first bad value.
 pub(crate) fn subcommand_of<'a>(
+    alloc: Global,
     matches: &ArgMatches<'a>,
     console: Console,
 ) -> Result<Option<Subcommand<'a>>, BadArgument<'a>> {
@@ -162,7 +164,7 @@ pub(crate) fn subcommand_of<'a>(
         return Ok(None);
     };
     match name {
-        "show" | "check" | "stats" | "convert" => over_capture(name, inner, console),
+        "show" | "check" | "stats" | "convert" => over_capture(alloc, name, inner, console),
         "station" => Ok(StationArguments::of(inner).map(Subcommand::Station)),
         "replay" => replaying(inner),
         "sim" => simulating(inner, console),
@@ -208,6 +210,7 @@ fn painter_of(matches: &ArgMatches<'_>, console: Console, painter: Painter) -> O
 
 /// A subcommand over the records of a capture.
 fn over_capture<'a>(
+    alloc: Global,
     name: &str,
     matches: &ArgMatches<'a>,
     console: Console,
@@ -218,8 +221,8 @@ fn over_capture<'a>(
     let selection = selection_of(matches, format_of(matches, "format"))?;
     match name {
         "show" => {
-            let names = fields_of(matches)?;
-            Ok(Some(showing(file, selection, names, matches, console)))
+            let fields = fields_of(alloc, matches)?;
+            Ok(Some(showing(file, selection, fields, matches, console)))
         }
         "stats" => {
             let top = count_of(matches, "top")?;
@@ -234,18 +237,18 @@ fn over_capture<'a>(
 fn showing<'a>(
     file: &'a str,
     selection: Selection,
-    names: Option<&'a str>,
+    fields: Option<Vec<Field>>,
     matches: &ArgMatches<'a>,
     console: Console,
 ) -> Subcommand<'a> {
-    let painter = painter_of(matches, console, Painter::Records);
+    let painter = painter_of(matches, console, Painter::Records).filter(|_| fields.is_none());
     Subcommand::Show(Show {
         records: Records { file, selection },
         showing: Showing {
             time: time_of(matches),
-            names,
+            fields,
         },
-        painter: painter.filter(|_| names.is_none()),
+        painter,
     })
 }
 
