@@ -8,7 +8,7 @@ use crate::inside::Inside;
 use crate::limit::{Content, Limited, TooLarge};
 use crate::name::ShownName;
 use crate::way::{CopyError, Way, copy, fault_of};
-use cmd_reporting::{Fault, Io, OutputFormat, Status};
+use cmd_reporting::{Fault, Io, OutputFormat, ProgressWriter, Status};
 use sim_runs::{RunFault, RunInputs, RunOptions, read_scenario, simulate_scenario};
 use sim_scenario::{MOST_STATIONS, Reading, Scenario};
 use std::alloc::Global;
@@ -72,7 +72,7 @@ fn begins_object<R: BufRead>(reader: &mut R) -> io::Result<bool> {
 
 /// Writes the element of the page that has the run. That of a scenario has its notes, if it has an
 /// air. `TooLarge` if the page can't hold it.
-pub(crate) fn write_run<'a, R: BufRead + Drop, M: BufRead + Drop, W: Write, E: Write>(
+pub(crate) fn write_run<'a, R: BufRead + Drop, M: BufRead + Drop, W: Write, E: ProgressWriter>(
     alloc: Global,
     way: Way<'a>,
     shown: Shown<'a, R, M>,
@@ -115,7 +115,7 @@ pub(crate) fn write_too_large<'a, W: Write>(
 }
 
 /// Writes the lines of what is shown.
-fn write_shown<'a, R: BufRead + Drop, M: BufRead + Drop, W: Write, E: Write>(
+fn write_shown<'a, R: BufRead + Drop, M: BufRead + Drop, W: Write, E: ProgressWriter>(
     alloc: Global,
     way: Way<'a>,
     shown: Shown<'a, R, M>,
@@ -153,7 +153,7 @@ fn write_lines<'a, R: BufRead + Drop, W: Write>(
 }
 
 /// Runs the scenario, and writes its lines.
-fn write_lines_of<'a, W: Write, E: Write>(
+fn write_lines_of<'a, W: Write, E: ProgressWriter>(
     alloc: Global,
     way: Way<'a>,
     scenario: &Scenario,
@@ -175,7 +175,7 @@ fn write_lines_of<'a, W: Write, E: Write>(
 }
 
 /// Runs the scenario with its moves, and writes its lines.
-fn write_moved<'a, M: BufRead + Drop, W: Write, E: Write>(
+fn write_moved<'a, M: BufRead + Drop, W: Write, E: ProgressWriter>(
     alloc: Global,
     way: Way<'a>,
     inputs: RunInputs<'a, M>,
@@ -205,7 +205,7 @@ fn lines_options(options: &RunOptions, has_air: bool) -> RunOptions {
 }
 
 /// To where a run prints its lines: into an element of the page.
-fn inside_of<'o, W: Write, E: Write>(
+fn inside_of<'o, W: Write, E: ProgressWriter>(
     way: Way<'_>,
     out: &'o mut W,
     err: &'o mut E,

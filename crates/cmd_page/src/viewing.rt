@@ -13,8 +13,8 @@ use crate::page::{Page, open_page, write_up_to_run};
 use crate::run::{Shown, shown_of, write_run, write_too_large};
 use crate::way::Way;
 use cmd_reporting::{
-    Destination, Fault, Io, NamedFile, Opened, OutputFault, Status, WriterFault, create,
-    create_output, is_standard, open, refuse_same,
+    Destination, Fault, Io, NamedFile, Opened, OutputFault, ProgressWriter, Status, WriterFault,
+    create, create_output, is_standard, open, refuse_same,
 };
 use sim_runs::{ResultFiles, RunFault, RunFiles, RunOptions, RunReader, read_inputs};
 use std::io::{BufRead, BufReader, Read, Write};
@@ -50,7 +50,7 @@ pub struct Viewing<'a> {
 /// 400 MB and a net of more than 100 MB: the page is written without them then, and tells how to
 /// open them; what went to standard output isn't taken back. `Failed` if a file could not be read,
 /// created or written or memory ran out, and if no page is found.
-pub fn view_file<R: Files + AllocGlobal, I: Read + Drop, W: Write, E: Write>(
+pub fn view_file<R: Files + AllocGlobal, I: Read + Drop, W: Write, E: ProgressWriter>(
     rt: &R,
     viewing: &Viewing<'_>,
     input: I,
@@ -80,7 +80,7 @@ where
 /// Opens what is read, and only then creates the file, if the page isn't written to standard output;
 /// says how that file is opened. If the run or the net is too large, the file is written once more
 /// without them.
-fn view_to<'a, R: Files + AllocGlobal, I: Read + Drop, W: Write, E: Write>(
+fn view_to<'a, R: Files + AllocGlobal, I: Read + Drop, W: Write, E: ProgressWriter>(
     rt: &R,
     way: Way<'a>,
     options: &RunOptions,
@@ -178,7 +178,14 @@ where
 }
 
 /// Writes the page with the run and the net in it. `CannotRead` if it has no place for a run.
-fn write_page<'a, R: Files + AllocGlobal, L: BufRead + Drop, M: BufRead + Drop, W: Write, E: Write>(
+fn write_page<
+    'a,
+    R: Files + AllocGlobal,
+    L: BufRead + Drop,
+    M: BufRead + Drop,
+    W: Write,
+    E: ProgressWriter,
+>(
     rt: &R,
     way: Way<'a>,
     viewed: Viewed<'a, R::File, L, M>,

@@ -11,6 +11,7 @@ mod left_out;
 mod named_file;
 mod options;
 mod outputs;
+mod progress;
 mod status;
 
 pub use cause::Cause;
@@ -22,4 +23,5 @@ pub use left_out::LeftOut;
 pub use named_file::{NamedFile, refuse_same};
 pub use options::OutputFormat;
 pub use outputs::{FrameTarget, OutputFault, Target, frame_target, is_standard};
+pub use progress::{ProgressWriter, RunProgress};
 pub use status::Status;

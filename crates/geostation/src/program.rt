@@ -14,7 +14,7 @@ use cmd_captures::{check_file, convert_file, import_file, show_file};
 use cmd_mesh::mesh_file;
 use cmd_page::{Viewing, view_file};
 use cmd_pipe::{Ended, run_station};
-use cmd_reporting::{CommandFault, Fault, Io, OutputFormat, Status};
+use cmd_reporting::{CommandFault, Fault, Io, OutputFormat, ProgressWriter, Status};
 use cmd_stats::replay::{PortList, ReplayOptions, Unit, replay_file};
 use cmd_stats::stats_file;
 use its_world::Config;
@@ -136,7 +136,7 @@ where
     let mut screen = Screen::plain(rt.alloc(), out)
         .headed(subcommand.heads())
         .painted(subcommand.painter());
-    let mut meter = Meter::new(rt.alloc(), rt, err, subcommand.shows_progress());
+    let mut meter = Meter::new(rt, err, subcommand.shows_progress());
     let status = run_subcommand(rt, subcommand, format, input, &mut screen, &mut meter);
     let _ = meter.flush();
     status
@@ -147,7 +147,7 @@ fn run_subcommand<
     R: Files + Net + Clock + Eprint + AllocGlobal,
     I: Read + Drop,
     W: Write,
-    E: Write,
+    E: ProgressWriter,
 >(
     rt: &R,
     subcommand: &Subcommand<'_>,

@@ -15,7 +15,8 @@ use crate::options::RunOptions;
 use crate::outputs::{Outputs, create_outputs};
 use crate::simulating::{read_scenario, run_into};
 use cmd_reporting::{
-    Fault, Io, NamedFile, Opened, Status, Target, WriterFault, frame_target, open, refuse_same,
+    Fault, Io, NamedFile, Opened, ProgressWriter, Status, Target, WriterFault, frame_target, open,
+    refuse_same,
 };
 use sim_results::ResultFiles;
 use sim_scenario::{MOST_STATIONS, Reading, Scenario, Timeline};
@@ -55,7 +56,7 @@ impl RunFiles<'_> {
 /// one. `Refused` for a text that is no scenario, for a bad line of moves, where a frame has no
 /// place in its file, and, with `strict`, where an event was refused; `Failed` where a file could
 /// not be read, created or written or standard output not written, or memory ran out.
-pub fn simulate_file<R: Files + AllocGlobal, I: Read + Drop, W: Write, E: Write>(
+pub fn simulate_file<R: Files + AllocGlobal, I: Read + Drop, W: Write, E: ProgressWriter>(
     rt: &R,
     files: &RunFiles<'_>,
     input: I,
@@ -75,7 +76,7 @@ where
 
 /// Runs the scenario in the file. The files to be written are created after the scenario and the
 /// first line of the moves are read.
-fn simulate_named<'a, R: Files + AllocGlobal, I: Read + Drop, W: Write, E: Write>(
+fn simulate_named<'a, R: Files + AllocGlobal, I: Read + Drop, W: Write, E: ProgressWriter>(
     rt: &R,
     files: &RunFiles<'a>,
     input: I,
@@ -117,7 +118,7 @@ impl<'a, M: BufRead + Drop> RunInputs<'a, M> {
     ///
     /// `NoOutput` if a write failed, `CannotRead` or `NotRead` if a read of the moves failed,
     /// `OutOfMemory` if an allocation failed.
-    pub fn run<W: Write, E: Write>(
+    pub fn run<W: Write, E: ProgressWriter>(
         self,
         alloc: Global,
         options: &RunOptions,

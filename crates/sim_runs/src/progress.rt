@@ -1,27 +1,27 @@
-//! How far a run is, on a line of a terminal.
+//! How far a run is.
 
 use crate::course::Course;
+use cmd_reporting::{ProgressWriter, RunProgress};
 use its_world::What;
 use sim_simulation::EventRecord;
-use std::io;
-use std::io::{BufRead, Write};
+use std::io::BufRead;
 
-/// How many events are done from one time that the line is written to the next.
+/// How many events are done from one time that progress is shown to the next.
 const EVENTS: usize = 65536;
 
-/// A line on standard error that is written over itself, and taken away at the end of the run.
+/// What is counted of a run, to show how far it is on standard error.
 #[derive(Clone, Copy)]
 pub(crate) struct Progress {
-    /// Whether the line is shown.
+    /// Whether it is shown.
     is_shown: bool,
-    /// The moment at which the run ends, where that is known.
+    /// The moment at which the run ends, if that is known.
     end: Option<u64>,
     /// How many of the events so far were deliveries.
     deliveries: u64,
 }
 
 impl Progress {
-    /// Before the first event of a run. The line is shown where someone looks.
+    /// Before the first event of a run. It is shown if someone looks.
     pub(crate) fn of<M: BufRead + Drop>(course: &Course<'_, '_, M>) -> Progress {
         Progress {
             is_shown: course.options.progress,
@@ -30,10 +30,10 @@ impl Progress {
         }
     }
 
-    /// Notes an event that was done, and writes the line after the first one and after each 65536.
-    /// A line that can't be written is no fault of the run.
+    /// Counts an event that was done. Shows how far the run is after the first event, and then after
+    /// each 65536.
     #[inline]
-    pub(crate) fn note<E: Write>(&mut self, done: &EventRecord<'_>, err: &mut E) {
+    pub(crate) fn note<E: ProgressWriter>(&mut self, done: &EventRecord<'_>, err: &mut E) {
         if !self.is_shown {
             return;
         }
@@ -41,28 +41,19 @@ impl Progress {
             self.deliveries = self.deliveries.saturating_add(1);
         }
         if done.number % EVENTS == 0 {
-            let _ = self.write(done, err);
+            err.show_progress(&RunProgress {
+                moment: done.moment,
+                end: self.end,
+                events: (done.number as u64).saturating_add(1),
+                deliveries: self.deliveries,
+            });
         }
     }
 
-    /// Writes the line after an event.
-    fn write<E: Write>(&self, done: &EventRecord<'_>, err: &mut E) -> io::Result<()> {
-        write!(err, "{}", done.moment)?;
-        if let Some(end) = self.end {
-            write!(err, " of {end}")?;
-        }
-        let events = (done.number as u64).saturating_add(1);
-        write!(
-            err,
-            " ms: events {events} deliveries {}\x1b[K\r",
-            self.deliveries
-        )
-    }
-
-    /// Takes the line away.
-    pub(crate) fn end<E: Write>(&self, err: &mut E) {
+    /// Removes what is shown, at the end of the run.
+    pub(crate) fn end<E: ProgressWriter>(&self, err: &mut E) {
         if self.is_shown {
-            let _ = write!(err, "\x1b[K");
+            err.clear_progress();
         }
     }
 }

@@ -13,7 +13,7 @@ use crate::lines::{RunLines, Summary};
 use crate::options::RunOptions;
 use crate::outputs::Outputs;
 use crate::sinks::RunSinks;
-use cmd_reporting::{Fault, Io, OutputFormat, Status};
+use cmd_reporting::{Fault, Io, OutputFormat, ProgressWriter, Status};
 use cmd_text::frames::Explanation;
 use its_world::World;
 use sim_air::{AirFault, run_moves, run_scenario};
@@ -30,7 +30,7 @@ use std::io::{BufRead, Read, Write};
 ///
 /// Returns `Refused` if the text is not a scenario, before any line. With `strict`, also if an
 /// event was refused. Returns `Failed` if a read or a write failed, or memory ran out.
-pub fn simulate<R: Read + Drop, W: Write, E: Write>(
+pub fn simulate<R: Read + Drop, W: Write, E: ProgressWriter>(
     alloc: Global,
     file: &str,
     reader: R,
@@ -44,7 +44,7 @@ pub fn simulate<R: Read + Drop, W: Write, E: Write>(
 }
 
 /// Runs the scenario in a text as `simulate` does. Returns the fault that ends it.
-fn simulate_text<'a, R: Read + Drop, W: Write, E: Write>(
+fn simulate_text<'a, R: Read + Drop, W: Write, E: ProgressWriter>(
     alloc: Global,
     file: &'a str,
     reader: R,
@@ -64,7 +64,7 @@ fn simulate_text<'a, R: Read + Drop, W: Write, E: Write>(
 /// file of moves: none is given here.
 ///
 /// `NoOutput` where a write failed, `OutOfMemory` where an allocation did.
-pub fn simulate_scenario<'f, W: Write, E: Write>(
+pub fn simulate_scenario<'f, W: Write, E: ProgressWriter>(
     alloc: Global,
     scenario: &Scenario,
     options: &RunOptions,
@@ -86,7 +86,7 @@ pub fn simulate_scenario<'f, W: Write, E: Write>(
 
 /// Runs a scenario, and writes these files. Returns `Refused` if a frame was left out of its file.
 /// With `strict`, also if an event was refused.
-pub(crate) fn run_into<'a, M: BufRead + Drop, F: Write + Drop, W: Write, E: Write>(
+pub(crate) fn run_into<'a, M: BufRead + Drop, F: Write + Drop, W: Write, E: ProgressWriter>(
     alloc: Global,
     course: &mut Course<'_, 'a, M>,
     outputs: Outputs<'a, F>,
@@ -124,7 +124,13 @@ pub(crate) fn run_into<'a, M: BufRead + Drop, F: Write + Drop, W: Write, E: Writ
 }
 
 /// Runs a scenario, prints these lines and writes these files, as `run_into` does.
-fn run_printed<'a, L: EventSink + RunLines + Drop, M: BufRead + Drop, F: Write + Drop, E: Write>(
+fn run_printed<
+    'a,
+    L: EventSink + RunLines + Drop,
+    M: BufRead + Drop,
+    F: Write + Drop,
+    E: ProgressWriter,
+>(
     alloc: Global,
     course: &mut Course<'_, 'a, M>,
     lines: L,

@@ -14,7 +14,7 @@ use crate::outputs::Outputs;
 use crate::progress::Progress;
 use crate::report::Report;
 use crate::simulating::run_timeline;
-use cmd_reporting::{Fault, FrameFile, OutputFormat, Status, end_frames};
+use cmd_reporting::{Fault, FrameFile, OutputFormat, ProgressWriter, Status, end_frames};
 use its_gnvalue::NoMemory;
 use its_world::{Entry, World};
 use sim_air::AirFault;
@@ -43,7 +43,7 @@ pub(crate) struct RunSinks<'s, 'a, 'o, L, F: Write + Drop, E> {
     err: &'o mut E,
 }
 
-impl<'s, 'a, 'o, L: EventSink + RunLines + Drop, F: Write + Drop, E: Write> RunSinks<
+impl<'s, 'a, 'o, L: EventSink + RunLines + Drop, F: Write + Drop, E: ProgressWriter> RunSinks<
     's,
     'a,
     'o,
@@ -178,7 +178,7 @@ impl<L, F: Write + Drop, E: Write> RunSinks<'_, '_, '_, L, F, E> {
     }
 }
 
-impl<L: EventSink, F: Write + Drop, E: Write> EventSink for RunSinks<'_, '_, '_, L, F, E> {
+impl<L: EventSink, F: Write + Drop, E: ProgressWriter> EventSink for RunSinks<'_, '_, '_, L, F, E> {
     // What the parts write isn't said by contracts; whether an entry is a refusal is.
     ghost Took = { λ sinks events log. sinks.all_done ≡ list_all was_done log };
 

@@ -1,49 +1,48 @@
 //! The line on standard error that says how far a run is, with its pace.
 
-ghost use Rattle.std.specs.Prelude.{◌≡◌, [], None};
+ghost use Rattle.std.specs.Prelude.{◌≡◌, None, true};
 
 use crate::terminal::pace::Pace;
-use std::alloc::Global;
+use cmd_reporting::{ProgressWriter, RunProgress};
 use std::io::Write;
 use std::rt::Clock;
 use std::time::Duration;
-use std::{fmt, io, str};
+use std::{fmt, io};
 
 /// What clears a terminal's line from where the cursor stands.
 const CLEAR: &[u8] = b"\x1b[K";
 
-/// A writer of lines to standard error. Where someone looks, a line that says how far a run is, as
-/// `0 of 5000 ms: events 1 deliveries 0` before a carriage return, goes on with how many events are
-/// done in a second and how many seconds are left; and any other line takes the place of that one.
-/// Else it hands on what it takes.
+/// A writer of messages to standard error. If someone looks at it, a line there shows how far a run
+/// is, with its events per second and the seconds that are left, and each message takes the place
+/// of that line. Otherwise it writes the messages alone.
 #[derive(Drop)]
 pub struct Meter<'a, R, E> {
     rt: &'a R,
     err: &'a mut E,
     is_shown: bool,
-    /// When the first line came that says how far the run is.
+    /// When progress was shown first.
     started: Option<Duration>,
-    line: Vec<u8>,
+    /// Whether the next octet of a message begins a line.
+    at_start: bool,
 }
 
 impl<'a, R: Clock, E: Write> Meter<'a, R, E> {
     /// One before the first line. `is_shown` says whether someone looks.
-    pub fn new(alloc: Global, rt: &'a R, err: &'a mut E, is_shown: bool) -> Meter<'a, R, E>
+    pub fn new(rt: &'a R, err: &'a mut E, is_shown: bool) -> Meter<'a, R, E>
         ensures shown { result.is_shown ≡ is_shown }
         ensures start { result.started ≡ None }
-        ensures line { result.line.items ≡ [] }
+        ensures line { result.at_start ≡ true }
     {
         Meter {
             rt,
             err,
             is_shown,
             started: None,
-            line: Vec::new(alloc),
+            at_start: true,
         }
     }
 
-    /// The milliseconds since the first line that says how far the run is: 0 at that one, and where
-    /// no clock tells.
+    /// The milliseconds since progress was shown first: 0 at that time, and if there is no clock.
     fn elapsed(&mut self) -> u64 {
         let Ok(now) = self.rt.monotonic() else {
             return 0;
@@ -53,26 +52,11 @@ impl<'a, R: Clock, E: Write> Meter<'a, R, E> {
         millis(now.saturating_sub(started))
     }
 
-    /// Writes the line that was taken, and begins the next. `end` is what ended it.
-    fn write_line(&mut self, end: u8) -> io::Result<()> {
-        if end == b'\r' {
-            self.write_progress()?;
-        } else {
-            self.err.write_all(CLEAR)?;
-            self.err.write_all(self.line.as_slice())?;
-            self.err.write_all(b"\n")?;
-        }
-        self.line.clear();
-        Ok(())
-    }
-
-    /// Writes a line that says how far the run is.
-    fn write_progress(&mut self) -> io::Result<()> {
+    /// Writes the line that says how far the run is.
+    fn write_progress(&mut self, progress: &RunProgress) -> io::Result<()> {
         let elapsed = self.elapsed();
-        let line = self.line.as_slice();
-        let told = line.strip_suffix(CLEAR).unwrap_or(line);
-        self.err.write_all(told)?;
-        if let Some(pace) = pace_of(told, elapsed) {
+        write!(self.err, "{progress}")?;
+        if let Some(pace) = pace_of(progress, elapsed) {
             write!(self.err, "{pace}")?;
         }
         self.err.write_all(CLEAR)?;
@@ -80,30 +64,40 @@ impl<'a, R: Clock, E: Write> Meter<'a, R, E> {
     }
 }
 
+impl<R: Clock, E: Write> ProgressWriter for Meter<'_, R, E> {
+    fn show_progress(&mut self, progress: &RunProgress) {
+        if self.is_shown {
+            let _ = self.write_progress(progress);
+        }
+    }
+
+    fn clear_progress(&mut self) {
+        if self.is_shown {
+            let _ = self.err.write_all(CLEAR);
+        }
+    }
+}
+
 impl<R: Clock, E: Write> Write for Meter<'_, R, E> {
     fn write(&mut self, octets: &[u8]) -> io::Result<usize> {
-        if !self.is_shown {
+        if !self.is_shown || octets.is_empty() {
             return self.err.write(octets);
         }
-        match octets
-            .iter()
-            .position(|octet| *octet == b'\n' || *octet == b'\r')
-        {
+        if self.at_start {
+            self.err.write_all(CLEAR)?;
+            self.at_start = false;
+        }
+        match octets.iter().position(|octet| *octet == b'\n') {
             Some(place) => {
-                self.line.extend_from_slice(&octets[..place])?;
-                self.write_line(octets[place])?;
+                self.err.write_all(&octets[..place + 1])?;
+                self.at_start = true;
                 Ok(place + 1)
             }
-            None => {
-                self.line.extend_from_slice(octets)?;
-                Ok(octets.len())
-            }
+            None => self.err.write(octets),
         }
     }
 
     fn flush(&mut self) -> io::Result<()> {
-        self.err.write_all(self.line.as_slice())?;
-        self.line.clear();
         self.err.flush()
     }
 }
@@ -126,21 +120,20 @@ impl fmt::Display for RunPace {
     }
 }
 
-/// The pace of a run that says how far it is by this line, after so many milliseconds; `None` where
-/// it isn't known yet.
-fn pace_of(line: &[u8], elapsed: u64) -> Option<RunPace> {
-    let mut words = str::from_utf8(line).ok()?.split(' ');
-    let done = words.next()?.parse().ok()?;
-    let all = words.nth(1)?.parse().ok()?;
-    let events = words.nth(2)?.parse().ok()?;
-    let moments = Pace { done, all, elapsed };
-    let counted = Pace {
-        done: events,
-        all: events,
+/// The pace of a run that is so far after this number of milliseconds. `None` while it isn't known.
+fn pace_of(progress: &RunProgress, elapsed: u64) -> Option<RunPace> {
+    let moments = Pace {
+        done: progress.moment,
+        all: progress.end?,
+        elapsed,
+    };
+    let events = Pace {
+        done: progress.events,
+        all: progress.events,
         elapsed,
     };
     Some(RunPace {
-        rate: counted.rate()?,
+        rate: events.rate()?,
         left: moments.left()? / 1000,
     })
 }
