@@ -7,15 +7,15 @@ mod cut;
 mod frame;
 pub mod messages;
 mod refusal;
+mod refused_capture;
 mod signed;
-mod told;
 mod walk;
 
 pub use crate::choosing::{Choice, Kinds, Traits};
 pub use frame::{frame_of, traits_of};
 pub use refusal::{FileFault, RecordCode, RecordFault, SIGNED_HINT};
+pub use refused_capture::RefusedCapture;
 pub use signed::{
     FramePlace, PlainPart, SecuredFacts, bring_inner, find_plain, reads_secured, traits_inside,
 };
-pub use told::RefusedCapture;
 pub use walk::{Place, RecordVisitor, Selection, Walked, each_record, open_records};

@@ -164,7 +164,7 @@ impl fmt::Display for RecordCode {
     }
 }
 
-/// Why a file is not read on, where that is told in a line. It prints as a sentence.
+/// Why a file is not read on, as a line reports it. It prints as a sentence.
 #[derive(Clone, Copy, Debug, PartialEq, Eq)]
 pub struct FileFault {
     fault: SourceFault,

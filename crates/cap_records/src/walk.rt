@@ -283,11 +283,11 @@ pub fn each_record<'a, S: Source + Drop, V: RecordVisitor, W: Write>(
                 Some((moment, _)) => Some(moment),
                 None => None,
             };
-            let told = FileFault::of(fault, file, walked.read, selection.format)?;
+            let fault = FileFault::of(fault, file, walked.read, selection.format)?;
             Ok(Walked {
                 records: walked.records,
                 refused: walked.refused,
-                fault: Some(told.begun(source.format(), begun)),
+                fault: Some(fault.begun(source.format(), begun)),
                 read: walked.read,
             })
         }

@@ -116,7 +116,7 @@ ArePorts [] (port ∷ ports) = ⊥
 ArePorts (text ∷ texts) [] = ⊥
 ArePorts (text ∷ texts) (port ∷ ports) = IsWhole 16 text port × ArePorts texts ports
 
--- how moments are told, by a word; in milliseconds where it is another
+-- how times are printed, by a word; in milliseconds if it is another one
 abbrev pub time_of_word : List ℕ → Time
 time_of_word word =
     cond (pointwise nat_eq word (codes "utc")) times.Utc

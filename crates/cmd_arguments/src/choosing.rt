@@ -1,4 +1,4 @@
-//! What the options of a command choose: records of a capture, ports, how moments are told.
+//! What the options of a command choose: records of a capture, ports, how times are printed.
 
 ghost use Rattle.std.specs.Prelude.{◌≡◌, ℕ, List, Ok, MatchResult, IfOk, IfErr, IfSome, None};
 ghost use Rattle.std.specs.Prelude.{codes, map};
@@ -296,7 +296,7 @@ fn skips_others(matches: &ArgMatches<'_>) -> bool
     }
 }
 
-/// How moments are told: by the word of `--time`, or as milliseconds.
+/// How times are printed: by the word of `--time`, or as milliseconds.
 pub fn time_of(matches: &ArgMatches<'_>) -> Time
     ensures { result ≡ time_named (value_in matches.now (codes "time")) }
 {

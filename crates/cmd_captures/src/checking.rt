@@ -4,7 +4,7 @@ ghost use Rattle.std.specs.Prelude.{IfOk};
 ghost use Rattle.cmd_reporting.specs.Statuses.{IsCommandStatus};
 
 use crate::output::Output;
-use crate::told::{Count, RefusedRecord};
+use crate::refused_lines::{Count, RefusedRecord};
 use cap_records::{Place, RecordFault, RecordVisitor, Selection, each_record, open_records};
 use cmd_reporting::{Fault, Io, Status, open};
 use its_linkframe::FrameView;

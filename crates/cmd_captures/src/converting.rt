@@ -9,7 +9,7 @@ ghost use Rattle.cmd_reporting.specs.FileNames.{is_standard as names_standard};
 ghost use Rattle.cmd_reporting.specs.Statuses.{IsCommandStatus, IsStopped};
 
 use crate::prompt::Prompt;
-use crate::told::UnreadRecord;
+use crate::refused_lines::UnreadRecord;
 use crate::written::{PutRefusal, Written};
 use cap_pcap::{
     AnySource, Format, LONGEST_CAPTURED, RecordHeader, RecordSource, SinkFault, SourceFault, Step,
@@ -123,7 +123,7 @@ fn convert_records<'a, R: Read + Drop, W: Write + Drop, E: Write>(
 {
     let conversion = converting.conversion;
     let mut written = Written::new(writer, converting.to, conversion.frames_only);
-    let telling = Telling {
+    let reporter = Reporter {
         file: conversion.file,
         target: conversion.target.name,
         read_as: selection.format,
@@ -131,25 +131,25 @@ fn convert_records<'a, R: Read + Drop, W: Write + Drop, E: Write>(
     };
     let keep = LONGEST_CAPTURED as usize;
     let ended = match AnySource::open(alloc, Counted::new(reader), selection.format, keep) {
-        Ok(mut source) => copy(alloc, telling, selection, &mut source, &mut written, err),
-        Err(fault) => telling.end_file(fault, 0, err),
+        Ok(mut source) => copy(alloc, reporter, selection, &mut source, &mut written, err),
+        Err(fault) => reporter.end_file(fault, 0, err),
     };
     let is_whole = written.end();
     let losses = written.losses();
     let flushed = written.into_writer().flush();
     let status = ended?;
     if !is_whole || flushed.is_err() {
-        return Err(Fault::of_target(telling.target));
+        return Err(Fault::of_target(reporter.target));
     }
     losses.report(err);
     Ok(status)
 }
 
 /// Writes the records of the source that are chosen, one by one, until it ends. A record that has
-/// no place in the file is told, and left out.
+/// no place in the file is reported and left out.
 fn copy<'a, S: Source + Drop, W: Write + Drop, E: Write>(
     alloc: Global,
-    telling: Telling<'a>,
+    reporter: Reporter<'a>,
     selection: &Selection,
     source: &mut AnySource<S>,
     written: &mut Written<W>,
@@ -168,9 +168,9 @@ fn copy<'a, S: Source + Drop, W: Write + Drop, E: Write>(
         if selection.count == Some(progress.chosen) {
             return Ok(progress.status());
         }
-        let target = telling.target;
+        let target = reporter.target;
         let met = go_on(selection, target, source, &mut octets, &mut room, written)?;
-        telling.tell(met, progress.records, err)?;
+        reporter.report(met, progress.records, err)?;
         progress = progress.after(met);
         if met.is_end() {
             return Ok(progress.status());
@@ -244,7 +244,7 @@ impl Progress {
         requires chosen { self.chosen < 2 ^ 64 - 1 }
         ensures { result ≡ after_met self met }
     {
-        let (records, chosen, told) = match met {
+        let (records, chosen, refused) = match met {
             Met::Record(Copied::Passed) => (1, 0, false),
             Met::Record(Copied::Written) => (1, 1, false),
             Met::Record(Copied::LeftOut(_) | Copied::Unread(_)) => (1, 1, true),
@@ -254,7 +254,7 @@ impl Progress {
         Progress {
             records: self.records + records,
             chosen: self.chosen + chosen,
-            refused: self.refused || told,
+            refused: self.refused || refused,
         }
     }
 
@@ -325,9 +325,9 @@ fn copy_record<'a, W: Write + Drop>(
     }
 }
 
-/// What is said of the files where something is told of them on standard error.
+/// What reports on standard error what is wrong with the files.
 #[derive(Clone, Copy)]
-struct Telling<'a> {
+struct Reporter<'a> {
     /// The name of the file that is read.
     file: &'a str,
     /// The name of the one that is written.
@@ -338,10 +338,10 @@ struct Telling<'a> {
     format: OutputFormat,
 }
 
-impl<'a> Telling<'a> {
-    /// Tells what a step met, after so many records: that the record is left out, or the fault of
-    /// the file.
-    fn tell<E: Write>(self, met: Met, records: u64, err: &mut E) -> Result<(), Fault<'a>> {
+impl<'a> Reporter<'a> {
+    /// Reports what a step met after this number of records: that the record is left out, or the
+    /// fault of the file.
+    fn report<E: Write>(self, met: Met, records: u64, err: &mut E) -> Result<(), Fault<'a>> {
         match met {
             Met::Record(Copied::LeftOut(fault)) => {
                 let left_out = LeftOut::new("record", records, fault, self.format);
@@ -359,7 +359,7 @@ impl<'a> Telling<'a> {
         Ok(())
     }
 
-    /// Tells the fault of the file after so many records, or says why it was not read on.
+    /// Reports the fault of the file after this number of records, or why it was not read on.
     fn end_file<E: Write>(
         self,
         fault: SourceFault,
@@ -369,8 +369,8 @@ impl<'a> Telling<'a> {
         ensures { IfOk result IsCommandStatus }
     {
         let fault = FileFault::of(fault, self.file, records, self.read_as)?;
-        let told = RefusedCapture::new(records, fault, self.format.explain);
-        let _ = writeln!(err, "geostation: {told}");
+        let refused = RefusedCapture::new(records, fault, self.format.explain);
+        let _ = writeln!(err, "geostation: {refused}");
         Ok(Status::Refused)
     }
 }

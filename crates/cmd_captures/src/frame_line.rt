@@ -1,4 +1,4 @@
-//! What `show` tells of a frame, and its line of words.
+//! The line of `show` for a frame.
 
 use crate::field::Field;
 use crate::moment::Moment;
@@ -12,8 +12,8 @@ use its_linkframe::FrameView;
 use serde::Serialize;
 use std::alloc::AllocError;
 
-/// What is told of a frame that was read at a moment, in the order in which lines tell it: as keys
-/// in JSON, and as words in text.
+/// What is printed of a frame that was read at a moment, in this order: as keys in JSON, and as
+/// words in text.
 #[derive(Clone, Copy, Serialize)]
 pub(crate) struct FrameLine<'a> {
     #[serde(skip_serializing_if = "Moment::is_fraction")]

@@ -12,11 +12,11 @@ mod losses;
 mod moment;
 mod output;
 mod prompt;
+mod refused_lines;
 mod rows;
 mod secured_keys;
 mod showing;
 mod text;
-mod told;
 mod utc;
 mod written;
 

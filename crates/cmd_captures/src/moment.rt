@@ -1,4 +1,4 @@
-//! The moments of records, as `show` tells them.
+//! The times of records, as `show` prints them.
 
 use crate::date::Date;
 use crate::text::Text;
@@ -8,7 +8,7 @@ use std::alloc::AllocError;
 use std::fmt;
 use std::fmt::Write;
 
-/// How the moments of records are told.
+/// How the times of records are printed.
 #[derive(Clone, Copy, Debug, PartialEq, Eq)]
 pub enum Time {
     /// In milliseconds, as the file has them.
@@ -42,7 +42,7 @@ const NANOS_OF_MILLI: u128 = 1_000_000;
 /// The nanoseconds of a second.
 const NANOS_OF_SECOND: u128 = 1_000_000_000;
 
-/// A moment as it is told.
+/// A time as it is printed.
 #[derive(Clone, Copy)]
 pub(crate) enum Moment {
     /// Milliseconds.
@@ -54,7 +54,7 @@ pub(crate) enum Moment {
 }
 
 impl Moment {
-    /// Whether it is a number that is told with a fraction.
+    /// Whether it is printed as a number with a fraction.
     pub(crate) fn is_fraction(&self) -> bool {
         matches!(self, Moment::Between(_, _))
     }
@@ -136,7 +136,7 @@ pub(crate) struct Clock {
 }
 
 impl Clock {
-    /// No record was told yet.
+    /// No record was printed yet.
     pub(crate) fn new(time: Time) -> Clock {
         Clock { time, last: None }
     }

@@ -2,8 +2,8 @@
 
 use crate::frame_line::FrameLine;
 use crate::moment::Moment;
+use crate::refused_lines::RefusedAt;
 use crate::text::Text;
-use crate::told::RefusedAt;
 use cap_records::{RefusedCapture, Walked};
 use cmd_reporting::{Fault, OutputFormat};
 use cmd_text::json_lines::JsonLine;
@@ -42,52 +42,52 @@ impl Output {
         })
     }
 
-    /// Writes the line of what is told. `NoOutput` where the write failed, `OutOfMemory` where an
-    /// allocation did.
+    /// Writes the line of a value. `NoOutput` if the write failed, `OutOfMemory` if an allocation
+    /// failed.
     pub(crate) fn line<'f, T: Display + Serialize, W: Write>(
         &mut self,
-        told: &T,
+        value: &T,
         out: &mut W,
     ) -> Result<(), Fault<'f>> {
         match &mut self.buffer {
-            Buffer::Words(_) => writeln!(out, "{told}")?,
-            Buffer::Object(line) => out.write_all(line.of(told)?)?,
+            Buffer::Words(_) => writeln!(out, "{value}")?,
+            Buffer::Object(line) => out.write_all(line.of(value)?)?,
         }
         Ok(())
     }
 
-    /// The same of a record that is refused.
+    /// Writes the line of a record that is refused. The errors are those of `line`.
     pub(crate) fn refused<'f, W: Write>(
         &mut self,
-        told: &RefusedAt,
+        refused: &RefusedAt,
         out: &mut W,
     ) -> Result<(), Fault<'f>> {
         match &mut self.buffer {
-            Buffer::Words(_) => writeln!(out, "{told}")?,
-            Buffer::Object(line) => write_object(line.of(told)?, told.moment(), out)?,
+            Buffer::Words(_) => writeln!(out, "{refused}")?,
+            Buffer::Object(line) => write_object(line.of(refused)?, refused.moment(), out)?,
         }
         Ok(())
     }
 
-    /// The same of a frame, whose words are put together in the buffer, in a third of the time that
+    /// Writes the line of a frame, whose words are put together in the buffer, in a third of the time that
     /// `write!` takes.
     pub(crate) fn frame<'f, W: Write>(
         &mut self,
-        told: &FrameLine<'_>,
+        frame: &FrameLine<'_>,
         out: &mut W,
     ) -> Result<(), Fault<'f>> {
         match &mut self.buffer {
             Buffer::Words(text) => {
                 text.clear();
-                told.add_to(text)?;
+                frame.add_to(text)?;
                 out.write_all(text.as_bytes())?;
             }
-            Buffer::Object(line) => write_object(line.of(told)?, told.moment(), out)?,
+            Buffer::Object(line) => write_object(line.of(frame)?, frame.moment(), out)?,
         }
         Ok(())
     }
 
-    /// Tells that the file was refused after the records that were read, where it was.
+    /// Writes the line of a file that was refused after the records that were read, if it was.
     pub(crate) fn end<'f, W: Write>(
         &mut self,
         walked: &Walked,

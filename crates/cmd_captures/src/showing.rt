@@ -9,8 +9,8 @@ use crate::field::{FIELDS, FRAME_FIELDS, Field};
 use crate::frame_line::FrameLine;
 use crate::moment::{Clock, Time};
 use crate::output::Output;
+use crate::refused_lines::RefusedAt;
 use crate::rows::{RowForm, Rows};
-use crate::told::RefusedAt;
 use cap_pcap::{AnySource, Format};
 use cap_records::{
     Place, RecordFault, RecordVisitor, RefusedCapture, Selection, each_record, open_records,
@@ -35,7 +35,7 @@ pub struct Showing {
 /// Why records were not shown.
 #[derive(Debug, Drop, Error)]
 pub(crate) enum ShowFault<'a> {
-    /// Moments were to be told in UTC, and the file has no epoch.
+    /// Times were to be printed in UTC, and the file has no epoch.
     #[error("geostation: {0}: no epoch")]
     NoEpoch(&'a str),
     /// What ends any command.
@@ -102,8 +102,8 @@ impl RecordVisitor for AllRecords {
         match frame {
             Ok(frame) => output.frame(&FrameLine::of(moment, &frame, &place), out),
             Err(fault) => {
-                let told = RefusedAt::new(moment, fault, output.explain);
-                output.refused(&told, out)
+                let refused = RefusedAt::new(moment, fault, output.explain);
+                output.refused(&refused, out)
             }
         }
     }
@@ -229,7 +229,7 @@ fn show_objects<'a, S: Source + Drop, W: Write, E: Write>(
     Ok(walked.status())
 }
 
-/// A row for each record. What is wrong with the file is told on standard error.
+/// A row for each record. What is wrong with the file is reported on standard error.
 fn show_rows<'a, S: Source + Drop, W: Write, E: Write>(
     alloc: Global,
     file: &'a str,
@@ -243,8 +243,8 @@ fn show_rows<'a, S: Source + Drop, W: Write, E: Write>(
     let mut visitor = rows;
     let walked = each_record(alloc, file, selection, source, &mut visitor, &mut io.out)?;
     if let Some(fault) = walked.fault {
-        let told = RefusedCapture::new(walked.read, fault, io.format.explain);
-        let _ = writeln!(io.err, "geostation: {told}");
+        let refused = RefusedCapture::new(walked.read, fault, io.format.explain);
+        let _ = writeln!(io.err, "geostation: {refused}");
     }
     Ok(walked.status())
 }

@@ -39,7 +39,7 @@ pub struct MeshOptions {
 
 /// Runs the scenario in the file, of at most 64 stations, each with a UDP socket on 127.0.0.1 at a
 /// port that the system picks. Prints a line for each event but `deliver`, and for each datagram
-/// that comes: its moment, its station and what is told of it. In JSON the stations have a line
+/// that comes: its moment, its station and its result. In JSON the stations have a line
 /// before. `input` is standard input, which is read where the file is `-`. With `frames` each frame
 /// that a station gives is also written to that file, at the moment of its line; it is created once
 /// the scenario is read.
@@ -49,7 +49,7 @@ pub struct MeshOptions {
 /// no scenario, where a frame has no place in its file and, with `strict`, where a call was refused
 /// and nothing failed. `Failed` where a file could not be read, created or written, a socket not be
 /// made or standard output not written, or memory ran out: then it ends there. `Failed` too where a
-/// send or a receive failed: that is told, and it goes on.
+/// send or a receive failed: that is reported, and it goes on.
 pub fn mesh_file<R: Files + Net + AllocGlobal, I: Read + Drop, W: Write, E: Write>(
     rt: &R,
     file: &str,

@@ -218,7 +218,7 @@ impl<'a, 't, S: Sockets, W: Write, E: Write, F: Write + Drop> Mesh<'a, 't, S, W,
         )
     }
 
-    /// Sends a frame to each other station. A send that fails or would block is told and passed
+    /// Sends a frame to each other station. A send that fails or would block is reported and passed
     /// over.
     fn send(&mut self, from: usize, frame: &[u8])
         ensures stations { self.new.stations ≡ self.old.stations }

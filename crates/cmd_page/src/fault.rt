@@ -17,7 +17,7 @@ pub(crate) enum PageFault<'a> {
     /// No folder beside the program has the page.
     #[error("geostation: no page beside the program: --viewer names its folder")]
     NoPage,
-    /// A style or a script of the page could not be read, and why, where the system told it.
+    /// A style or a script of the page could not be read, and why, if the system said so.
     #[error("geostation: cannot read {0}")]
     PartNotRead(String, Option<Cause>),
     /// A run or a street net is larger than a page holds.
@@ -29,7 +29,7 @@ pub(crate) enum PageFault<'a> {
 }
 
 impl PageFault<'_> {
-    /// The fault of a failed read of a style or a script: out of memory is told apart.
+    /// The fault of a failed read of a style or a script: out of memory has its own.
     pub(crate) fn of_part<'a>(error: &io::Error, path: String) -> PageFault<'a> {
         if error.kind() == io::ErrorKind::OutOfMemory {
             return PageFault::from(AllocError);

@@ -45,14 +45,14 @@ pub(crate) fn write_net<'a, F: Read + Drop, W: Write>(
         out,
         "<script type=\"text/plain\" id=\"net\" data-name=\"{shown}\">"
     );
-    way.told(begun)?;
+    way.or_fault(begun)?;
     let mut limited = Limited::new(out, Content::Net);
     let copied = copy(&mut reader, &mut Inside::new(&mut limited));
     if limited.is_over() {
         return Err(PageFault::from(way.too_large(Content::Net, name)));
     }
     match copied {
-        Ok(()) => Ok(way.told(writeln!(out, "</script>"))?),
+        Ok(()) => Ok(way.or_fault(writeln!(out, "</script>"))?),
         Err(CopyError::Read(error)) => Err(PageFault::from(Fault::of_read(&error, name))),
         Err(CopyError::Write(error)) => Err(PageFault::from(fault_of(&error, way.target))),
     }

@@ -56,7 +56,7 @@ where
         }
         match part_of(page.line.start()) {
             Part::Run => return Ok(true),
-            Part::Text => way.told(write_line(page.line.start(), out))?,
+            Part::Text => way.or_fault(write_line(page.line.start(), out))?,
             Part::Style(name) => write_element(rt, way, "style", name, out)?,
             Part::Script(name) => write_element(rt, way, "script", name, out)?,
         }
@@ -88,9 +88,9 @@ where
         Err(Fault::NotRead(_, cause)) => return Err(PageFault::PartNotRead(path, Some(cause))),
         Err(_) => return Err(PageFault::PartNotRead(path, None)),
     };
-    way.told(writeln!(out, "<{element}>"))?;
+    way.or_fault(writeln!(out, "<{element}>"))?;
     match copy(&mut reader, out) {
-        Ok(()) => Ok(way.told(writeln!(out, "</{element}>"))?),
+        Ok(()) => Ok(way.or_fault(writeln!(out, "</{element}>"))?),
         Err(CopyError::Read(error)) => Err(PageFault::of_part(&error, path)),
         Err(CopyError::Write(error)) => Err(PageFault::from(fault_of(&error, way.target))),
     }

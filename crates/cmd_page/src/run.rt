@@ -87,7 +87,7 @@ pub(crate) fn write_run<'a, R: BufRead + Drop, M: BufRead + Drop, W: Write, E: P
         out,
         "<script type=\"application/jsonl\" id=\"inside\" data-name=\"{name}\">"
     );
-    way.told(begun)?;
+    way.or_fault(begun)?;
     let content = shown.content();
     let mut limited = Limited::new(out, content);
     let written = write_shown(alloc, way, shown, options, &mut limited, err);
@@ -95,7 +95,7 @@ pub(crate) fn write_run<'a, R: BufRead + Drop, M: BufRead + Drop, W: Write, E: P
         return Err(PageFault::from(way.too_large(content, way.file)));
     }
     let status = written?;
-    way.told(writeln!(out, "</script>"))?;
+    way.or_fault(writeln!(out, "</script>"))?;
     Ok(status)
 }
 
@@ -111,7 +111,7 @@ pub(crate) fn write_too_large<'a, W: Write>(
         "<script type=\"application/jsonl\" id=\"inside\" data-name=\"{name}\" \
          data-large=\"{word}\"></script>"
     );
-    way.told(written)
+    way.or_fault(written)
 }
 
 /// Writes the lines of what is shown.

@@ -105,7 +105,7 @@ where
         }
         written => written?,
     };
-    way.told(out.flush())?;
+    way.or_fault(out.flush())?;
     if matches!(out, Destination::File(_)) && !options.quiet {
         let _ = writeln!(io.err, "geostation: {}: open it in a browser", way.target);
     }
@@ -243,5 +243,5 @@ where
     write_start(rt, way, &mut page, &mut created)?;
     write_too_large(way, fault, &mut created)?;
     write_up_to_run(rt, way, &mut page, &mut created)?;
-    Ok(way.told(created.flush())?)
+    Ok(way.or_fault(created.flush())?)
 }

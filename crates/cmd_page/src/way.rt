@@ -40,8 +40,8 @@ impl<'a> Way<'a> {
         }
     }
 
-    /// What a write gave, or its fault: for standard output there is no line.
-    pub(crate) fn told<T: Drop>(self, written: io::Result<T>) -> Result<T, Fault<'a>> {
+    /// Returns what a write returned, or its fault. Standard output has a fault without a line.
+    pub(crate) fn or_fault<T: Drop>(self, written: io::Result<T>) -> Result<T, Fault<'a>> {
         written.map_err(|error| fault_of(&error, self.target))
     }
 }

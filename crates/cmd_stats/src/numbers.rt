@@ -3,7 +3,7 @@
 use std::alloc::{AllocError, Global};
 use std::collections::BTreeMap;
 
-/// How many numbers there are: behind the last one they begin anew.
+/// How many numbers there are: 0 follows the last one.
 const NUMBERS: i64 = 65_536;
 
 /// How far below the greatest place a number may be laid.

@@ -6,7 +6,7 @@ use serde::Serialize;
 use std::alloc::{AllocError, Global};
 use std::collections::BTreeMap;
 
-/// What is told of a port: its keys in this order.
+/// The row of a port: its keys in this order.
 #[derive(Clone, Copy, Drop, Serialize)]
 pub(crate) struct PortRow {
     port: u16,

@@ -19,7 +19,7 @@ pub(crate) struct Counted<'c> {
     pub(crate) counts: &'c Counts,
     /// How far the file was read.
     pub(crate) walked: &'c Walked,
-    /// How many sources are told at most.
+    /// How many sources are printed at most.
     pub(crate) top: Option<u64>,
     /// Whether PSIDs are printed.
     pub(crate) signed: bool,
@@ -48,8 +48,8 @@ pub(crate) fn print_tables<'f, W: Write>(
         psid_table(alloc, counts.psids.rows()?.as_slice())?.write(out)?;
     }
     if let Some(fault) = walked.fault {
-        let told = RefusedCapture::new(walked.read, fault, explain);
-        writeln!(out, "{told}")?;
+        let refused = RefusedCapture::new(walked.read, fault, explain);
+        writeln!(out, "{refused}")?;
     }
     Ok(())
 }

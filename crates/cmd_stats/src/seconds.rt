@@ -15,7 +15,7 @@ struct Load {
     busy: u64,
 }
 
-/// What is told of a second: its keys in this order.
+/// The row of a second: its keys in this order.
 #[derive(Clone, Copy, Drop, Serialize)]
 pub(crate) struct SecondRow {
     second: u64,

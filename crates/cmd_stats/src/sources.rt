@@ -65,7 +65,7 @@ impl Source {
         }
     }
 
-    /// What is told of it.
+    /// Its row in the table.
     fn row(&self, address: u64) -> SourceRow {
         let between = self.last.saturating_sub(self.first);
         SourceRow {
@@ -85,7 +85,7 @@ impl Source {
     }
 }
 
-/// What is told of a source: its keys in this order.
+/// The row of a source: its keys in this order.
 #[derive(Clone, Copy, Drop, Serialize)]
 pub(crate) struct SourceRow {
     address: Digits<8>,

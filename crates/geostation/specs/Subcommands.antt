@@ -15,10 +15,10 @@ painter_of (subcommands.Show show) = show.painter
 painter_of (subcommands.Sim sim) = sim.painter
 painter_of subcommand = None
 
--- whether it is told how far it is
-abbrev pub is_told_on : Subcommand → Bool
-is_told_on (subcommands.Convert convert) = convert.progress
-is_told_on (subcommands.Import import) = import.progress
-is_told_on (subcommands.Sim sim) = sim.options.progress
-is_told_on (subcommands.View viewing) = viewing.options.progress
-is_told_on subcommand = false
+-- whether it shows how far it is
+abbrev pub has_progress : Subcommand → Bool
+has_progress (subcommands.Convert convert) = convert.progress
+has_progress (subcommands.Import import) = import.progress
+has_progress (subcommands.Sim sim) = sim.options.progress
+has_progress (subcommands.View viewing) = viewing.options.progress
+has_progress subcommand = false

@@ -217,7 +217,7 @@ where
     )
 }
 
-/// `convert`, which tells how far it is.
+/// `convert`, which shows how far it is.
 fn convert_records<R: Files + Clock + Eprint + AllocGlobal, I: Read + Drop, W: Write, E: Write>(
     rt: &R,
     convert: &Convert<'_>,
@@ -231,7 +231,7 @@ where
     convert_file(&reading, convert.conversion, &convert.selection, input, io)
 }
 
-/// `import`, which tells how far it is.
+/// `import`, which shows how far it is.
 fn import_lines<R: Files + Clock + Eprint + AllocGlobal, I: Read + Drop, W: Write, E: Write>(
     rt: &R,
     import: &Import<'_>,

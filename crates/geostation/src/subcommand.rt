@@ -1,7 +1,7 @@
 //! What the arguments ask for.
 
 ghost use Rattle.std.specs.Prelude.{◌≡◌, is_some};
-ghost use Rattle.geostation.specs.Subcommands.{is_headed, is_told_on, painter_of as painter_in};
+ghost use Rattle.geostation.specs.Subcommands.{has_progress, is_headed, painter_of as painter_in};
 
 use cap_pcap::Format;
 use clap::ArgMatches;
@@ -69,7 +69,7 @@ pub struct Show<'a> {
 pub struct Convert<'a> {
     pub conversion: Conversion<'a>,
     pub selection: Selection,
-    /// Whether it is told how far it is.
+    /// Whether it shows how far it is.
     pub progress: bool,
 }
 
@@ -80,7 +80,7 @@ pub struct Import<'a> {
     pub file: &'a str,
     /// The capture that is made.
     pub target: &'a str,
-    /// Whether it is told how far it is.
+    /// Whether it shows how far it is.
     pub progress: bool,
 }
 
@@ -139,9 +139,9 @@ impl Subcommand<'_> {
         }
     }
 
-    /// Whether it is told on standard error how far it is.
+    /// Whether it shows on standard error how far it is.
     pub fn shows_progress(&self) -> bool
-        ensures { result ≡ is_told_on self.now }
+        ensures { result ≡ has_progress self.now }
     {
         match self {
             Subcommand::Convert(convert) => convert.progress,
@@ -289,7 +289,7 @@ fn importing<'a>(file: &'a str, matches: &ArgMatches<'a>, console: Console) -> O
     })
 }
 
-/// Whether it is told how far a command is that writes the file of this name.
+/// Whether a command that writes the file of this name shows how far it is.
 fn shows_progress(matches: &ArgMatches<'_>, console: Console, target: &str) -> bool {
     !matches.get_flag("quiet") && console.shows_progress(is_standard(target))
 }

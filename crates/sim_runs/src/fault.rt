@@ -114,7 +114,7 @@ pub(crate) fn fault_of_air<'a>(fault: AirFault, moves: Option<&'a str>) -> RunFa
 }
 
 /// Whether a run was ended by its file of moves, of which a line is bad or a read failed: what was
-/// run till then is told.
+/// run till then is reported.
 pub(crate) fn is_cut_short(fault: &AirFault) -> bool {
     matches!(
         fault,

@@ -43,8 +43,8 @@ impl RunOptions {
         }
     }
 
-    /// Whether it is told of each packet for an area which stations it didn't reach, where codes
-    /// are explained.
+    /// Whether the line of each packet for an area names the stations that it didn't reach: it does
+    /// if codes are explained.
     pub(crate) fn tells_missed(&self, explain: bool) -> bool {
         self.summary && explain
     }

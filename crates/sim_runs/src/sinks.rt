@@ -152,7 +152,7 @@ impl<'s, 'a, 'o, L: EventSink + RunLines + Drop, F: Write + Drop, E: ProgressWri
 impl<L, F: Write + Drop, E: Write> RunSinks<'_, '_, '_, L, F, E> {
     /// Writes the frame that an event sent to the file of frames, if there is one.
     #[inline(always)]
-    fn put_frame(&mut self, done: &EventRecord<'_>) -> Result<(), SimulationFault>
+    fn write_frame(&mut self, done: &EventRecord<'_>) -> Result<(), SimulationFault>
         ensures { self.new.all_done ≡ self.old.all_done }
     {
         let (Some(file), Some(frame)) = (&mut self.frames, done.octets) else {
@@ -188,7 +188,7 @@ impl<L: EventSink, F: Write + Drop, E: ProgressWriter> EventSink for RunSinks<'_
         self.report.take(world, done)?;
         self.tables.take(world, done)?;
         self.progress.note(done, self.err);
-        self.put_frame(done)?;
+        self.write_frame(done)?;
         self.all_done &= !is_refused(done.entry);
         Ok(())
     }

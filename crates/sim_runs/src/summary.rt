@@ -76,15 +76,15 @@ fn print_total_object<W: Write>(
 /// A station that a packet didn't reach, and how far it came there.
 type Miss = (usize, Reach);
 
-/// The stations that a packet didn't reach, where they are told.
+/// The stations that a packet didn't reach, if codes are explained.
 fn missed_of(
     alloc: Global,
     report: &Report<'_>,
     send: usize,
-    are_told: bool,
+    explain: bool,
 ) -> Result<Option<Vec<Miss>>, NoMemory> {
     match report.audience(send) {
-        Some(audience) if are_told => Ok(Some(audience.missed(alloc)?)),
+        Some(audience) if explain => Ok(Some(audience.missed(alloc)?)),
         _ => Ok(None),
     }
 }

@@ -45,7 +45,7 @@ impl Console {
         self.out && self.err
     }
 
-    /// Whether it is told how far a command is that prints on standard output: someone looks at
+    /// Whether a command that prints on standard output shows how far it is: someone looks at
     /// standard error, and has no lines to look at.
     pub fn shows_progress(self, prints: bool) -> bool
         ensures { result ≡ (self.err && not (self.out && prints)) }

@@ -1,4 +1,4 @@
-//! The runtime of a command that tells how far it has read a file.
+//! The runtime of a command that shows how far it has read a file.
 
 ghost use Rattle.std.specs.Prelude.{◌≡◌, Some, None, if◌then◌else◌};
 
@@ -14,7 +14,7 @@ use std::{fmt, io};
 /// How many milliseconds pass from one line to the next, and before the first.
 const BETWEEN: u64 = 250;
 
-/// A runtime whose reading of one file is told on standard error, where someone looks.
+/// A runtime that shows on standard error how far one file is read, if someone looks.
 #[derive(Drop)]
 pub struct Reading<'a, R> {
     rt: &'a R,
@@ -23,7 +23,7 @@ pub struct Reading<'a, R> {
 }
 
 impl<'a, R> Reading<'a, R> {
-    /// One that tells of the file of this name, where `is_shown`.
+    /// One that shows how far the file of this name is read, if `is_shown`.
     pub fn of(rt: &'a R, file: &'a str, is_shown: bool) -> Reading<'a, R>
         ensures { result.file ≡ if is_shown then Some file.entry else None }
     {
@@ -42,8 +42,8 @@ struct Far {
     /// How many the file has.
     size: u64,
     started: Duration,
-    /// At how many milliseconds a line was last written; 0 before the first.
-    told: u64,
+    /// The milliseconds after which a line was last written; 0 before the first.
+    shown_at: u64,
 }
 
 impl fmt::Display for Far {
@@ -52,7 +52,7 @@ impl fmt::Display for Far {
         let pace = Pace {
             done: self.done,
             all: self.size,
-            elapsed: self.told,
+            elapsed: self.shown_at,
         };
         if let (Some(rate), Some(left)) = (pace.rate(), pace.left()) {
             write!(f, ", {} kB/s, {} s left", rate / 1000, left / 1000)?;
@@ -61,7 +61,7 @@ impl fmt::Display for Far {
     }
 }
 
-/// A file of which it is told how far it is read.
+/// A file, and how far it is read.
 #[derive(Drop)]
 pub struct ReadFile<'a, R, F: Drop> {
     rt: &'a R,
@@ -70,14 +70,14 @@ pub struct ReadFile<'a, R, F: Drop> {
 }
 
 impl<R: Eprint + Clock, F: Drop> ReadFile<'_, R, F> {
-    /// Notes so many octets more, and tells of them from time to time; none is the end of the file,
-    /// where the line is taken away. A line that can't be written is no fault.
+    /// Counts this number of octets more, and writes the line from time to time. At the end of the
+    /// file, with 0 octets, it removes the line. A line that can't be written is ignored.
     fn note(&mut self, count: usize) {
         let Some(far) = self.far else {
             return;
         };
         if count == 0 {
-            if far.told > 0 {
+            if far.shown_at > 0 {
                 let _ = self.rt.eprint("\x1b[K");
             }
             self.far = None;
@@ -87,10 +87,10 @@ impl<R: Eprint + Clock, F: Drop> ReadFile<'_, R, F> {
             Ok(now) => millis(now.saturating_sub(far.started)),
             Err(_) => 0,
         };
-        let is_due = elapsed.saturating_sub(far.told) >= BETWEEN;
+        let is_due = elapsed.saturating_sub(far.shown_at) >= BETWEEN;
         let far = Far {
             done: far.done.saturating_add(count as u64),
-            told: if is_due { elapsed } else { far.told },
+            shown_at: if is_due { elapsed } else { far.shown_at },
             ..far
         };
         if is_due {
@@ -163,7 +163,7 @@ impl<'a, R: Files + Eprint + Clock> Files for Reading<'a, R> {
                 done: 0,
                 size: found.len(),
                 started,
-                told: 0,
+                shown_at: 0,
             }),
             _ => None,
         };

@@ -7,8 +7,8 @@ use std::alloc::Global;
 use std::io;
 use std::io::Write;
 
-/// A writer of lines that puts a line of column heads before the first one, and colours them, as far
-/// as it is told to. Where it is told neither it hands on what it takes.
+/// A writer of lines. If asked to, it puts a line of column heads before the first one, and colours
+/// the lines. Otherwise it writes what it is given.
 #[derive(Drop)]
 pub struct Screen<'a, W> {
     out: &'a mut W,
@@ -20,7 +20,7 @@ pub struct Screen<'a, W> {
 }
 
 impl<'a, W: Write> Screen<'a, W> {
-    /// One that hands on what it takes.
+    /// One that writes what it is given.
     pub fn plain(alloc: Global, out: &'a mut W) -> Screen<'a, W>
         ensures heads { result.heads ≡ None }
         ensures painter { result.painter ≡ None }

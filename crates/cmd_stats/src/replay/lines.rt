@@ -1,4 +1,4 @@
-//! What is told of a record: its words, and its keys in JSON.
+//! The line of a record: its words, and its keys in JSON.
 
 use crate::replay::heard::Heard;
 use cap_records::{RecordCode, RecordFault};
@@ -7,7 +7,7 @@ use its_station::{Refused, RefusedCode, Reply};
 use serde::Serialize;
 use std::fmt;
 
-/// What is told of a record: in JSON its keys in this order, in text the words of an entry.
+/// The line of a record: in JSON its keys in this order, in text the words of an entry.
 #[derive(Clone, Copy, Serialize)]
 pub(crate) struct ReplayLine<'a> {
     moment: u64,
@@ -52,8 +52,8 @@ impl fmt::Display for Reason {
 }
 
 impl<'a> ReplayLine<'a> {
-    /// What is told of a record. A frame that goes on gets this number. With `explain` the words of
-    /// a refusal go on with its sentence.
+    /// The line of a record. A frame that is forwarded gets this number. With `explain` the words of
+    /// a refusal end with its sentence.
     pub(crate) fn of(heard: &'a Heard, number: u64, explain: bool) -> ReplayLine<'a> {
         let (moment, answer) = match heard {
             Heard::Received {
@@ -74,7 +74,7 @@ impl<'a> ReplayLine<'a> {
     }
 }
 
-/// What is told of a reply to these octets.
+/// What is printed of a reply to these octets.
 fn reply_keys<'a>(reply: &'a Reply, frame: &[u8], number: u64) -> PrintedAnswer<'a, Code, Reason> {
     match reply {
         Reply::Ignored(why) => AnswerKeys::ignored(*why),

@@ -39,13 +39,13 @@ impl<'p, 't, W: Write, E: Write, F: Write + Drop> Printer<'p, 't, W, E, F> {
         })
     }
 
-    /// Writes the line of what is told. `NoOutput` where the write failed, `OutOfMemory` where an
-    /// allocation did.
-    pub(crate) fn line<'f, T: Display + Serialize>(&mut self, told: &T) -> Result<(), Fault<'f>> {
+    /// Writes the line of a value. `NoOutput` if the write failed, `OutOfMemory` if an allocation
+    /// failed.
+    pub(crate) fn line<'f, T: Display + Serialize>(&mut self, value: &T) -> Result<(), Fault<'f>> {
         if self.io.format.json {
-            self.io.out.write_all(self.line.of(told)?)?;
+            self.io.out.write_all(self.line.of(value)?)?;
         } else {
-            writeln!(self.io.out, "{told}")?;
+            writeln!(self.io.out, "{value}")?;
         }
         if self.waits {
             self.io.out.flush()?;

@@ -1,4 +1,5 @@
-//! What `show` and `check` tell beside frames: refused records, and a count. Each prints as its line of words, and is an object in JSON of the same values.
+//! The lines of refused records, and of their count. Each prints as its line of words, and is an
+//! object in JSON with the same values.
 
 use crate::moment::Moment;
 use cap_records::{RecordCode, RecordFault};
@@ -7,7 +8,7 @@ use cmd_text::json_lines::Printed;
 use serde::Serialize;
 use std::fmt;
 
-/// What `show` tells of a record that is refused.
+/// The line of `show` for a record that is refused.
 #[derive(Clone, Copy, Serialize)]
 pub(crate) struct RefusedAt {
     #[serde(skip_serializing_if = "Moment::is_fraction")]
@@ -43,7 +44,7 @@ impl fmt::Display for RefusedAt {
     }
 }
 
-/// What `check` tells of a record that is refused.
+/// The line of `check` for a record that is refused.
 #[derive(Clone, Copy, Serialize)]
 pub(crate) struct RefusedRecord {
     record: u64,
@@ -71,8 +72,7 @@ impl fmt::Display for RefusedRecord {
     }
 }
 
-/// What `convert` prints of a record that is left out because its secured frame can't be read: its line
-/// on standard error.
+/// The line of `convert` for a record that is left out because its secured frame can't be read.
 #[derive(Clone, Copy)]
 pub(crate) struct UnreadRecord {
     record: u64,
