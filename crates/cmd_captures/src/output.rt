@@ -2,8 +2,8 @@
 
 use crate::frame_line::FrameLine;
 use crate::moment::Moment;
-use crate::text::Text;
 use crate::refused_lines::RefusedAt;
+use crate::text::Text;
 use cap_records::{RefusedCapture, Walked};
 use cmd_reporting::{Fault, OutputFormat};
 use cmd_text::json_lines::JsonLine;

@@ -9,8 +9,8 @@ use crate::field::{FIELDS, FRAME_FIELDS, Field};
 use crate::frame_line::FrameLine;
 use crate::moment::{Clock, Time};
 use crate::output::Output;
-use crate::rows::{RowForm, Rows};
 use crate::refused_lines::RefusedAt;
+use crate::rows::{RowForm, Rows};
 use cap_pcap::{AnySource, Format};
 use cap_records::{
     Place, RecordFault, RecordVisitor, RefusedCapture, Selection, each_record, open_records,

@@ -14,8 +14,8 @@ use crate::mesh::Mesh;
 use crate::sockets::Sockets;
 use crate::udp::UdpSockets;
 use cmd_reporting::{
-    FrameFile, Io, Status, Target, WriterFault, create_frames, end_frames, frame_target, keep_apart,
-    open,
+    FrameFile, Io, Status, Target, WriterFault, create_frames, end_frames, frame_target,
+    keep_apart, open,
 };
 use its_world::Event;
 use sim_runs::{read_scenario, report_unknown};

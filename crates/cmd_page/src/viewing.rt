@@ -178,7 +178,14 @@ where
 }
 
 /// Writes the page with the run and the net in it. `CannotRead` if it has no place for a run.
-fn write_page<'a, R: Files + AllocGlobal, L: BufRead + Drop, M: BufRead + Drop, W: Write, E: ProgressWriter>(
+fn write_page<
+    'a,
+    R: Files + AllocGlobal,
+    L: BufRead + Drop,
+    M: BufRead + Drop,
+    W: Write,
+    E: ProgressWriter,
+>(
     rt: &R,
     way: Way<'a>,
     viewed: Viewed<'a, R::File, L, M>,

@@ -25,8 +25,7 @@ impl fmt::Display for RunProgress {
         write!(
             f,
             " ms: events {} deliveries {}",
-            self.events,
-            self.deliveries
+            self.events, self.deliveries
         )
     }
 }

@@ -124,7 +124,13 @@ pub(crate) fn run_into<'a, M: BufRead + Drop, F: Write + Drop, W: Write, E: Prog
 }
 
 /// Runs a scenario, prints these lines and writes these files, as `run_into` does.
-fn run_printed<'a, L: EventSink + RunLines + Drop, M: BufRead + Drop, F: Write + Drop, E: ProgressWriter>(
+fn run_printed<
+    'a,
+    L: EventSink + RunLines + Drop,
+    M: BufRead + Drop,
+    F: Write + Drop,
+    E: ProgressWriter,
+>(
     alloc: Global,
     course: &mut Course<'_, 'a, M>,
     lines: L,

@@ -30,12 +30,7 @@ pub(crate) trait TableEvent: Sized + Drop {
     ghost Fits: { Self → Type 0 };
 
     /// Reads the event of this number from its table, for a scenario with this number of stations.
-    fn read(
-        alloc: Global,
-        table: &Table,
-        number: usize,
-        stations: usize,
-    ) -> Result<Self, KeyFault>
+    fn read(alloc: Global, table: &Table, number: usize, stations: usize) -> Result<Self, KeyFault>
         ensures says { IfOk result (Says (table_values (table_view table.now))) }
         ensures ranges { IfOk result Fits };
 }
