@@ -77,20 +77,6 @@ reached_later grows r configs n past from from' end end' a h later_from later_en
       past_before = up_to_later from from' past later_from h.past_before;
     }
 
--- with no station made, the rules are as they were
-pub rules_alone : (r : Rules) → rules_beside [] r.until r ≡ r
-rules_alone r =
-    ap (λ (l : List Bool). record {
-      range = r.range;
-      delay = r.delay;
-      loss = r.loss;
-      beacons = r.beacons;
-      seed = r.seed;
-      until = r.until;
-      every = r.every;
-      present = l;
-    }) (append-nil r.present)
-
 -- nothing more waits up to the last moment: the run is over, and this was done
 pub reached_over : (grows : Bool) (r : Rules) (configs : List Config) (n : ℕ) (past : List Filed)
     (from end : ℕ) (a : AirModel) → IsReached grows r configs n past from end a

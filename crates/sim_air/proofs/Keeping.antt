@@ -23,7 +23,6 @@ use Rattle.its_station.specs.State.{StationState, RepresentsStation}
 use Rattle.its_world.specs.State.{RepresentStations}
 use Rattle.its_world.proofs.Worlds.{get_station}
 use Rattle.sim_queue.specs.declared.queue.Queue.{Queue}
-use Rattle.sim_queue.specs.Files.{SameFile}
 use Rattle.sim_settings.specs.declared.air.Air.{Air}
 use Rattle.sim_air.specs.AirTimed.{rules_of}
 use Rattle.sim_queue.specs.Keeps.{Keeps}
@@ -231,12 +230,3 @@ timed_on rules configs a old new Took world present queue draws h = record {
   keeps = subst (λ (q : Queue). Keeps q new.draws a.timetable) (sym queue)
       (subst (λ (d : Draws). Keeps old.queue d a.timetable) (sym draws) h.keeps);
 }
-
--- the same file over two calls
-pub same_file : (a b c : Queue) → SameFile a b → SameFile b c → SameFile a c
-same_file a b c first second =
-    record {
-      due = second.due ∙ first.due;
-      taken = second.taken ∙ first.taken;
-      until = second.until ∙ first.until;
-    }

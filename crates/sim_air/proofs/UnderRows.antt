@@ -120,23 +120,7 @@ under_moving rules configs made made' past past' last from begin clock old new A
       ahead = λ r is. h.ahead r (sym row ∙ is);
     }
 
--- what comes at a moment is done, and nothing else changed
-pub under_does : (moment : ℕ) (came : List Filed) (old new : MovingRun)
-    (A B : List Event → List Entry → Type 0) → new.row ≡ old.row
-    → new.departures ≡ old.departures → new.events ≡ old.events → new.taken ≡ old.taken
-    → end_in new ≡ end_in old → new.count.before ≡ old.count.before
-    → new.count.delivered_by ≡ old.count.delivered_by → DoesAt true moment came old.run A new.run B
-    → StaysAt moment came old A new B
-under_does moment came old new A B row departures events taken end counted by does =
-    λ rules configs made past begin clock within h.
-    under_moving rules configs made made past (past ++ came) moment moment begin clock old new A B
-    row
-    (subst (λ (d : Departures). All (λ (x : Departure). moment ≤ x.moment) (heap_items d.waiting))
-    (sym departures) h.comings.departures) events taken end counted by
-    (does rules configs made past (end_in old) old.count.before old.count.delivered_by within
-    h.moving) h
-
--- and where other stations may leave, none before that
+-- what comes at a moment is done, and other stations may leave, none before that
 pub under_leaves : (moment : ℕ) (came : List Filed) (old new : MovingRun)
     (A B : List Event → List Entry → Type 0) → new.row ≡ old.row
     → ((from : ℕ) → All (λ d. from ≤ d.moment) (heap_items old.departures.waiting)
