@@ -76,12 +76,12 @@ same_addresses n w long le =
     let size = length-take-le n w le in
     let at : 6 + (n - 6) ≡ n = omega (arith, long) in (
       sym (take-first_six (take n w) (omega (arith, size, long)))
-      ∙ take-take 6 n w (omega (arith, long)) ∙ take-first_six w (omega (arith, long, le)),
+          ∙ take-take 6 n w (omega (arith, long)) ∙ take-first_six w (omega (arith, long, le)),
       sym (take-next_six (take n w) (omega (arith, size, long)))
-      ∙ ap (λ k. take 6 (drop 6 (take k w))) (sym at)
-      ∙ ap (take 6) (drop-take 6 (n - 6) w)
-      ∙ take-take 6 (n - 6) (drop 6 w) (omega (arith, long))
-      ∙ take-next_six w (omega (arith, long, le)),
+          ∙ ap (λ k. take 6 (drop 6 (take k w))) (sym at)
+          ∙ ap (take 6) (drop-take 6 (n - 6) w)
+          ∙ take-take 6 (n - 6) (drop 6 w) (omega (arith, long))
+          ∙ take-next_six w (omega (arith, long, le)),
     )
 
 -- octets of this type that go on with the encoding of a packet: the frame that they begin with
