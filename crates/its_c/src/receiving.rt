@@ -32,8 +32,8 @@ use crate::told::told_outcome;
 use its_governor::Governor;
 use its_headers::InnerPacketView;
 use its_linkframe::{
-    FrameFault, FrameView, LONGEST_FRAME, LONGEST_SECURED_FRAME, Unpadded, VerifiedFrame, frame_length,
-    read_unpadded,
+    FrameFault, FrameView, LONGEST_FRAME, LONGEST_SECURED_FRAME, Unpadded, VerifiedFrame,
+    frame_length, read_unpadded,
 };
 use its_loctable::SortedTable;
 use its_station::{Outcome, Refused, Station};
