@@ -1,6 +1,6 @@
 -- Frames at the beginning of octets.
 use Rattle.std.proofs.Common.{◌≡◌, ℕ, ◌+◌, ◌-◌, ◌≤◌, List, ◌++◌, length, take, drop, get_or}
-use Rattle.std.proofs.Common.{refl, sym, ap, inl, inr, rules, take-take}
+use Rattle.std.proofs.Common.{refl, sym, ap, inl, inr, rules, take-take, length-take}
 use Rattle.std.proofs.Common.{◌∙◌, subst, arith, length-take-le, length-drop, take-append-drop}
 use Rattle.std.specs.Prelude.{All}
 use Rattle.std.proofs.lemmas.Bool.{cases_lt}
@@ -11,32 +11,11 @@ use Rattle.its_headers.specs.Encoding.{IsBytes, Encodes}
 use Rattle.its_headers.specs.Seen.{Seen}
 use Rattle.its_headers.proofs.Numbers.{IsBytes-take}
 use Rattle.its_linkframe.specs.Frames.{EncodesFrame, sent_from_to}
-use Rattle.its_linkframe.specs.Padding.{IsFrameEnd, IsPadded, IsUnpadded}
-use Rattle.its_linkframe.proofs.Fronts.{frame_bounds, EncodesFrame-parts, big_bytes-first_six}
-use Rattle.its_linkframe.proofs.Fronts.{big_bytes-next_six, ether_octets, first_six, next_six}
+use Rattle.its_linkframe.specs.Padding.{IsFrameEnd, IsUnpadded}
+use Rattle.its_linkframe.proofs.Fronts.{frame_bounds, EncodesFrame-parts}
+use Rattle.its_linkframe.proofs.Fronts.{ether_octets, first_six, next_six}
 use Rattle.its_linkframe.proofs.Fronts.{source_of_frame, target_of_frame, take-first_six}
 use Rattle.its_linkframe.proofs.Fronts.{take-next_six}
-
--- octets of this type that go on with the encoding of a packet are a frame up to its end
-pub end_of_packet : (w : List ℕ) (s : Seen) (k : ℕ) → 14 ≤ length w → IsBytes w
-    → get_or w 12 0 ≡ 137 → get_or w 13 0 ≡ 71 → k ≤ length (drop 14 w)
-    → Encodes s.pdu s.left (take k (drop 14 w)) → IsFrameEnd w (14 + k)
-end_of_packet w s k long fits e12 e13 le enc =
-    let whole : 14 + k ≤ length w = omega (arith, le, long, length-drop 14 w) in
-    let size = length-take-le (14 + k) w whole in
-    let front = take (14 + k) w in
-    let bytes : IsBytes front = IsBytes-take (14 + k) w fits in
-    let deep : 14 ≤ length front = omega (arith, size) in (
-      whole,
-      record {
-        transmission = _;
-        encodes = EncodesFrame-parts front s _ _ deep bytes
-            (get_or-take (14 + k) w 12 0 (omega arith) ∙ e12)
-            (get_or-take (14 + k) w 13 0 (omega arith) ∙ e13)
-            (subst (Encodes s.pdu s.left) (sym (drop-take 14 k w)) enc)
-            refl (big_bytes-first_six front deep bytes) refl (big_bytes-next_six front deep bytes);
-      },
-    )
 
 -- a frame of n octets has its packet behind 14 of them
 pub frame_long : (w : List ℕ) (n : ℕ) (t : Transmission) → n ≤ length w
@@ -139,3 +118,22 @@ unpadded_frame w t enc =
         sym whole,
       )
     ]
+
+-- a frame at the beginning of a beginning is one at the beginning of all octets
+pub front_of_front : (w : List ℕ) (m n : ℕ) (t : Transmission) → n ≤ length (take m w)
+    → EncodesFrame t (take n (take m w)) → IsFrameEnd w n
+front_of_front w m n t le enc =
+    let size = length-take m w in (
+      omega (arith, le, size),
+      record {
+        transmission = t;
+        encodes = subst (EncodesFrame t) (take-take n m w (omega (arith, le, size))) enc;
+      },
+    )
+
+-- a frame is no longer than the longest one
+pub short_front : (w : List ℕ) (n : ℕ) (t : Transmission) → n ≤ length w
+    → EncodesFrame t (take n w) → n ≤ 1468
+short_front w n t le enc =
+    let bounds = frame_bounds t (take n w) enc in
+    omega (arith, bounds.1, length-take-le n w le)

@@ -2,7 +2,6 @@
 -- next header is a secured packet, and a message, which a security entity reads.
 use Rattle.std.specs.Prelude.{◌≡◌, ◌≢◌, ℕ, ◌^◌, ◌<◌, ◌≤◌, ◌+◌, ◌⊎◌, List, [], ◌∷◌, ◌++◌, length, drop, Err}
 use Rattle.its_model.specs.Packet.{Transmission}
-use Rattle.its_faults.specs.declared.packet.Fault.{Fault}
 use Rattle.its_faults.specs.declared.secured.SecuredFault.{SecuredFault}
 use Rattle.its_faults.specs.declared.secured.SecuredFault.TheVariants as faults
 use Rattle.its_headers.specs.Encoding.{Encodes}

@@ -7,10 +7,9 @@ ghost use Rattle.its_linkframe.specs.Frames.{EncodesFrame, transmission_of};
 ghost use Rattle.its_linkframe.specs.FrameFaults.{IsFrameFault};
 ghost use Rattle.its_linkframe.specs.Padding.{IsFrameEnd, IsUnpadded};
 
-use crate::fields::{ETHER_TYPE, PACKET};
-use crate::frame::{FrameView, TYPE_HIGH, TYPE_LOW, read_beginning};
+use crate::frame::{FrameView, read_beginning};
+use crate::record::LONGEST_FRAME;
 use its_faults::FrameFault;
-use its_headers::PacketView;
 
 /// The most octets of a frame that Ethernet fills up.
 const SHORTEST: usize = 60;
@@ -26,8 +25,7 @@ pub struct Unpadded<'a> {
     pub frame: Result<FrameView<'a>, FrameFault>,
 }
 
-/// Reads octets that came over Ethernet: as `read_frame` reads what `without_padding` leaves of them,
-/// in one reading.
+/// Reads octets that came over Ethernet, once: the frame in them, without the zeros that fill it up.
 pub fn read_unpadded(octets: &[u8]) -> Unpadded<'_>
     ensures octets { IsUnpadded octets.now result.octets.now }
     ensures found { IfOk result.frame (λ v.
@@ -63,37 +61,27 @@ pub fn read_unpadded(octets: &[u8]) -> Unpadded<'_>
     }
 }
 
-/// The frame in octets that came over Ethernet, which fills a short frame up with octets of 0. So
-/// of at most 60 octets that begin with a frame, and are 0 behind it, these are left out; any
-/// others stay as they are.
+/// Octets that came over Ethernet, without the zeros that fill a frame of at most 60 octets up, as
+/// `read_unpadded` returns them. All of them, if they are no such frame.
 pub fn without_padding(octets: &[u8]) -> &[u8]
     ensures { IsUnpadded octets.now result.now }
 {
     if octets.len() > SHORTEST {
         return octets;
     }
-    let end = frame_length(octets);
-    if end == 0 || !are_zero(&octets[end..]) {
-        return octets;
-    }
-    &octets[..end]
+    let Unpadded { octets, .. } = read_unpadded(octets);
+    octets
 }
 
-/// How many of the octets are a frame: its length where a beginning of them is a frame (there is
-/// one at most), else 0. What follows it isn't checked.
+/// The length of the frame that the octets begin with (there is one at most), and otherwise 0. What
+/// follows it isn't checked.
 pub fn frame_length(octets: &[u8]) -> usize
     ensures found { result ≢ 0 → IsFrameEnd octets.now result }
     ensures only { (n : ℕ) → IsFrameEnd octets.now n → result ≡ n }
     ensures within { result ≤ length octets.now }
 {
-    if octets.len() < PACKET {
-        return 0;
-    }
-    if octets[ETHER_TYPE] != TYPE_HIGH || octets[ETHER_TYPE + 1] != TYPE_LOW {
-        return 0;
-    }
-    match PacketView::read(&octets[PACKET..]) {
-        Ok((_, length)) => PACKET + length,
+    match read_beginning(&octets[..octets.len().min(LONGEST_FRAME)]) {
+        Ok((_, length)) => length,
         Err(_) => 0,
     }
 }

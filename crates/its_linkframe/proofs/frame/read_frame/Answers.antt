@@ -1,4 +1,4 @@
-use Rattle.std.proofs.Common.{arith, length, subst, sym, take_all}
+use Rattle.std.proofs.Common.{arith, length, subst, take_all}
 use Rattle.its_linkframe.specs.Frames.{EncodesFrame}
 use Rattle.its_linkframe.proofs.Paddings.{whole_frame}
 use Rattle.its_linkframe.proofs.frame.read_frame.Goals as goal

@@ -1,4 +1,4 @@
-use Rattle.std.proofs.Common.{◌≡◌, ◌++◌, ◌∙◌, List, ℕ, [], ap, sym, subst, arith, append-nil, inr, take}
+use Rattle.std.proofs.Common.{◌≡◌, ◌∙◌, [], ap, sym, subst, arith, append-nil, inr, take}
 use Rattle.its_headers.specs.Encoding.{Encodes}
 use Rattle.its_headers.specs.Inner.{Basic, inner_octets}
 use Rattle.its_linkframe.specs.Secured.{Secured, sealed, basic_on_air}
