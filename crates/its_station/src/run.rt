@@ -289,8 +289,9 @@ impl Reply {
             Err(refused) => refusal(refused),
         }
     }
-    /// The reply to a frame that was received. A payload that is delivered takes `room`, an empty vector
-    /// in which it fits. `NoMemory` if an allocation failed.
+
+    /// The reply to a frame that was received. A payload that is delivered takes `room`, an empty
+    /// vector in which it fits. `NoMemory` if an allocation failed.
     pub fn of_received(
         alloc: Global,
         answer: Result<Outcome<'_>, Refused>,
@@ -312,8 +313,8 @@ impl Reply {
     }
 }
 
-/// Empties a room, and makes it large enough for what can be delivered of a frame, which is a part of
-/// it: so there is room before the frame is received.
+/// Empties a room and makes it as large as a frame. What is delivered is a part of the frame, so it
+/// fits before the frame is received.
 fn make_room(room: &mut Vec<u8>, frame: &[u8]) -> Result<(), NoMemory>
     ensures empty { room.new.items ≡ [] }
     ensures size { vec_len room.new ≡ 0 }

@@ -225,10 +225,10 @@ impl World {
         // Laws, for the proof alone.
         one_frame();
         one_frame_fault();
-        let known = what_is_known(&event.what, self.checked);
+        let check = check_of(&event.what, self.checked);
         let station = &mut self.stations[event.station];
         let room = &mut self.room;
-        let reply = ask(station, room, event.moment, &event.what, frame, known)?;
+        let reply = ask(station, room, event.moment, &event.what, frame, check)?;
         let done = event.what.done_entry();
         let outcome = CallOutcome::of_reply(done, reply, self.air.count());
         self.air.number(outcome.frame);
@@ -352,39 +352,39 @@ fn delivered<'a>(air: &'a Air, what: &What) -> Option<&'a [u8]>
     }
 }
 
-/// What is known of the octets that a station receives.
+/// Whether the octets that a station receives were checked.
 #[derive(Clone, Copy, Debug)]
-enum Known {
-    /// They have no fault: they were read before.
-    Faultless,
-    /// Nothing: they are read when they are received.
-    Nothing,
+enum FrameCheck {
+    /// `read_frame` found no fault in them.
+    Done,
+    /// They are checked when they are received.
+    Due,
 }
 
-/// What is known of the octets that an event delivers. The frame of number `checked`, if there is one,
-/// has no fault.
-fn what_is_known(what: &What, checked: Option<usize>) -> Known
-    ensures { result ≡ Known.Faultless → (number : ℕ) × (what_of what.now ≡ Deliver number)
+/// Whether the octets that an event delivers were checked. `checked` is the number of the frame that
+/// was, if there is one.
+fn check_of(what: &What, checked: Option<usize>) -> FrameCheck
+    ensures { result ≡ FrameCheck.Done → (number : ℕ) × (what_of what.now ≡ Deliver number)
         × (checked ≡ Some number) }
 {
     match what {
-        What::Deliver(number) if checked == Some(*number) => Known::Faultless,
-        _ => Known::Nothing,
+        What::Deliver(number) if checked == Some(*number) => FrameCheck::Done,
+        _ => FrameCheck::Due,
     }
 }
 
 /// What a station replies to a call or, where it is a delivery, to this frame. A payload that is
-/// delivered takes the room. Octets that are known to have no fault are not checked again.
+/// delivered takes the room. Octets that were checked are not checked again.
 fn ask(
     station: &mut Station<SortedTable>,
     room: &mut Vec<u8>,
     moment: u64,
     what: &What,
     frame: &[u8],
-    known: Known,
+    check: FrameCheck,
 ) -> Result<Reply, NoMemory>
     requires range { IsInRange what.now }
-    requires known { known ≡ Known.Faultless → IsFrame frame.now }
+    requires check { check ≡ FrameCheck.Done → IsFrame frame.now }
     ensures step { IfOk result (λ reply. (call : Call) × IsAskedBy (what_of what.now) frame.now call
         × ((s : StationModel) → RepresentsStation station.old s →
         IsReplyTo reply station.new (station_step s moment call)
@@ -409,9 +409,9 @@ fn ask(
             Reply::of_send(station.send_geobroadcast(moment, &r.lend()))
         }
         What::SendGeoanycast(r) => Reply::of_send(station.send_geoanycast(moment, &r.lend())),
-        What::Deliver(_) => match known {
-            Known::Faultless => station.receive_checked_in(moment, frame, room),
-            Known::Nothing => station.receive_in(moment, frame, room),
+        What::Deliver(_) => match check {
+            FrameCheck::Done => station.receive_checked_in(moment, frame, room),
+            FrameCheck::Due => station.receive_in(moment, frame, room),
         },
     }
 }

@@ -133,8 +133,8 @@ returns-in-SendGeoanycast-clause-step c =
     (λ s rep. never_done c.of_send-in-SendGeoanycast.result this (station_step s c.args.moment call).answer
     c.of_send-in-SendGeoanycast.ensures.answered)
 
-pub returns-in-Faultless-clause-step : goal.returns-in-Faultless-clause-step
-returns-in-Faultless-clause-step c =
+pub returns-in-Done-clause-step : goal.returns-in-Done-clause-step
+returns-in-Done-clause-step c =
     let frame = c.args.frame.now in
     frame_reply c.receive_checked_in.result (IsFrameCall frame)
     (IsAskedBy (what_of c.args.what.now) frame) c.args.station.now c.receive_checked_in.new.self
@@ -142,8 +142,8 @@ returns-in-Faultless-clause-step c =
     (λ call is. subst (λ (k : What). IsAskedBy (what_of k) frame call) (sym c.in-Deliver.is) is)
     c.receive_checked_in.ensures.step c.receive_checked_in.ensures.answered
 
-pub returns-in-Nothing-clause-step : goal.returns-in-Nothing-clause-step
-returns-in-Nothing-clause-step c =
+pub returns-in-Due-clause-step : goal.returns-in-Due-clause-step
+returns-in-Due-clause-step c =
     let frame = c.args.frame.now in
     frame_reply c.receive_in.result (IsFrameCall frame)
     (IsAskedBy (what_of c.args.what.now) frame) c.args.station.now c.receive_in.new.self
