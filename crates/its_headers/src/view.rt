@@ -103,6 +103,7 @@ impl<'a> PacketView<'a> {
     }
 
     /// The kind of the packet.
+    #[inline(always)]
     pub fn kind(&self) -> Kind
         ensures { result ≡ kind_of_body self.now.pdu.body }
     {
@@ -110,6 +111,7 @@ impl<'a> PacketView<'a> {
     }
 
     /// The hops that are left (RHL, from 1), and how many there were at most (MHL).
+    #[inline(always)]
     pub fn hops(&self) -> Hops
         ensures { result ≡ record { left = self.now.left; max = self.now.pdu.max_hops } }
     {
@@ -138,6 +140,7 @@ impl<'a> PacketView<'a> {
     }
 
     /// The source's address, place and movement: the long position vector.
+    #[inline(always)]
     pub fn vector(&self) -> LongPv
         ensures { result ≡ self.now.pdu.vector }
     {
@@ -145,6 +148,7 @@ impl<'a> PacketView<'a> {
     }
 
     // Where the vector begins.
+    #[inline(always)]
     fn vector_at(&self) -> usize
         ensures value { result ≡ vector_place self.now.pdu.body }
         ensures range { (4 ≤ result) × (result ≤ 16) }
@@ -166,6 +170,7 @@ impl<'a> PacketView<'a> {
     }
 
     /// The sequence number of a geobroadcast or geoanycast; the other kinds have none.
+    #[inline(always)]
     pub fn number(&self) -> Option<u16>
         ensures { result ≡ number_in self.now.pdu.body }
     {
@@ -176,6 +181,7 @@ impl<'a> PacketView<'a> {
     }
 
     /// The area of a geobroadcast or geoanycast; the other kinds have none.
+    #[inline(always)]
     pub fn area(&self) -> Option<Area>
         ensures { result ≡ area_in self.now.pdu.body }
     {
@@ -194,6 +200,7 @@ impl<'a> PacketView<'a> {
 
     /// The payload, which lies in the octets that were read: a BTP-B header and what is sent to the
     /// port. A beacon has none.
+    #[inline(always)]
     pub fn payload(&self) -> &'a [u8]
         ensures octets { result.now ≡ payload_of self.now.pdu.body }
         ensures message { SaysMessage self.now.pdu.body result.now }

@@ -95,6 +95,7 @@ impl<'a> FrameView<'a> {
 }
 
 /// The link address that begins at this octet.
+#[inline(always)]
 pub(crate) fn mac_at(octets: &[u8], at: usize) -> Mac
     requires { at + 6 ≤ length octets.now }
     ensures number { result ≡ big_number 6 (take 6 (drop at octets.now)) }

@@ -113,6 +113,7 @@ pub(crate) fn take_own<S: EventSink>(
 
 /// Does one of the air's own, where its station is there, and the frame that it delivers, if it
 /// does, is kept. Both always are so.
+#[inline(always)]
 fn do_own<S: EventSink>(
     run: &mut Run<'_>,
     waiting: &Scheduled,
@@ -143,6 +144,7 @@ fn do_own<S: EventSink>(
 
 /// Whether the station is there of one of the air's own, and the frame is kept that it delivers, if
 /// it does.
+#[inline(always)]
 fn can_do(run: &Run<'_>, waiting: &Scheduled) -> bool
     ensures there { IsTrue result → waiting.now.station < length run.now.world.stations }
     ensures kept { IsTrue result → IsKept run.now.world.released (own_of waiting.now.own) }

@@ -30,6 +30,7 @@ impl Draws {
     }
 
     /// Whether a delivery is lost where so many of a hundred are: one draw.
+    #[inline(always)]
     pub fn is_lost(&mut self, loss: u8) -> bool
         ensures lost { IsTrue result ↔ ((next_u64 (draws_at self.old)).0 % 100 < loss) }
         ensures rest { draws_at self.new ≡ (next_u64 (draws_at self.old)).1 }

@@ -88,6 +88,7 @@ impl OwnEvents {
     }
 
     /// Puts a delivery: in line where it comes behind all that stand there, else on the heap.
+    #[inline(always)]
     pub fn push_delivery(&mut self, delivery: Delivery) -> Result<(), QueueFault>
         ensures put { OnOk result (IsPermutation (delivery_of delivery ∷ self.old) self.new) }
         ensures unchanged { OnErr result (self.new ≡ self.old) }
@@ -132,6 +133,7 @@ impl OwnEvents {
     }
 
     /// Takes the first, if its moment lies before this one.
+    #[inline(always)]
     pub fn pop_before(&mut self, moment: u64) -> Option<Scheduled>
         ensures before { IfSome result (λ event. event.moment < moment) }
         ensures first { IfSome result (λ event. IsUpperBound waiting_cmp event self.new) }
@@ -184,6 +186,7 @@ impl OwnEvents {
 }
 
 /// Whether a delivery comes behind all that stand in line.
+#[inline(always)]
 fn is_behind(line: &VecDeque<Delivery>, delivery: &Delivery) -> bool
     requires { StandInLine (in_line line.now.items) }
     ensures { IsTrue result → IsBehind (delivery_of delivery.now) (in_line line.now.items) }
@@ -195,6 +198,7 @@ fn is_behind(line: &VecDeque<Delivery>, delivery: &Delivery) -> bool
 }
 
 /// Whether the first of all that wait stands in line, and not on the heap.
+#[inline(always)]
 fn is_line_first(heap: &BinaryHeap<Scheduled>, line: &VecDeque<Delivery>) -> bool
     requires heap { IsHeap waiting_cmp (heap_items heap.now) }
     requires line { StandInLine (in_line line.now.items) }
@@ -211,6 +215,7 @@ fn is_line_first(heap: &BinaryHeap<Scheduled>, line: &VecDeque<Delivery>) -> boo
 }
 
 /// Takes the first in line, if its moment lies before this one.
+#[inline(always)]
 fn pop_line(line: &mut VecDeque<Delivery>, moment: u64) -> Option<Delivery>
     ensures taken { IfSome result (λ first. line.old.items ≡ first ∷ line.new.items) }
     ensures before { IfSome result (λ first. first.moment < moment) }

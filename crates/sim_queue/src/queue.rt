@@ -104,6 +104,7 @@ impl<'a> Queue<'a> {
     }
 
     /// Puts the delivery of a frame to a station, at a moment in milliseconds. Fails as `push` does.
+    #[inline(always)]
     pub fn push_delivery(
         &mut self,
         moment: u64,
@@ -217,6 +218,7 @@ impl<'a> Queue<'a> {
     }
 
     /// Takes the first of the air's own, if its moment lies before this one.
+    #[inline(always)]
     pub fn pop_before(&mut self, moment: u64) -> Option<Scheduled>
         ensures due { self.new.due ≡ self.old.due }
         ensures taken { self.new.taken ≡ self.old.taken }

@@ -215,7 +215,7 @@ impl FailedEvents {
 
     /// Takes an event that was done: it counts if it is a send of the scenario and was refused.
     /// `NoMemory` if an allocation failed.
-    #[inline]
+    #[inline(always)]
     pub fn take(&mut self, done: &EventRecord<'_>) -> Result<(), NoMemory>
         ensures done { was_done done.now.entry.now ≡ true → self.new.count ≡ self.old.count }
     {

@@ -52,7 +52,7 @@ impl FullTables {
 
     /// Takes an event that was done in a run of the scenario, and counts it where it is a reception
     /// that met a full location table.
-    #[inline]
+    #[inline(always)]
     pub fn take(&mut self, scenario: &Scenario, done: &EventRecord<'_>)
         ensures { self.new.receptions ≡ (if met_full_table done.now.entry.now
             then one_more self.old.receptions else self.old.receptions) }

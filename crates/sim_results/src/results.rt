@@ -160,6 +160,7 @@ fn begin_load<'a, W: Write + Drop>(
 }
 
 /// The file, where there is one, takes an event that was done.
+#[inline(always)]
 fn take_in<'a, R: Rows + Drop, W: Write + Drop>(
     file: &mut Option<ResultFile<'a, R, W>>,
     world: &World,

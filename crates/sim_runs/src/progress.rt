@@ -32,7 +32,7 @@ impl Progress {
 
     /// Counts an event that was done. Shows how far the run is after the first event, and then after
     /// each 65536.
-    #[inline]
+    #[inline(always)]
     pub(crate) fn note<E: ProgressWriter>(&mut self, done: &EventRecord<'_>, err: &mut E) {
         if !self.is_shown {
             return;

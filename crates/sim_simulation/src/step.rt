@@ -18,6 +18,7 @@ use its_world::{Entry, Event, World};
 /// delivered must not have been let go.
 ///
 /// `OutOfMemory` where an allocation failed; else the sink failed.
+#[inline(always)]
 pub fn do_event<S: EventSink>(
     world: &mut World,
     number: usize,

@@ -134,6 +134,7 @@ fn truncated<O: Octets>(octets: &O) -> Fault
 }
 
 /// The number of two octets at a place, which is there.
+#[inline(always)]
 pub(crate) fn u16_in<O: Octets>(octets: &O, at: usize) -> u16
     requires start { O.start octets.now ≤ at }
     requires here { at + 2 ≤ length (O.octets octets.now) }
@@ -143,6 +144,7 @@ pub(crate) fn u16_in<O: Octets>(octets: &O, at: usize) -> u16
 }
 
 /// The number of four octets at a place, which is there.
+#[inline(always)]
 pub(crate) fn u32_in<O: Octets>(octets: &O, at: usize) -> u32
     requires start { O.start octets.now ≤ at }
     requires here { at + 4 ≤ length (O.octets octets.now) }
@@ -152,6 +154,7 @@ pub(crate) fn u32_in<O: Octets>(octets: &O, at: usize) -> u32
 }
 
 /// The number of eight octets at a place, which is there.
+#[inline(always)]
 pub(crate) fn u64_in<O: Octets>(octets: &O, at: usize) -> u64
     requires start { O.start octets.now ≤ at }
     requires here { at + 8 ≤ length (O.octets octets.now) }

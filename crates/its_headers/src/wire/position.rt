@@ -66,6 +66,7 @@ pub(crate) fn is_longitude(z: i32) -> bool
 }
 
 /// The vector that begins at this octet, which was checked.
+#[inline(always)]
 pub(crate) fn vector_in<O: Octets>(octets: &O, at: usize) -> LongPv
     requires small { at ≤ 16 }
     requires start { O.start octets.now ≤ at }
@@ -83,6 +84,7 @@ pub(crate) fn vector_in<O: Octets>(octets: &O, at: usize) -> LongPv
 }
 
 /// The vector of these fields, of which `motion` is accuracy and speed.
+#[inline(always)]
 fn vector_of(address: GnAddress, tst: u32, place: Place, motion: u16, heading: u16) -> LongPv
     ensures { result ≡ record {
       address = address;

@@ -62,6 +62,7 @@ impl SortedSlot {
 
     /// Puts the number of a packet, if it has one, before the source's others. Where the row is
     /// full, the oldest goes.
+    #[inline(always)]
     fn note(&mut self, numbers: &mut Vec<u16>, remembered: u8, number: Option<u16>)
         requires some { 1 ≤ remembered }
         requires row { HasRow remembered (vec_len numbers.old) self.old }
@@ -83,6 +84,7 @@ impl SortedSlot {
     }
 
     /// One more packet of a live source.
+    #[inline(always)]
     fn hear(&mut self, numbers: &mut Vec<u16>, remembered: u8, now: u64, heard: &Heard)
         requires moment { now ≤ 2 ^ 62 }
         requires some { 1 ≤ remembered }
@@ -108,6 +110,7 @@ impl SortedSlot {
 
     /// One more packet of the source, whether it is live or not. Where it isn't, nothing of what
     /// was known remains.
+    #[inline(always)]
     pub fn renew(&mut self, numbers: &mut Vec<u16>, remembered: u8, now: u64, heard: &Heard)
         requires moment { now ≤ 2 ^ 62 }
         requires some { 1 ≤ remembered }
@@ -150,6 +153,7 @@ impl SortedSlot {
     }
 
     /// Whether a number is kept of the source.
+    #[inline(always)]
     pub fn remembers(&self, numbers: &Vec<u16>, remembered: u8, number: u16) -> bool
         requires { HasRow remembered (vec_len numbers.now) self.now }
         ensures { result
@@ -163,6 +167,7 @@ impl SortedSlot {
     }
 
     /// Whether the source is live, and a packet's number is kept of it.
+    #[inline(always)]
     pub fn repeats(&self, numbers: &Vec<u16>, remembered: u8, now: u64, heard: &Heard) -> bool
         requires { HasRow remembered (vec_len numbers.now) self.now }
         ensures { result

@@ -253,6 +253,7 @@ impl Tally {
     }
 
     /// Counts a frame that was accepted, whether or not it was delivered and relayed.
+    #[inline(always)]
     fn count_accepted(
         &mut self,
         done: &EventRecord<'_>,
@@ -279,6 +280,7 @@ impl Tally {
     }
 
     /// What the frame carries that an action delivers. Where it was let go, that is noted.
+    #[inline(always)]
     fn carried_by(&mut self, action: &What) -> Option<CarriedPacket>
         ensures others { self.new ≡ record self.old { late = self.new.late } }
         ensures late { self.new.late ≡ false → self.old.late ≡ false }
@@ -303,6 +305,7 @@ impl Tally {
     }
 
     /// Counts a delivery to a port of a frame that carries this, if it was delivered.
+    #[inline(always)]
     fn count_handed(
         &mut self,
         done: &EventRecord<'_>,
@@ -352,6 +355,7 @@ impl Tally {
     }
 
     /// Counts a relay of a frame that carries this, if it was relayed.
+    #[inline(always)]
     fn count_relay(&mut self, carried: Option<CarriedPacket>, relayed: bool) -> Result<(), NoMemory>
         ensures totals { OnOk result (self.new.totals ≡ with_frame relayed self.old.totals) }
         ensures sends { length self.new.sends.items ≡ length self.old.sends.items }
@@ -413,6 +417,7 @@ impl EventSink for Tally {
 }
 
 /// One more.
+#[inline(always)]
 fn count_one(count: &mut usize)
     ensures { count.new ≡ capped (count.old + 1) }
 {
