@@ -86,6 +86,6 @@ pub use outcome::{Handed, Outcome, Why};
 pub use received::ReceivedFrame;
 pub use refused::{Refused, RefusedCode};
 pub use requests::{GbcRequest, OwnedGbcRequest, OwnedShbRequest, ShbRequest};
-pub use run::{Call, Delivery, Ran, Reply};
+pub use run::{Call, Delivery, Ran, Reply, make_room};
 pub use sending::{AreaCast, MAX_PAYLOAD};
 pub use station::{LAST_MOMENT, Station};

@@ -73,6 +73,7 @@ impl<S: LocationStore> Station<S> {
 
     /// Takes octets in which `read_frame` found no fault, as `receive` takes them, and without a second
     /// check: for a frame that many stations receive.
+    #[inline(always)]
     pub fn receive_checked<'a>(&mut self, now: u64, frame: &'a [u8]) -> Result<Outcome<'a>, Refused>
         requires { IsFrame frame.now }
         ensures step { (call : Call) × IsFrameCall frame.now call
@@ -89,6 +90,7 @@ impl<S: LocationStore> Station<S> {
     /// Takes a frame that was read, as `receive` takes its octets: for a program that reads more of
     /// it than what is delivered, as its source, its traffic class or its hops. Refused as there,
     /// but for `Frame` (S3).
+    #[inline(always)]
     pub fn receive_frame<'a>(
         &mut self,
         now: u64,
@@ -196,6 +198,7 @@ impl<S: LocationStore> Station<S> {
     }
 
     /// Takes a frame at a moment that isn't refused.
+    #[inline(always)]
     fn hear<'a, F: ReceivedFrame<'a>>(
         &mut self,
         now: u64,
@@ -216,11 +219,11 @@ impl<S: LocationStore> Station<S> {
         ensures short { IfOk result (Fits 1394) }
         ensures short_frame { IfOk result (SendsAtMost (F.most frame.now)) }
     {
-        if let Some(why) = self.reason_to_ignore(frame) {
+        let heard = heard_of(frame);
+        if let Some(why) = self.reason_to_ignore(frame, &heard) {
             self.set_clock(now);
             return Ok(Outcome::Ignored(why));
         }
-        let heard = heard_of(frame);
         match self.find(now, &heard) {
             Found::Duplicate => {
                 self.set_clock(now);
@@ -232,6 +235,7 @@ impl<S: LocationStore> Station<S> {
     }
 
     /// What the location table finds of a packet's source: the one look-up of a reception.
+    #[inline(always)]
     fn find(&self, now: u64, heard: &Heard) -> Found
         requires from { self.now.clock ≤ now }
         requires to { now ≤ 2 ^ 62 }
@@ -245,24 +249,27 @@ impl<S: LocationStore> Station<S> {
     }
 
     /// Why a frame is ignored before the location table is asked, if it is.
-    fn reason_to_ignore<'a, F: ReceivedFrame<'a>>(&self, frame: &F) -> Option<Why>
+    #[inline(always)]
+    fn reason_to_ignore<'a, F: ReceivedFrame<'a>>(&self, frame: &F, heard: &Heard) -> Option<Why>
+        requires { heard.now ≡ report_of (F.frame frame.now).pdu }
         ensures { (ports : List ℕ) (history : List Reception) →
             result ≡ why_unasked (model_of self.now ports history) (F.frame frame.now) }
     {
-        let vector = frame.vector();
+        let source = heard.address();
         if frame.target() != self.mac() && frame.target() != Mac::BROADCAST {
             return Some(Why::NotForMe);
         }
-        if vector.address() == self.vector.address() {
+        if source == self.vector.address() {
             return Some(Why::OwnSource);
         }
-        if frame.number().is_none() && vector.address().mid() != frame.sender() {
+        if heard.neighbour() && source.mid() != frame.sender() {
             return Some(Why::SenderMismatch);
         }
         None
     }
 
     /// Takes in a packet that is no duplicate and for whose source there is room.
+    #[inline(always)]
     fn accept<'a, F: ReceivedFrame<'a>>(
         &mut self,
         now: u64,
@@ -296,6 +303,7 @@ impl<S: LocationStore> Station<S> {
     }
 
     /// Puts a packet into the table, at the index that `find` returned.
+    #[inline(always)]
     fn take_in(&mut self, now: u64, heard: &Heard, index: EntryIndex) -> Result<(), NoMemory>
         requires from { self.old.clock ≤ now }
         requires to { now ≤ 2 ^ 62 }
@@ -318,6 +326,7 @@ impl<S: LocationStore> Station<S> {
     }
 
     /// What is delivered of a packet, inside or outside of its area.
+    #[inline(always)]
     fn handing<'a, F: ReceivedFrame<'a>>(&self, frame: &F, inside: bool) -> Option<Handed<'a>>
         requires { inside ≡ is_inside self.now.vector.place (F.frame frame.now).pdu.body }
         ensures payload { HandsOutEndOf (payload_of (F.frame frame.now).pdu.body) result }
@@ -341,6 +350,7 @@ impl<S: LocationStore> Station<S> {
     }
 
     /// Whether the station is inside of the packet's area, if that has one.
+    #[inline(always)]
     fn is_inside<'a, F: ReceivedFrame<'a>>(&self, frame: &F) -> bool
         ensures { result ≡ is_inside self.now.vector.place (F.frame frame.now).pdu.body }
     {
@@ -351,6 +361,7 @@ impl<S: LocationStore> Station<S> {
     }
 
     /// The frame in which a packet would go on to all: the one allocation of a relay.
+    #[inline(always)]
     fn copy_for_relay<'a, F: ReceivedFrame<'a>>(
         &self,
         frame: &F,
@@ -372,6 +383,7 @@ impl<S: LocationStore> Station<S> {
     }
 
     /// Gives the frame its target, if it goes on at all.
+    #[inline(always)]
     fn direct<'a, F: ReceivedFrame<'a>>(
         &self,
         now: u64,
@@ -388,7 +400,10 @@ impl<S: LocationStore> Station<S> {
             IsRelayBy (F.Encodes frame.now) result (relayed (model_of self.now ports history) now
             (F.frame frame.now) (F.frame frame.now).pdu.body) }
     {
-        let (Some(octets), Some(area)) = (copy, frame.area()) else {
+        let Some(octets) = copy else {
+            return None;
+        };
+        let Some(area) = frame.area() else {
             return None;
         };
         match choose(
@@ -407,6 +422,7 @@ impl<S: LocationStore> Station<S> {
 
 /// Whether a packet goes on: a geobroadcast that has another hop left, and outside of its area a
 /// geoanycast.
+#[inline(always)]
 fn goes_on<'a, F: ReceivedFrame<'a>>(frame: &F, inside: bool) -> bool
     ensures { (place : Position) → inside ≡ is_inside place (F.frame frame.now).pdu.body →
         result ≡ goes_on place (F.frame frame.now).hops_left (F.frame frame.now).pdu.body }
@@ -420,6 +436,7 @@ fn goes_on<'a, F: ReceivedFrame<'a>>(frame: &F, inside: bool) -> bool
 }
 
 /// What a packet says of its source.
+#[inline(always)]
 fn heard_of<'a, F: ReceivedFrame<'a>>(frame: &F) -> Heard
     ensures { result ≡ report_of (F.frame frame.now).pdu }
 {

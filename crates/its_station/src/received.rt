@@ -89,38 +89,47 @@ impl<'a> ReceivedFrame<'a> for FrameView<'a> {
 
     ghost most = { λ _. 1468 };
 
+    #[inline(always)]
     fn target(&self) -> Mac {
         self.to
     }
 
+    #[inline(always)]
     fn sender(&self) -> Mac {
         self.from
     }
 
+    #[inline(always)]
     fn kind(&self) -> Kind {
         self.packet.kind()
     }
 
+    #[inline(always)]
     fn hops_left(&self) -> u8 {
         self.packet.hops().left()
     }
 
+    #[inline(always)]
     fn lifetime(&self) -> Lifetime {
         self.packet.lifetime()
     }
 
+    #[inline(always)]
     fn vector(&self) -> LongPv {
         self.packet.vector()
     }
 
+    #[inline(always)]
     fn number(&self) -> Option<u16> {
         self.packet.number()
     }
 
+    #[inline(always)]
     fn area(&self) -> Option<Area> {
         self.packet.area()
     }
 
+    #[inline(always)]
     fn payload(&self) -> &'a [u8] {
         self.packet.payload()
     }

@@ -224,25 +224,6 @@ impl<S: LocationStore> Station<S> {
         let alloc = self.alloc();
         Reply::of_received(alloc, self.receive(moment, frame), room)
     }
-
-    /// `receive_in` of octets in which `read_frame` found no fault, without a second check.
-    pub fn receive_checked_in(
-        &mut self,
-        moment: u64,
-        frame: &[u8],
-        room: &mut Vec<u8>,
-    ) -> Result<Reply, NoMemory>
-        requires { IsFrame frame.now }
-        ensures step { IfOk result (λ reply. (c : ModelCall) × IsFrameCall frame.now c
-            × ((s : StationModel) → RepresentsStation self.old s →
-            IsReplyTo reply self.new (station_step s moment c))) }
-        ensures answered { IfOk result (λ reply. reply ≢ Reply.Done) }
-        ensures unchanged { OnErr result (self.new ≡ self.old) }
-    {
-        make_room(room, frame)?;
-        let alloc = self.alloc();
-        Reply::of_received(alloc, self.receive_checked(moment, frame), room)
-    }
 }
 
 impl Reply {
@@ -292,6 +273,7 @@ impl Reply {
 
     /// The reply to a frame that was received. A payload that is delivered takes `room`, an empty
     /// vector in which it fits. `NoMemory` if an allocation failed.
+    #[inline(always)]
     pub fn of_received(
         alloc: Global,
         answer: Result<Outcome<'_>, Refused>,
@@ -313,9 +295,10 @@ impl Reply {
     }
 }
 
-/// Empties a room and makes it as large as a frame. What is delivered is a part of the frame, so it
-/// fits before the frame is received.
-fn make_room(room: &mut Vec<u8>, frame: &[u8]) -> Result<(), NoMemory>
+/// Empties a buffer, and gives it the size of a frame: what is delivered of that frame then fits in it.
+/// `NoMemory` if an allocation failed.
+#[inline(always)]
+pub fn make_room(room: &mut Vec<u8>, frame: &[u8]) -> Result<(), NoMemory>
     ensures empty { room.new.items ≡ [] }
     ensures size { vec_len room.new ≡ 0 }
     ensures room { OnOk result (length frame.now ≤ vec_capacity room.new) }
@@ -326,6 +309,7 @@ fn make_room(room: &mut Vec<u8>, frame: &[u8]) -> Result<(), NoMemory>
 }
 
 /// The outcome as a reply, which takes the payload into the room that was made for it.
+#[inline(always)]
 fn reply_of(alloc: Global, outcome: Outcome<'_>, room: &mut Vec<u8>) -> Reply
     requires empty { room.old.items ≡ [] }
     requires size { vec_len room.old ≡ 0 }
@@ -335,31 +319,38 @@ fn reply_of(alloc: Global, outcome: Outcome<'_>, room: &mut Vec<u8>) -> Reply
     match outcome {
         Outcome::Ignored(why) => Reply::Ignored(why),
         Outcome::Accepted { handed, sent } => Reply::Accepted {
-            handed: deliver(alloc, handed, room),
+            handed: Delivery::in_room(alloc, handed, room),
             sent,
         },
     }
 }
 
-/// What was delivered, with a payload of its own in the room that was made for it.
-fn deliver(alloc: Global, handed: Option<Handed<'_>>, room: &mut Vec<u8>) -> Option<Delivery>
-    requires empty { room.old.items ≡ [] }
-    requires size { vec_len room.old ≡ 0 }
-    requires room { HandingFits (vec_capacity room.old) handed }
-    ensures { option_map delivered result ≡ option_map said_by handed.entry }
-{
-    match handed {
-        Some(handed) => {
-            let taken = mem::replace(room, Vec::new(alloc));
-            Some(Delivery::new(handed, taken))
-        }
-        None => None,
-    }
-}
-
 impl Delivery {
-    /// The same, with a payload of its own in this room: an empty vector in which the payload has
-    /// place.
+    /// What was delivered, with a payload of its own. It is in `room`, an empty buffer that is large
+    /// enough (`make_room`), and another empty buffer takes its place. If nothing was delivered, `room`
+    /// stays.
+    #[inline(always)]
+    pub fn in_room(
+        alloc: Global,
+        handed: Option<Handed<'_>>,
+        room: &mut Vec<u8>,
+    ) -> Option<Delivery>
+        requires empty { room.old.items ≡ [] }
+        requires size { vec_len room.old ≡ 0 }
+        requires room { HandingFits (vec_capacity room.old) handed }
+        ensures { option_map delivered result ≡ option_map said_by handed.entry }
+    {
+        match handed {
+            Some(handed) => {
+                let taken = mem::replace(room, Vec::new(alloc));
+                Some(Delivery::new(handed, taken))
+            }
+            None => None,
+        }
+    }
+
+    /// What was delivered, with its payload in this buffer, which is empty and large enough.
+    #[inline(always)]
     fn new(handed: Handed<'_>, room: Vec<u8>) -> Delivery
         requires empty { room.items ≡ [] }
         requires size { vec_len room ≡ 0 }

@@ -4,3 +4,4 @@ pub mod Logs
 pub mod Giving
 pub mod Apart
 pub mod Late
+mod Done

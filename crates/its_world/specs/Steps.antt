@@ -1,14 +1,19 @@
 -- What an event asks of its station.
-use Rattle.std.specs.Prelude.{◌≡◌, ◌≢◌, ℕ, ◌<◌, ◌≤◌, List, Option, IsSome, Vec, slice_get, length}
+use Rattle.std.specs.Prelude.{◌≡◌, ◌≢◌, ℕ, ◌<◌, ◌≤◌, List, [], ◌∷◌, ◌++◌, Option, IsSome, Vec}
+use Rattle.std.specs.Prelude.{slice_get, length}
 use Rattle.std.specs.Option.{option_map}
 use Rattle.std.specs.declared.alloc.Global.{Global}
 use Rattle.its_model.specs.Calls as model
 use Rattle.its_model.specs.Calls.{Call}
-use Rattle.its_model.specs.World.{What}
+use Rattle.its_model.specs.Calls.{Answer}
+use Rattle.its_model.specs.World.{Event, What, WorldModel, entries, world_step}
 use Rattle.its_model.specs.World.What.{Calls, Deliver}
 use Rattle.its_station.specs.State.{StationState}
 use Rattle.its_station.specs.Receiving.{IsFrameCall}
 use Rattle.its_world.specs.Frames.{frame_in}
+use Rattle.its_world.specs.State.{RepresentsWorld, WorldState}
+use Rattle.its_world.specs.Entries.{TellsEntry}
+use Rattle.its_world.specs.declared.entry.Entry.{Entry}
 
 -- a call of its own, or the frame that these octets are
 abbrev pub IsAskedBy : What → List ℕ → Call → Type 0
@@ -35,3 +40,15 @@ IsDelivered released frames (Deliver k) octets =
 abbrev pub AreSameBut : ℕ → List StationState → List StationState → Type 0
 AreSameBut number old new = (length new ≡ length old)
     × ((n : ℕ) → n ≢ number → slice_get new n ≡ slice_get old n)
+
+-- what happens is a call of the station's own, and delivers no frame
+abbrev pub IsOwnCall : What → Type 0
+IsOwnCall (Calls call) = Unit {0}
+IsOwnCall (Deliver k) = ⊥
+
+-- where an event delivers no frame that was released, the world goes one step of the model, and the
+-- entry is what that logs
+abbrev pub IsDoneBy : WorldState → WorldState → Event → Entry → Type 0
+IsDoneBy old new e entry = (w : WorldModel) → RepresentsWorld old w → IsKept old.released e.what
+    → RepresentsWorld new (world_step w e) × (answer : Answer ℕ) × TellsEntry entry answer
+    × (entries (world_step w e).log ≡ entries w.log ++ answer ∷ [])

@@ -42,6 +42,7 @@ impl Air {
     }
 
     /// How many were given: the number of the next one.
+    #[inline(always)]
     pub(crate) fn count(&self) -> usize
         ensures { result ≡ self.now.released + length self.now.kept.items }
     {
@@ -49,6 +50,7 @@ impl Air {
     }
 
     /// The octets of the frame of a number; `None` where it was let go, or none has it.
+    #[inline(always)]
     pub(crate) fn get(&self, number: usize) -> Option<&[u8]>
         ensures { option_map (λ octets. octets.now) result ≡ option_map (λ w. w.items)
             (frame_in self.now.released self.now.kept.items number) }
@@ -73,6 +75,7 @@ impl Air {
     }
 
     /// Makes room for one more. `NoMemory` where an allocation failed, or there is no number left.
+    #[inline(always)]
     pub(crate) fn make_room(&mut self) -> Result<(), NoMemory>
         ensures kept { self.new.kept.items ≡ self.old.kept.items }
         ensures released { self.new.released ≡ self.old.released }
@@ -89,6 +92,7 @@ impl Air {
 
     /// Gives the next number to the frame that a station gave, if it gave one. There has to be room
     /// for it.
+    #[inline(always)]
     pub(crate) fn number(&mut self, given: Option<Vec<u8>>)
         requires room { deque_len self.old.kept < deque_capacity self.old.kept }
         requires number { self.old.released + deque_len self.old.kept < 2 ^ 64 - 1 }

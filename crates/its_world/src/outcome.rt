@@ -1,15 +1,17 @@
 //! What comes of a station's reply: an entry, and the frame that the station gave.
 
-ghost use Rattle.std.specs.Prelude.{◌≡◌, Option, None, true, not};
+ghost use Rattle.std.specs.Prelude.{◌≡◌, Option, None, true, not, IsSome, MatchResult};
 ghost use Rattle.its_model.specs.Packet.{Transmission};
 ghost use Rattle.its_model.specs.Calls.{Answer};
 ghost use Rattle.its_model.specs.World.{entry_of, frame_of, numbered};
 ghost use Rattle.its_station.specs.Receiving.{IsRelay};
 ghost use Rattle.its_station.specs.Runs.{TellsReply, is_refusal};
+ghost use Rattle.its_station.specs.Steps.{refusal_of};
 ghost use Rattle.its_world.specs.Entries.{TellsEntry, was_done};
 
 use crate::entry::{Entry, EntryFault};
-use its_station::Reply;
+use its_gnvalue::NoMemory;
+use its_station::{Refused, Reply};
 
 /// What comes of a call: what is told of it, and the frame that the station gave, if it gave one.
 #[derive(Debug, Drop, PartialEq, Eq)]
@@ -23,6 +25,7 @@ pub struct CallOutcome {
 impl CallOutcome {
     /// What comes of a reply. `done` is the entry of a call of which the reply tells only that it was
     /// done, and a frame gets `number`.
+    #[inline(always)]
     pub fn of_reply(done: Entry, reply: Reply, number: usize) -> CallOutcome
         ensures entry { (answer : Answer Transmission) → TellsReply reply answer →
             (reply ≡ Reply.Done → TellsEntry done (entry_of number answer)) →
@@ -52,6 +55,7 @@ impl CallOutcome {
     }
 
     /// An entry of a call for which the station gave no frame.
+    #[inline(always)]
     pub fn told(entry: Entry) -> CallOutcome
         ensures entry { result.entry ≡ entry }
         ensures frame { result.frame ≡ None }
@@ -60,8 +64,29 @@ impl CallOutcome {
     }
 }
 
+/// The entry of a refused call, unless an allocation failed.
+pub(crate) fn refusal(refused: Refused) -> Result<Entry, NoMemory>
+    ensures { MatchResult result
+        (λ entry. (entry ≡ Entry.Refused (EntryFault.Station refused)) × IsSome (refusal_of refused))
+        (λ _. refused ≡ Refused.NoMemory) }
+{
+    match refused {
+        Refused::NoMemory => Err(NoMemory),
+        Refused::MomentEarlier
+        | Refused::MomentTooLate
+        | Refused::JitterRange
+        | Refused::Frame(_)
+        | Refused::Secured(_)
+        | Refused::Port(_)
+        | Refused::PayloadTooLong
+        | Refused::HopLimitZero
+        | Refused::TableFull => Ok(Entry::Refused(EntryFault::Station(refused))),
+    }
+}
+
 /// A number for the frame, if there is one.
-fn number_of(frame: &Option<Vec<u8>>, number: usize) -> Option<usize>
+#[inline(always)]
+pub(crate) fn number_of(frame: &Option<Vec<u8>>, number: usize) -> Option<usize>
     ensures { (relayed : Option Transmission) → IsRelay frame.now relayed →
         result ≡ numbered number relayed }
 {

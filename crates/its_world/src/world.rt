@@ -11,14 +11,16 @@ ghost use Rattle.its_model.specs.World.What.{Deliver};
 ghost use Rattle.its_model.specs.Reach.{HasOwnAddress};
 ghost use Rattle.its_headers.specs.Encoding.{IsBytes};
 ghost use Rattle.its_linkframe.specs.Frames.{IsFrame};
+ghost use Rattle.its_station.specs.Receiving.{DeliversEndOf, IsFrameCall, Tells};
 ghost use Rattle.its_station.specs.Runs.{IsReplyTo, IsThisWhereDone};
 ghost use Rattle.its_station.specs.State.{StationState, RepresentsStation};
+ghost use Rattle.its_station.specs.Steps.{IsStepOf};
 ghost use Rattle.its_world.specs.Frames.{frame_in};
 ghost use Rattle.its_world.specs.State.{RepresentsWorld};
 ghost use Rattle.its_world.specs.Events.{IsConfig, IsInRange, config_of, event_of, what_of};
 ghost use Rattle.its_world.specs.Entries.{TellsEntry, done_answer};
 ghost use Rattle.its_world.specs.Mids.{AreApart, IsMidFault};
-ghost use Rattle.its_world.specs.Steps.{IsAskedBy, IsDelivered, IsKept, IsGone, AreSameBut};
+ghost use Rattle.its_world.specs.Steps.{AreSameBut, IsAskedBy, IsDoneBy, IsGone, IsKept, IsOwnCall};
 ghost use Rattle.its_world.specs.Late.{with_station};
 
 use crate::air::Air;
@@ -26,14 +28,14 @@ use crate::config::{Config, WorldFault};
 use crate::entry::{Entry, EntryFault};
 use crate::event::{Event, What};
 use crate::mids::refuse_shared;
-use crate::outcome::CallOutcome;
+use crate::outcome::{CallOutcome, number_of, refusal};
 use crate::stations::{begin_station, stations_of};
 use its_gnvalue::{GnAddress, NoMemory};
 use its_linkframe::laws::{one_frame, one_frame_fault};
 use its_linkframe::read_frame;
 use its_loctable::{HALVINGS, SIDE_BY_SIDE, SortedTable, narrow};
 use its_model::laws::addresses_are_own;
-use its_station::{Reply, Station};
+use its_station::{Delivery, Outcome, Refused, Reply, Station, make_room};
 use std::alloc::Global;
 use std::array;
 use std::marker::Model;
@@ -201,6 +203,7 @@ impl World {
     ///
     /// The written rules know of no frame that was let go, so nothing is said by them of its
     /// delivery: it is refused as `NoSuchFrame` then, and changes nothing.
+    #[inline(always)]
     pub fn step(&mut self, event: &Event) -> Result<Entry, NoMemory>
         requires { IsInRange event.now.what }
         ensures step { IfOk result (λ entry. (w : WorldModel) → RepresentsWorld self.old w →
@@ -218,17 +221,76 @@ impl World {
         if event.station >= self.stations.len() {
             return Ok(Entry::Refused(EntryFault::NoSuchStation));
         }
+        match &event.what {
+            What::Deliver(number) => self.deliver(event.station, event.moment, *number),
+            What::MoveTo { .. }
+            | What::Open(_)
+            | What::Close(_)
+            | What::Tick(_)
+            | What::SendShb(_)
+            | What::SendGeobroadcast(_)
+            | What::SendGeoanycast(_)
+            | What::Restart(_) => self.call(event),
+        }
+    }
+
+    /// Delivers the frame of this number to a station that is there.
+    #[inline(always)]
+    fn deliver(&mut self, station: usize, moment: u64, number: usize) -> Result<Entry, NoMemory>
+        requires there { station < length self.old.stations }
+        ensures step { IfOk result (IsDoneBy self.old self.new (record {
+          station = station;
+          moment = moment;
+          what = Deliver number;
+        })) }
+        ensures gone { number < self.old.released → IfOk result (λ entry.
+            (entry ≡ Entry.Refused EntryFault.NoSuchFrame) × (self.new ≡ self.old)) }
+        ensures others { AreSameBut station self.old.stations self.new.stations }
+        ensures released { self.new.released ≡ self.old.released }
+        ensures unchanged { OnErr result (self.new ≡ self.old) }
+    {
         self.air.make_room()?;
-        let Some(frame) = delivered(&self.air, &event.what) else {
+        let Some(frame) = self.air.get(number) else {
             return Ok(Entry::Refused(EntryFault::NoSuchFrame));
         };
         // Laws, for the proof alone.
         one_frame();
         one_frame_fault();
-        let check = check_of(&event.what, self.checked);
+        make_room(&mut self.room, frame)?;
+        let check = check_of(number, self.checked);
+        let answer = receive(&mut self.stations[station], moment, frame, check);
+        match answer {
+            Ok(Outcome::Ignored(why)) => Ok(Entry::Ignored(why)),
+            Ok(Outcome::Accepted { handed, sent }) => {
+                let handed = Delivery::in_room(self.alloc, handed, &mut self.room);
+                let number = number_of(&sent, self.air.count());
+                self.air.number(sent);
+                Ok(Entry::Accepted {
+                    handed,
+                    sent: number,
+                })
+            }
+            Err(refused) => refusal(refused),
+        }
+    }
+
+    /// Has a station that is there make a call of its own.
+    #[inline(never)]
+    fn call(&mut self, event: &Event) -> Result<Entry, NoMemory>
+        requires there { event.now.station < length self.old.stations }
+        requires range { IsInRange event.now.what }
+        requires own { IsOwnCall (what_of event.now.what) }
+        ensures step { IfOk result (IsDoneBy self.old self.new (event_of event.now)) }
+        ensures others { AreSameBut event.now.station self.old.stations self.new.stations }
+        ensures released { self.new.released ≡ self.old.released }
+        ensures unchanged { OnErr result (self.new ≡ self.old) }
+    {
+        self.air.make_room()?;
+        // Laws, for the proof alone.
+        one_frame();
+        one_frame_fault();
         let station = &mut self.stations[event.station];
-        let room = &mut self.room;
-        let reply = ask(station, room, event.moment, &event.what, frame, check)?;
+        let reply = ask(station, event.moment, &event.what)?;
         let done = event.what.done_entry();
         let outcome = CallOutcome::of_reply(done, reply, self.air.count());
         self.air.number(outcome.frame);
@@ -310,6 +372,7 @@ impl World {
 impl World {
     /// Keeps the buffer of a payload that was delivered for the next delivery. The world stays as it
     /// was.
+    #[inline(always)]
     pub fn reuse(&mut self, entry: Entry)
         ensures { self.new ≡ self.old }
     {
@@ -333,25 +396,6 @@ fn source_of(octets: &[u8]) -> Option<GnAddress>
     }
 }
 
-/// The frame that an event delivers, or no octets where it delivers none; `None` where no frame of
-/// its number is kept.
-fn delivered<'a>(air: &'a Air, what: &What) -> Option<&'a [u8]>
-    ensures { IsDelivered air.now.released air.now.kept.items (what_of what.now)
-        (option_map (λ frame. frame.now) result) }
-{
-    match what {
-        What::Deliver(number) => air.get(*number),
-        What::MoveTo { .. }
-        | What::Open(_)
-        | What::Close(_)
-        | What::Tick(_)
-        | What::SendShb(_)
-        | What::SendGeobroadcast(_)
-        | What::SendGeoanycast(_)
-        | What::Restart(_) => Some(&[]),
-    }
-}
-
 /// Whether the octets that a station receives were checked.
 #[derive(Clone, Copy, Debug)]
 enum FrameCheck {
@@ -361,37 +405,51 @@ enum FrameCheck {
     Due,
 }
 
-/// Whether the octets that an event delivers were checked. `checked` is the number of the frame that
-/// was, if there is one.
-fn check_of(what: &What, checked: Option<usize>) -> FrameCheck
-    ensures { result ≡ FrameCheck.Done → (number : ℕ) × (what_of what.now ≡ Deliver number)
-        × (checked ≡ Some number) }
+/// Whether the octets of the frame of a number were checked. `checked` is the number of the frame whose
+/// octets were, if there is one.
+#[inline(always)]
+fn check_of(number: usize, checked: Option<usize>) -> FrameCheck
+    ensures { result ≡ FrameCheck.Done → checked ≡ Some number }
 {
-    match what {
-        What::Deliver(number) if checked == Some(*number) => FrameCheck::Done,
-        _ => FrameCheck::Due,
+    if checked == Some(number) {
+        FrameCheck::Done
+    } else {
+        FrameCheck::Due
     }
 }
 
-/// What a station replies to a call or, where it is a delivery, to this frame. A payload that is
-/// delivered takes the room. Octets that were checked are not checked again.
-fn ask(
+/// Has a station receive a frame. Octets that were checked are not checked again.
+#[inline(always)]
+fn receive<'a>(
     station: &mut Station<SortedTable>,
-    room: &mut Vec<u8>,
     moment: u64,
-    what: &What,
-    frame: &[u8],
+    frame: &'a [u8],
     check: FrameCheck,
-) -> Result<Reply, NoMemory>
-    requires range { IsInRange what.now }
+) -> Result<Outcome<'a>, Refused>
     requires check { check ≡ FrameCheck.Done → IsFrame frame.now }
-    ensures step { IfOk result (λ reply. (call : Call) × IsAskedBy (what_of what.now) frame.now call
+    ensures step { (call : Call) × IsFrameCall frame.now call
+        × ((s : StationModel) → RepresentsStation station.old s →
+        IsStepOf Tells result station.new (station_step s moment call)) }
+    ensures unchanged { OnErr result (station.new ≡ station.old) }
+    ensures payload { IfOk result (DeliversEndOf frame.now) }
+    ensures bytes { IsBytes frame.now }
+{
+    match check {
+        FrameCheck::Done => station.receive_checked(moment, frame),
+        FrameCheck::Due => station.receive(moment, frame),
+    }
+}
+
+/// What a station replies to a call of its own.
+fn ask(station: &mut Station<SortedTable>, moment: u64, what: &What) -> Result<Reply, NoMemory>
+    requires range { IsInRange what.now }
+    requires own { IsOwnCall (what_of what.now) }
+    ensures step { IfOk result (λ reply. (call : Call) × IsAskedBy (what_of what.now) [] call
         × ((s : StationModel) → RepresentsStation station.old s →
         IsReplyTo reply station.new (station_step s moment call)
         × IsThisWhereDone (done_answer (what_of what.now)) reply
         (station_step s moment call).answer)) }
     ensures unchanged { OnErr result (station.new ≡ station.old) }
-    ensures bytes { IsBytes frame.now }
 {
     match what {
         What::MoveTo {
@@ -409,9 +467,7 @@ fn ask(
             Reply::of_send(station.send_geobroadcast(moment, &r.lend()))
         }
         What::SendGeoanycast(r) => Reply::of_send(station.send_geoanycast(moment, &r.lend())),
-        What::Deliver(_) => match check {
-            FrameCheck::Done => station.receive_checked_in(moment, frame, room),
-            FrameCheck::Due => station.receive_in(moment, frame, room),
-        },
+        // A delivery is no call of the station's own.
+        What::Deliver(_) => unreachable!(),
     }
 }

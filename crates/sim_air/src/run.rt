@@ -213,6 +213,7 @@ impl<'a> Run<'a> {
     }
 
     /// Whether the station of this number is present.
+    #[inline(always)]
     pub(crate) fn is_present(&self, station: usize) -> bool {
         is_present(self.present.as_slice(), station)
     }
@@ -292,6 +293,7 @@ impl<'a> Run<'a> {
     }
 
     /// Does a delivery. Nothing follows it but the deliveries of the frame that it gives.
+    #[inline(always)]
     pub(crate) fn deliver<S: EventSink>(
         &mut self,
         delivery: &Delivery,
@@ -317,6 +319,7 @@ impl<'a> Run<'a> {
     }
 
     /// Has the receivers of a frame look up its source together, when the first of them receives it.
+    #[inline(always)]
     fn announce(&mut self, delivery: &Delivery)
         ensures world { SameWorld self.old self.new }
         ensures present { self.new.present ≡ self.old.present }
@@ -325,8 +328,19 @@ impl<'a> Run<'a> {
     {
         if self.announced > 0 {
             self.announced -= 1;
-            return;
+        } else {
+            self.announce_receivers(delivery);
         }
+    }
+
+    /// Has the next receivers of a frame look up its source together.
+    #[inline(never)]
+    fn announce_receivers(&mut self, delivery: &Delivery)
+        ensures world { SameWorld self.old self.new }
+        ensures present { self.new.present ≡ self.old.present }
+        ensures queue { self.new.queue ≡ self.old.queue }
+        ensures draws { self.new.draws ≡ self.old.draws }
+    {
         let receivers = self.queue.receivers(delivery);
         let stations = receivers.as_slice();
         self.announced = stations.len().saturating_sub(1);
@@ -368,6 +382,7 @@ impl<'a> Run<'a> {
 
     /// Does an event, hands it to the sink, and puts the deliveries of the frame that it gave.
     /// Where its station has moved, it stands there from now on.
+    #[inline(always)]
     pub(crate) fn do_event<S: EventSink>(
         &mut self,
         event: &Event,
@@ -414,6 +429,7 @@ impl<'a> Run<'a> {
     }
 
     /// A station may have moved from where it stood: it stands where the world has it.
+    #[inline(always)]
     fn update_place(&mut self, number: usize, stood: Option<Place>)
         ensures air { self.new.air ≡ self.old.air }
         ensures every { self.new.every ≡ self.old.every }
@@ -502,6 +518,7 @@ impl<'a> Run<'a> {
     }
 
     /// After one of the air's own its station may come, of which the sink has a note then.
+    #[inline(always)]
     fn come<S: EventSink>(
         &mut self,
         event: &Event,
@@ -532,6 +549,7 @@ impl<'a> Run<'a> {
     /// Makes a station present that was absent and that an event moved, and puts its first tick and
     /// its first sends, where none of them waits. Gives whether it did, of which the sink has no
     /// note yet.
+    #[inline(always)]
     fn admit(&mut self, event: &Event, entry: &Entry) -> Result<bool, AirFault>
         requires moment { event.now.moment ≤ 2 ^ 63 + 10000 }
         ensures world { SameWorld self.old self.new }
@@ -568,6 +586,7 @@ impl<'a> Run<'a> {
     }
 
     /// Whether the station of an event comes with it: it is absent, and the event moved it.
+    #[inline(always)]
     fn is_coming(&self, event: &Event, entry: &Entry) -> bool
         ensures { (after : WorldModel) → IsAnswered entry.now after →
             result ≡ comes self.now.present.items (event_of event.now) after }
@@ -646,6 +665,7 @@ impl<'a> Run<'a> {
 }
 
 /// Where a station stands, by its number.
+#[inline(always)]
 pub(crate) fn place_of(world: &World, number: usize) -> Option<Place>
     ensures { result ≡ option_map (λ st. st.vector.place) (slice_get world.now.stations number) }
 {
@@ -656,6 +676,7 @@ pub(crate) fn place_of(world: &World, number: usize) -> Option<Place>
 }
 
 /// Whether a station stood at this place.
+#[inline(always)]
 fn stood_at(stood: &Option<Place>, place: Place) -> bool
     ensures { IsTrue result → stood.now ≡ Some place }
 {
@@ -701,6 +722,7 @@ struct GivenFrame {
 
 /// Puts a delivery of a frame to each of these stations that doesn't lose it, and hands a sink a
 /// note of each loss, in order. A sink that uses them has a note of each delivery too.
+#[inline(always)]
 fn schedule_deliveries<S: EventSink>(
     queue: &mut Queue<'_>,
     draws: &mut Draws,
@@ -726,6 +748,7 @@ fn schedule_deliveries<S: EventSink>(
 }
 
 /// Puts a delivery of a frame to a station, unless a draw loses it. Gives the note of it.
+#[inline(always)]
 fn schedule_delivery(
     queue: &mut Queue<'_>,
     draws: &mut Draws,

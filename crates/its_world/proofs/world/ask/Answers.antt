@@ -1,4 +1,4 @@
-use Rattle.std.proofs.Common.{◌≡◌, refl, sym, ap, subst, rules}
+use Rattle.std.proofs.Common.{◌≡◌, [], refl, sym, ap, subst, rules}
 use Rattle.std.proofs.Math.Facts.{to_z-of_z}
 use mir.Val.{SFits}
 use mir.Syntax.{w16}
@@ -9,22 +9,21 @@ use Rattle.its_model.specs.Calls.OwnCall.{Move, Open, Close, Tick, SendShb, Send
 use Rattle.its_model.specs.Calls.OwnCall.{Restart}
 use Rattle.its_model.specs.Station.{station_step}
 use Rattle.its_station.specs.Requests.{TellsSent, owned_gbc, owned_shb}
-use Rattle.its_station.specs.Receiving.{IsFrameCall}
 use Rattle.its_station.specs.Steps.{IsStepOf, Says}
 use Rattle.its_world.specs.declared.event.What.{What}
 use Rattle.its_world.specs.Entries.{done_answer}
 use Rattle.its_world.specs.Events.{what_of}
 use Rattle.its_world.specs.Steps.{IsAskedBy}
-use Rattle.its_world.proofs.Giving.{asked_reply, never_done, frame_reply}
+use Rattle.its_world.proofs.Giving.{asked_reply, never_done}
 use Rattle.its_world.proofs.world.ask.Goals as goal
 
 pub returns-in-MoveTo-clause-step : goal.returns-in-MoveTo-clause-step
 returns-in-MoveTo-clause-step c =
     let call = Own (Move c.in-MoveTo.place c.in-MoveTo.pai c.in-MoveTo.speed c.in-MoveTo.heading) in
-    let is = λ (k : What). IsAskedBy (what_of k) c.args.frame.now call in
+    let is = λ (k : What). IsAskedBy (what_of k) [] call in
     let this = done_answer {F = Transmission} (what_of c.args.what.now) in
     let same : Moved ≡ this = ap (λ (k : What). done_answer {F = Transmission} (what_of k)) (sym c.in-MoveTo.is) in
-    asked_reply c.of_done.result (IsAskedBy (what_of c.args.what.now) c.args.frame.now) call
+    asked_reply c.of_done.result (IsAskedBy (what_of c.args.what.now) []) call
     c.args.station.now c.move_to.new.self c.args.moment this (subst is (sym c.in-MoveTo.is) refl)
     (λ s rep. c.of_done.ensures.reply Moved c.move_to.new.self (station_step s c.args.moment call) tt
     (let fits : SFits w16 c.in-MoveTo.speed = search rules in
@@ -37,10 +36,10 @@ returns-in-MoveTo-clause-step c =
 pub returns-in-Open-clause-step : goal.returns-in-Open-clause-step
 returns-in-Open-clause-step c =
     let call = Own (Open c.in-Open.port) in
-    let is = λ (k : What). IsAskedBy (what_of k) c.args.frame.now call in
+    let is = λ (k : What). IsAskedBy (what_of k) [] call in
     let this = done_answer {F = Transmission} (what_of c.args.what.now) in
     let same : Opened ≡ this = ap (λ (k : What). done_answer {F = Transmission} (what_of k)) (sym c.in-Open.is) in
-    asked_reply c.of_done-in-Open.result (IsAskedBy (what_of c.args.what.now) c.args.frame.now) call
+    asked_reply c.of_done-in-Open.result (IsAskedBy (what_of c.args.what.now) []) call
     c.args.station.now c.open.new.self c.args.moment this (subst is (sym c.in-Open.is) refl)
     (λ s rep. c.of_done-in-Open.ensures.reply Opened c.open.new.self (station_step s c.args.moment call) tt
     (c.open.ensures.step s rep))
@@ -51,10 +50,10 @@ returns-in-Open-clause-step c =
 pub returns-in-Close-clause-step : goal.returns-in-Close-clause-step
 returns-in-Close-clause-step c =
     let call = Own (Close c.in-Close.port) in
-    let is = λ (k : What). IsAskedBy (what_of k) c.args.frame.now call in
+    let is = λ (k : What). IsAskedBy (what_of k) [] call in
     let this = done_answer {F = Transmission} (what_of c.args.what.now) in
     let same : Closed ≡ this = ap (λ (k : What). done_answer {F = Transmission} (what_of k)) (sym c.in-Close.is) in
-    asked_reply c.of_done-in-Close.result (IsAskedBy (what_of c.args.what.now) c.args.frame.now) call
+    asked_reply c.of_done-in-Close.result (IsAskedBy (what_of c.args.what.now) []) call
     c.args.station.now c.close.new.self c.args.moment this (subst is (sym c.in-Close.is) refl)
     (λ s rep. c.of_done-in-Close.ensures.reply Closed c.close.new.self (station_step s c.args.moment call) tt
     (c.close.ensures.step s rep))
@@ -65,10 +64,10 @@ returns-in-Close-clause-step c =
 pub returns-in-Restart-clause-step : goal.returns-in-Restart-clause-step
 returns-in-Restart-clause-step c =
     let call = Own (Restart c.in-Restart.number) in
-    let is = λ (k : What). IsAskedBy (what_of k) c.args.frame.now call in
+    let is = λ (k : What). IsAskedBy (what_of k) [] call in
     let this = done_answer {F = Transmission} (what_of c.args.what.now) in
     let same : Restarted ≡ this = ap (λ (k : What). done_answer {F = Transmission} (what_of k)) (sym c.in-Restart.is) in
-    asked_reply c.of_done-in-Restart.result (IsAskedBy (what_of c.args.what.now) c.args.frame.now) call
+    asked_reply c.of_done-in-Restart.result (IsAskedBy (what_of c.args.what.now) []) call
     c.args.station.now c.restart.new.self c.args.moment this (subst is (sym c.in-Restart.is) refl)
     (λ s rep. c.of_done-in-Restart.ensures.reply Restarted c.restart.new.self (station_step s c.args.moment call) tt
     (c.restart.ensures.step s rep))
@@ -79,9 +78,9 @@ returns-in-Restart-clause-step c =
 pub returns-in-Tick-clause-step : goal.returns-in-Tick-clause-step
 returns-in-Tick-clause-step c =
     let call = Own (Tick c.in-Tick.jitter) in
-    let is = λ (k : What). IsAskedBy (what_of k) c.args.frame.now call in
+    let is = λ (k : What). IsAskedBy (what_of k) [] call in
     let this = done_answer {F = Transmission} (what_of c.args.what.now) in
-    asked_reply c.of_tick.result (IsAskedBy (what_of c.args.what.now) c.args.frame.now) call
+    asked_reply c.of_tick.result (IsAskedBy (what_of c.args.what.now) []) call
     c.args.station.now c.tick.new.self c.args.moment this (subst is (sym c.in-Tick.is) refl)
     (λ s rep. c.of_tick.ensures.reply c.tick.new.self (station_step s c.args.moment call)
     (c.tick.ensures.step s rep))
@@ -91,9 +90,9 @@ returns-in-Tick-clause-step c =
 pub returns-in-SendShb-clause-step : goal.returns-in-SendShb-clause-step
 returns-in-SendShb-clause-step c =
     let call = Own (SendShb (owned_shb c.in-SendShb.r)) in
-    let is = λ (k : What). IsAskedBy (what_of k) c.args.frame.now call in
+    let is = λ (k : What). IsAskedBy (what_of k) [] call in
     let this = done_answer {F = Transmission} (what_of c.args.what.now) in
-    asked_reply c.of_send.result (IsAskedBy (what_of c.args.what.now) c.args.frame.now) call
+    asked_reply c.of_send.result (IsAskedBy (what_of c.args.what.now) []) call
     c.args.station.now c.send_shb.new.self c.args.moment this (subst is (sym c.in-SendShb.is) refl)
     (λ s rep. c.of_send.ensures.reply c.send_shb.new.self (station_step s c.args.moment call)
     (subst (λ (r : ShbRequest).
@@ -106,9 +105,9 @@ returns-in-SendShb-clause-step c =
 pub returns-in-SendGeobroadcast-clause-step : goal.returns-in-SendGeobroadcast-clause-step
 returns-in-SendGeobroadcast-clause-step c =
     let call = Own (SendGbc (owned_gbc c.in-SendGeobroadcast.r)) in
-    let is = λ (k : What). IsAskedBy (what_of k) c.args.frame.now call in
+    let is = λ (k : What). IsAskedBy (what_of k) [] call in
     let this = done_answer {F = Transmission} (what_of c.args.what.now) in
-    asked_reply c.of_send-in-SendGeobroadcast.result (IsAskedBy (what_of c.args.what.now) c.args.frame.now) call
+    asked_reply c.of_send-in-SendGeobroadcast.result (IsAskedBy (what_of c.args.what.now) []) call
     c.args.station.now c.send_geobroadcast.new.self c.args.moment this (subst is (sym c.in-SendGeobroadcast.is) refl)
     (λ s rep. c.of_send-in-SendGeobroadcast.ensures.reply c.send_geobroadcast.new.self (station_step s c.args.moment call)
     (subst (λ (r : GbcRequest).
@@ -121,9 +120,9 @@ returns-in-SendGeobroadcast-clause-step c =
 pub returns-in-SendGeoanycast-clause-step : goal.returns-in-SendGeoanycast-clause-step
 returns-in-SendGeoanycast-clause-step c =
     let call = Own (SendGac (owned_gbc c.in-SendGeoanycast.r)) in
-    let is = λ (k : What). IsAskedBy (what_of k) c.args.frame.now call in
+    let is = λ (k : What). IsAskedBy (what_of k) [] call in
     let this = done_answer {F = Transmission} (what_of c.args.what.now) in
-    asked_reply c.of_send-in-SendGeoanycast.result (IsAskedBy (what_of c.args.what.now) c.args.frame.now) call
+    asked_reply c.of_send-in-SendGeoanycast.result (IsAskedBy (what_of c.args.what.now) []) call
     c.args.station.now c.send_geoanycast.new.self c.args.moment this (subst is (sym c.in-SendGeoanycast.is) refl)
     (λ s rep. c.of_send-in-SendGeoanycast.ensures.reply c.send_geoanycast.new.self (station_step s c.args.moment call)
     (subst (λ (r : GbcRequest).
@@ -132,21 +131,3 @@ returns-in-SendGeoanycast-clause-step c =
     (c.send_geoanycast.ensures.step s rep)))
     (λ s rep. never_done c.of_send-in-SendGeoanycast.result this (station_step s c.args.moment call).answer
     c.of_send-in-SendGeoanycast.ensures.answered)
-
-pub returns-in-Done-clause-step : goal.returns-in-Done-clause-step
-returns-in-Done-clause-step c =
-    let frame = c.args.frame.now in
-    frame_reply c.receive_checked_in.result (IsFrameCall frame)
-    (IsAskedBy (what_of c.args.what.now) frame) c.args.station.now c.receive_checked_in.new.self
-    c.args.moment (done_answer (what_of c.args.what.now))
-    (λ call is. subst (λ (k : What). IsAskedBy (what_of k) frame call) (sym c.in-Deliver.is) is)
-    c.receive_checked_in.ensures.step c.receive_checked_in.ensures.answered
-
-pub returns-in-Due-clause-step : goal.returns-in-Due-clause-step
-returns-in-Due-clause-step c =
-    let frame = c.args.frame.now in
-    frame_reply c.receive_in.result (IsFrameCall frame)
-    (IsAskedBy (what_of c.args.what.now) frame) c.args.station.now c.receive_in.new.self
-    c.args.moment (done_answer (what_of c.args.what.now))
-    (λ call is. subst (λ (k : What). IsAskedBy (what_of k) frame call) (sym c.in-Deliver.is) is)
-    c.receive_in.ensures.step c.receive_in.ensures.answered
