@@ -17,9 +17,9 @@ use Rattle.sim_scenario.specs.Airs.{moment_of}
 use Rattle.sim_scenario.specs.declared.events.event.FileEvent.{FileEvent}
 use Rattle.sim_scenario.specs.declared.events.event.FileEvent.TheVariants as files
 use Rattle.sim_simulation.specs.Simulated.{IsSimulated}
-use Rattle.sim_queue.specs.Due.{AreDue}
-use Rattle.sim_queue.specs.Queues.{filed_in, filed_of}
-use Rattle.sim_queue.proofs.Files.{same_moment}
+use Rattle.sim_air.specs.Due.{AreDue}
+use Rattle.sim_air.specs.FileEvents.{filed_in, filed_of}
+use Rattle.sim_air.proofs.FileEvents.{same_moment}
 use Rattle.sim_air_model.specs.Draws.{draws_of}
 use Rattle.sim_air_model.specs.Timetable.{AirModel, Filed, NoneWaits, Pending, Rules, air_opening}
 use Rattle.sim_air_model.specs.Timetable.{air_run, at, moment_in, of_file, schedule_all}
@@ -163,7 +163,7 @@ filed_over rules configs file due last from end counted by run A are_due late_ow
     let r : Rules = rules_beside [] end h.now in
     let ended : AirModel = beside [] late h.air in
     let none : NoneWaits end h.air.timetable.waiting =
-    none_waits_after h.all run.queue run.draws h.air.timetable end late_own h.reached.own
+    none_waits_after run.queue run.draws h.air.timetable end late_own
     h.timed.keeps in
     let sorted : schedule_all (map of_file file) []
     ≡ schedule_all (map of_file (due ++ late)) [] =

@@ -207,15 +207,13 @@ found_none f r o e was = sym e ∙ ap (option_map f) was
 
 -- ---- rules
 
--- a run with the same air, traffic and end goes by the same rules
+-- a run with the same air and traffic goes by the same rules
 pub goes_on : (rules : Rules) (old new : Run) → GoesBy rules old → new.air ≡ old.air
-    → new.every ≡ old.every → new.queue.until ≡ old.queue.until → GoesBy rules new
-goes_on rules old new goes_by air every until =
-    ap (λ (a : Air). rules_of a (all_traffic new.every.now) new.queue.until rules.present) air
-    ∙ ap (λ (x : Bor (List Flow)). rules_of old.air (all_traffic x.now) new.queue.until
-    rules.present)
-    every
-    ∙ ap (λ n. rules_of old.air (all_traffic old.every.now) n rules.present) until ∙ goes_by
+    → new.every ≡ old.every → GoesBy rules new
+goes_on rules old new goes_by air every =
+    ap (λ (a : Air). rules_of a (all_traffic new.every.now) rules.until rules.present) air
+    ∙ ap (λ (x : Bor (List Flow)). rules_of old.air (all_traffic x.now) rules.until rules.present)
+    every ∙ goes_by
 
 -- it is timed as before if nothing changed but what no rule speaks of
 pub timed_on : (rules : Rules) (configs : List Config) (a : AirModel) (old new : Run)
@@ -223,8 +221,7 @@ pub timed_on : (rules : Rules) (configs : List Config) (a : AirModel) (old new :
     → new.queue ≡ old.queue → new.draws ≡ old.draws → IsTimed rules configs a old Took
     → IsTimed rules configs a new Took
 timed_on rules configs a old new Took world present queue draws h = record {
-  goes_by = goes_on rules old new h.goes_by world.air world.every
-      (ap (λ (q : Queue). q.until) queue);
+  goes_by = goes_on rules old new h.goes_by world.air world.every;
   present = ap (λ (v : Vec Bool Global). v.items) present ∙ h.present;
   told = subst (λ (w : WorldState). IsSimulated configs a.done w Took) (sym world.world) h.told;
   keeps = subst (λ (q : Queue). Keeps q new.draws a.timetable) (sym queue)

@@ -17,3 +17,4 @@ pub mod Moved
 pub mod UnderRows
 pub mod Outside
 pub mod Filing
+pub mod FileEvents

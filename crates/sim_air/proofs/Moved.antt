@@ -1,8 +1,8 @@
 -- A run with moves that is under way, as the run of an air.
 use Rattle.std.proofs.Common.{◌≡◌, ℕ, zero, suc, ◌+◌, ◌≤◌, ◌<◌, List, [], ◌∷◌, ◌++◌, refl, sym, ap}
-use Rattle.std.proofs.Common.{subst, ◌∙◌, drop, map, length, arith, All, Bool, true, false, cond}
+use Rattle.std.proofs.Common.{subst, ◌∙◌, length, arith, All, Bool, true, false, cond}
 use Rattle.std.proofs.Common.{append_assoc, append-nil, Option, Some, Result, Ok, Err}
-use Rattle.std.specs.Prelude.{nat_le, Vec, OnOk, IfSome, max, min, ◌%◌}
+use Rattle.std.specs.Prelude.{Vec, OnOk, IfSome, max, min, ◌%◌}
 use Rattle.std.specs.declared.alloc.Global.{Global}
 use Rattle.std.specs.BinaryHeap.{IsUpperBound}
 use Rattle.std.specs.List.{AllByRecursion}
@@ -22,13 +22,12 @@ use Rattle.sim_air_model.specs.Timetable.{moment_in}
 use Rattle.sim_air.specs.AirTimed.{IsTimedRun}
 use Rattle.sim_air.specs.Beside.{AreKnown, IsOwnOf, InOrder, IsThere, rules_beside, absent}
 use Rattle.sim_air.specs.Beside.{station_of_pending}
-use Rattle.sim_queue.specs.Files.{filed_due}
 use Rattle.sim_air.specs.Keeps.{GoesBy, IsTimed}
 use Rattle.sim_queue.specs.Keeps.{Keeps}
 use Rattle.sim_air.specs.Moving.{Awaits, AwaitsFrame, IsMoving, IsMovedRun, IsTaken, DoesAt}
 use Rattle.sim_air.specs.Moving.{DoesTaken, StaysMoving, without_first}
 use Rattle.sim_air.specs.Outside.{IsOutside, station_of_filed}
-use Rattle.sim_queue.specs.Queues.{filed_in, filed_of}
+use Rattle.sim_air.specs.FileEvents.{filed_of}
 use Rattle.sim_queue.specs.Waiting.{own_of, waiting_cmp}
 use Rattle.sim_scenario.specs.Events.{station_in}
 use Rattle.sim_scenario.specs.declared.events.event.AddressedEvent.{AddressedEvent}
@@ -40,7 +39,7 @@ use Rattle.sim_air_model.specs.Timetable.{Traffic}
 use Rattle.sim_air_model.specs.Timetable.{at}
 use Rattle.sim_air_model.specs.Timetable.{NoneWaits, air_opening, by_file, delivery, given}
 use Rattle.sim_air_model.specs.Timetable.{draw}
-use Rattle.sim_air_model.specs.Timetable.{is_passed_over, of_file, schedule, schedule_all, sending}
+use Rattle.sim_air_model.specs.Timetable.{is_passed_over, of_file, sending}
 use Rattle.sim_air_model.specs.Timetable.{take_one, tick}
 use Rattle.sim_air_model.specs.Timetable.{do_one, schedule_first_sends, schedule_first_ticks}
 use Rattle.sim_air_model.specs.Timetable.{schedule_send, schedule_tick}
@@ -57,7 +56,6 @@ use Rattle.sim_air.proofs.BesideOrder.{all_by, all_put}
 use Rattle.sim_air.proofs.BesideReached.{reached_later, reached_made, reached_over}
 use Rattle.sim_air.proofs.BesideSteps.{reached_coming, reached_own}
 use Rattle.sim_air.proofs.BesideTaken.{taken_all}
-use Rattle.sim_queue.proofs.Keeping.{waits_at}
 use Rattle.sim_air.proofs.Keeping.{goes_on}
 use Rattle.sim_air.proofs.BesideMade.{stations_of_run}
 use Rattle.sim_air.proofs.Among.{among_longer}
@@ -68,7 +66,6 @@ use Rattle.std.proofs.Common.{◌⊎◌, inl, inr}
 use Rattle.std.proofs.Math.Nat.{le-max_left, max-le, min-le_left}
 use Rattle.std.proofs.lemmas.Bool.{cases_lt}
 use Rattle.std.proofs.lemmas.List.{length-append}
-use denote.Ref.{Bor}
 use Rattle.sim_scenario.specs.declared.events.event.FileEvent.{FileEvent}
 
 -- there are as many stations as configs
@@ -88,102 +85,31 @@ stations_made grows rules configs made past last from end counted by run A h =
     as_many h.all h.air.done run.world A h.timed.told ∙ ap length h.are_all
     ∙ length-append configs made
 
--- ---- what waits is the air's own alone
+-- ---- what waits
 
--- what is so of all that wait, is so of those that waited before one was put
-all_before : (P : Pending → Type 0) (p : Pending) (ws : List Pending)
-    → AllByRecursion P (schedule p ws) → AllByRecursion P ws
-all_before P p [] h = tt
-all_before P p (q ∷ ws) h = by (all_before P p ws) (nat_le (at q) (at p)) h
-  where
-    by : (AllByRecursion P (schedule p ws) → AllByRecursion P ws) → (b : Bool)
-        → AllByRecursion P (cond b (q ∷ schedule p ws) (p ∷ q ∷ ws)) → AllByRecursion P (q ∷ ws)
-    by behind true on = (on.0, behind on.1)
-    by behind false on = on.1
-
-all_before_all : (P : Pending → Type 0) (ps ws : List Pending)
-    → AllByRecursion P (schedule_all ps ws) → AllByRecursion P ws
-all_before_all P [] ws h = h
-all_before_all P (p ∷ ps) ws h = all_before P p ws (all_before_all P ps (schedule p ws) h)
-
-none_of_file : (configs : List Config) (file : List Filed)
-    → AllByRecursion (IsOwnOf configs) (map of_file file) → file ≡ []
-none_of_file configs [] h = refl
-none_of_file configs (Happens e ∷ file) h =
-    let never : false ≡ true = h.0.0 in
-    let no : ⊥ = cc in absurd no
-none_of_file configs (Leaves station moment ∷ file) h = absurd h.0
-
-none_in_front : (due late : List Filed) → due ++ late ≡ [] → due ≡ []
-none_in_front [] late is = refl
-none_in_front (f ∷ due) late is = let no : ⊥ = cc in absurd no
-
--- of the air's own alone the last moment is of no account
-alone : (configs : List Config) (due : List Filed) (heap : List Scheduled) (count until last : ℕ)
-    (waiting : List Pending) → AllByRecursion (IsOwnOf configs) waiting
-    → Waits due heap count until waiting
-    → Waits [] heap count last waiting × (due ≡ [])
-alone configs due heap count until last waiting own h =
-    let none : due ++ h.late ≡ [] =
-    none_of_file configs (due ++ h.late)
-    (all_before_all (IsOwnOf configs) (map pending_of h.own) (map of_file (due ++ h.late))
-    (subst (AllByRecursion (IsOwnOf configs)) h.is own)) in (
-      record {
-        own = h.own;
-        late = [];
-        past = tt;
-        same = h.same;
-        rise = h.rise;
-        below = h.below;
-        is = h.is
-            ∙ ap (λ (l : List Filed). schedule_all (map pending_of h.own) (map of_file l)) none;
-      },
-      none_in_front due h.late none,
-    )
-
--- the first of the air's own is taken
-pub takes_alone : (configs : List Config) (old new : Queue) (words : List ℕ) (t : Timetable)
-    (w : Scheduled) → new.due ≡ old.due → new.taken ≡ old.taken → new.until ≡ old.until
+-- the first is taken
+takes_first : (old new : Queue) (words : List ℕ) (t : Timetable) (w : Scheduled)
     → new.pushed ≡ old.pushed → IsPermutation old.own (w ∷ new.own)
-    → IsUpperBound waiting_cmp w new.own
-    → AllByRecursion (IsOwnOf configs) t.waiting → Keeps old words t
+    → IsUpperBound waiting_cmp w new.own → Keeps old words t
     → (rest : List Pending) × (t.waiting ≡ pending_of w ∷ rest)
     × Keeps new words (record { waiting = rest; draws = t.draws })
-takes_alone configs old new words t w due taken until schedule moves first own h =
-    let left = drop old.taken (filed_due old) in
-    let here = alone configs left old.own old.pushed old.until w.moment t.waiting own
-    h.waits in
-    let got = waits_own w [] old.own new.own old.pushed w.moment t.waiting
-    moves first (omega arith) tt here.0 in
-    let rest : AllByRecursion (IsOwnOf configs) got.0 =
-    (subst (AllByRecursion (IsOwnOf configs)) got.1 own).1 in
-    let there = alone configs [] new.own old.pushed w.moment old.until got.0 rest got.2 in
-    let same : drop new.taken (filed_due new) ≡ [] =
-    ap (λ k. drop k (filed_due new)) taken
-    ∙ ap (λ (d : Vec (Bor FileEvent) Global). drop old.taken (filed_in d.items)) due ∙ here.1 in (
+takes_first old new words t w pushed moves first h =
+    let got = waits_own w old.own new.own old.pushed t.waiting moves first h.waits in (
       got.0,
       got.1,
       record {
-        waits = waits_at [] _ new.own old.pushed _ old.until _ got.0 same schedule until
-            there.0;
+        waits = subst (λ n. Waits new.own n got.0) (sym pushed) got.2;
         draws = h.draws;
       },
     )
 
--- none is taken: what waits is kept as before
-pub keeps_alone : (old new : Queue) (words : List ℕ) (t : Timetable) → new.due ≡ old.due
-    → new.taken ≡ old.taken → new.until ≡ old.until → new.pushed ≡ old.pushed
+-- none is taken
+takes_none : (old new : Queue) (words : List ℕ) (t : Timetable) → new.pushed ≡ old.pushed
     → new.own ≡ old.own → Keeps old words t → Keeps new words t
-keeps_alone old new words t due taken until schedule heap h =
-    let left = drop old.taken (filed_due old) in
-    let same : drop new.taken (filed_due new) ≡ left =
-    ap (λ k. drop k (filed_due new)) taken
-    ∙ ap (λ (d : Vec (Bor FileEvent) Global). drop old.taken (filed_in d.items)) due in
+takes_none old new words t pushed heap h =
     record {
-      waits = subst (λ (hs : List Scheduled). Waits (drop new.taken (filed_due new)) hs new.pushed
-          new.until t.waiting) (sym heap)
-          (waits_at left _ old.own old.pushed _ old.until _ t.waiting same schedule until
-          h.waits);
+      waits = subst (λ (hs : List Scheduled). Waits hs new.pushed t.waiting) (sym heap)
+          (subst (λ n. Waits old.own n t.waiting) (sym pushed) h.waits);
       draws = h.draws;
     }
 
@@ -205,18 +131,13 @@ waits_from configs old words t zero late own order h =
     all_by (IsOwnOf configs) (λ p. 0 ≤ at p) t.waiting (λ p any. omega arith) own
 waits_from configs old words t (suc m) late own order h =
     all_from_first m t.waiting order (waits_none old.own old.pushed m t.waiting
-    (λ k d lt. let le = late k d lt in omega (arith, le))
-    (alone configs (drop old.taken (filed_due old)) old.own old.pushed old.until m
-    t.waiting own h.waits).0)
+    (λ k d lt. let le = late k d lt in omega (arith, le)) h.waits)
 
-pub none_waits_after : (configs : List Config) (old : Queue) (words : List ℕ) (t : Timetable)
-    (end : ℕ) → All (λ w. end + 1 ≤ w.moment) old.own
-    → AllByRecursion (IsOwnOf configs) t.waiting → Keeps old words t → NoneWaits end t.waiting
-none_waits_after configs old words t end late own h =
+pub none_waits_after : (old : Queue) (words : List ℕ) (t : Timetable) (end : ℕ)
+    → All (λ w. end + 1 ≤ w.moment) old.own → Keeps old words t → NoneWaits end t.waiting
+none_waits_after old words t end late h =
     waits_none old.own old.pushed end t.waiting
-    (λ k d lt. let le = late k d lt in omega (arith, le))
-    (alone configs (drop old.taken (filed_due old)) old.own old.pushed old.until end
-    t.waiting own h.waits).0
+    (λ k d lt. let le = late k d lt in omega (arith, le)) h.waits
 
 -- ---- the deliveries that wait
 
@@ -554,19 +475,15 @@ pub is_taken : (grows : Bool) (rules : Rules) (configs made : List Config) (past
     (last from end counted by : ℕ)
     (old new : Run) (A : List Event → List Entry → Type 0) (w : Scheduled) → new.air ≡ old.air
     → new.every ≡ old.every → new.world ≡ old.world → new.present ≡ old.present
-    → new.draws ≡ old.draws → new.queue.due ≡ old.queue.due → new.queue.taken ≡ old.queue.taken
-    → new.queue.until ≡ old.queue.until → new.queue.pushed ≡ old.queue.pushed
+    → new.draws ≡ old.draws → new.queue.pushed ≡ old.queue.pushed
     → IsPermutation old.queue.own (w ∷ new.queue.own)
     → IsUpperBound waiting_cmp w new.queue.own → w.moment ≤ end
     → IsMoving grows rules configs made past last from end counted by old A
     → IsTaken grows rules configs made past from end counted by w new A
 is_taken grows rules configs made past last from end counted by old new A w air every world present
-    draws due
-    taken
-    until schedule moves first within h =
-    let got = takes_alone h.all old.queue new.queue old.draws h.air.timetable w due taken until
-    schedule
-    moves first h.reached.own h.timed.keeps in
+    draws pushed moves first within h =
+    let got = takes_first old.queue new.queue old.draws h.air.timetable w pushed moves first
+    h.timed.keeps in
     let since : AllByRecursion (λ p. last ≤ at p) (pending_of w ∷ got.0) =
     subst (AllByRecursion (λ p. last ≤ at p)) got.1 h.since in
     let near = h.near in
@@ -582,7 +499,7 @@ is_taken grows rules configs made past last from end counted by old new A w air 
       first = got.1;
       timed =
           record {
-            goes_by = goes_on h.now old new h.timed.goes_by air every until;
+            goes_by = goes_on h.now old new h.timed.goes_by air every;
             present = ap (λ (v : Vec Bool Global). v.items) present ∙ h.timed.present;
             told = subst (λ (x : WorldState). IsSimulated h.all h.air.done x A) (sym world)
                 h.timed.told;
@@ -641,8 +558,7 @@ still_taken grows rules configs made past from end counted by counted' by' old n
       first = h.first;
       timed =
           record {
-            goes_by = goes_on h.now old new h.timed.goes_by air every
-                (ap (λ (q : Queue). q.until) queue);
+            goes_by = goes_on h.now old new h.timed.goes_by air every;
             present = ap (λ (v : Vec Bool Global). v.items) present ∙ h.timed.present;
             told =
                 record {
@@ -680,10 +596,9 @@ still_taken grows rules configs made past from end counted by counted' by' old n
 -- none was taken
 pub stays_moving : (old new : Run) (A : List Event → List Entry → Type 0) → new.air ≡ old.air
     → new.every ≡ old.every → new.world ≡ old.world → new.present ≡ old.present
-    → new.draws ≡ old.draws → new.queue.due ≡ old.queue.due → new.queue.taken ≡ old.queue.taken
-    → new.queue.until ≡ old.queue.until → new.queue.pushed ≡ old.queue.pushed
+    → new.draws ≡ old.draws → new.queue.pushed ≡ old.queue.pushed
     → new.queue.own ≡ old.queue.own → StaysMoving old A new A
-stays_moving old new A air every world present draws due taken until schedule heap =
+stays_moving old new A air every world present draws pushed heap =
     λ grows rules configs made past last from end counted by h.
     record {
       all = h.all;
@@ -694,14 +609,12 @@ stays_moving old new A air every world present draws due taken until schedule he
       air = h.air;
       timed =
           record {
-            goes_by = goes_on h.now old new h.timed.goes_by air every until;
+            goes_by = goes_on h.now old new h.timed.goes_by air every;
             present = ap (λ (v : Vec Bool Global). v.items) present ∙ h.timed.present;
             told = subst (λ (x : WorldState). IsSimulated h.all h.air.done x A) (sym world)
                 h.timed.told;
             keeps = subst (λ (ws : List ℕ). Keeps new.queue ws h.air.timetable) (sym draws)
-                (keeps_alone old.queue new.queue old.draws h.air.timetable due taken until schedule
-                heap
-                h.timed.keeps);
+                (takes_none old.queue new.queue old.draws h.air.timetable pushed heap h.timed.keeps);
           };
       reached = h.reached;
       recent = h.recent;
@@ -858,8 +771,7 @@ one_made rules configs made past last from end counted by old new A c air every 
           record {
             goes_by =
                 ap (λ (r : Rules). rules_beside (c ∷ []) r.until r)
-                (goes_on h.now old new h.timed.goes_by air every
-                (ap (λ (q : Queue). q.until) queue));
+                (goes_on h.now old new h.timed.goes_by air every);
             present = present ∙ ap (λ (l : List Bool). l ++ false ∷ []) h.timed.present;
             told =
                 record {
@@ -1010,7 +922,7 @@ pub timed_at_end : (grows : Bool) (rules : Rules) (configs made : List Config) (
     → IsTimedRun (rules_beside made end rules) (configs ++ made) past run.world A
 timed_at_end grows rules configs made past last from end counted by run A late h =
     let over = reached_over grows h.now h.all h.steps past from end h.air h.reached
-    (none_waits_after h.all run.queue run.draws h.air.timetable end late h.reached.own
+    (none_waits_after run.queue run.draws h.air.timetable end late
     h.timed.keeps) in
     let same = rules_at_end rules made end h.now h.are_now in
     let here : IsTimedRun (rules_beside [] end h.now) h.all past run.world A =

@@ -8,11 +8,10 @@ use Rattle.std.specs.List.Sorted.{IsNonDecreasingBy}
 use Rattle.std.proofs.lemmas.Bool.{eqb-true, eq-eqb, ne_eqb, le-leb, lt-leb, cases_order, cases_lt}
 use Rattle.std.proofs.lemmas.List.{append-nil}
 use Rattle.std.proofs.lemmas.List.Elements.{recursion_from_All}
-use Rattle.sim_queue.specs.Due.{of_moment, AreDue}
+use Rattle.sim_air.specs.Due.{of_moment, AreDue}
 use Rattle.sim_air.specs.Beside.{Rises}
 use Rattle.sim_air_model.specs.Timetable.{moment_in}
 use Rattle.sim_air_model.specs.Timetable.{Pending, Filed, of_file, schedule, schedule_all}
-use Rattle.sim_queue.specs.Waits.{Waits}
 
 rises_sorted : (xs : List Filed) → IsNonDecreasingBy moment_in xs → Rises xs
 rises_sorted [] h = tt
@@ -261,18 +260,3 @@ due_and_late file due until h =
       subst Rises parts.2 rises,
       schedule_all_enter file [] ∙ ap (map of_file) parts.2,
     )
-
--- nothing was taken yet, and nothing of the air's own put
-pub waits_opening : (file due : List Filed) (until : ℕ) → AreDue file until due
-    → Waits due [] 0 until (schedule_all (map of_file file) [])
-waits_opening file due until h =
-    let parts = due_and_late file due until h in
-    record {
-      own = [];
-      late = parts.0;
-      past = parts.1;
-      same = λ f. refl;
-      rise = tt;
-      below = tt;
-      is = parts.3;
-    }

@@ -27,7 +27,7 @@ use Rattle.its_world.specs.declared.entry.Entry.{Entry}
 use Rattle.sim_air.specs.Outside.{Came, IsBrought, IsByMoment, IsOutside, Brings, asked_at}
 use Rattle.sim_air.specs.Outside.{asked_of, ids_of, turn_of, MayAsk, MayCome, row_move, opening_at}
 use Rattle.sim_air.specs.Outside.{IsOfStation, filed_when, station_of_filed}
-use Rattle.sim_queue.specs.Queues.{filed_of}
+use Rattle.sim_air.specs.FileEvents.{filed_of}
 use Rattle.its_gnvalue.specs.Values.{Position}
 use Rattle.its_world.specs.Events.{what_of}
 use Rattle.sim_scenario.specs.declared.events.event.FileEvent.{FileEvent}
@@ -46,7 +46,7 @@ use Rattle.sim_air.specs.declared.moving_run.MovingRun.{MovingRun}
 use Rattle.sim_air.specs.declared.moving_run.Outside.{Outside}
 use Rattle.sim_air.specs.declared.moving_run.Outside.TheVariants as outsides
 use Rattle.sim_air.proofs.BesideOrder.{all_by}
-use Rattle.sim_queue.proofs.Files.{ties_at}
+use Rattle.sim_air.proofs.FileEvents.{ties_at}
 use Rattle.sim_air.proofs.UnderRows.{same_event, some_is}
 
 -- ---- whose turn it is

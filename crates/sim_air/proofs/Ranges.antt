@@ -9,7 +9,7 @@ use Rattle.sim_scenario.specs.Airs.{moment_of}
 use Rattle.sim_scenario.specs.Events.{FitsFileEvent, speed_of}
 use Rattle.sim_scenario.specs.declared.events.event.FileEvent.{FileEvent}
 use Rattle.sim_scenario.specs.declared.events.event.FileEvent.TheVariants as files
-use Rattle.sim_queue.specs.Queues.{IsFiledInRange}
+use Rattle.sim_air.specs.FileEvents.{IsFiledInRange}
 
 what_in_range : (what : What) → IsSpeed (speed_of what) → IsInRange what
 what_in_range (whats.MoveTo place pai speed heading) h = h

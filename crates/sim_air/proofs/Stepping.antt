@@ -1,6 +1,6 @@
 -- One step of an air, as a queue takes it.
-use Rattle.std.proofs.Common.{◌≡◌, ℕ, List, [], ◌∷◌, ◌++◌, sym, ap}
-use Rattle.std.proofs.Common.{subst, drop, cond, Bool, true, false, map}
+use Rattle.std.proofs.Common.{◌≡◌, ℕ, List, [], ◌∷◌, ◌++◌, sym, ap, refl}
+use Rattle.std.proofs.Common.{subst, cond, Bool, true, false}
 use Rattle.std.specs.Prelude.{slice_get}
 use Rattle.its_model.specs.World.{Config, Event, WorldModel, opening, world_run}
 use Rattle.its_world.specs.declared.entry.Entry.{Entry}
@@ -8,14 +8,11 @@ use Rattle.sim_simulation.specs.Simulated.{IsSimulated}
 use Rattle.sim_queue.specs.declared.scheduled.Scheduled.{Scheduled}
 use Rattle.sim_queue.specs.declared.queue.Queue.{Queue}
 use Rattle.sim_air.specs.declared.run.Run.{Run}
-use Rattle.sim_queue.specs.Due.{AreDue}
 use Rattle.sim_air_model.specs.Draws.{draws_at, draws_of}
-use Rattle.sim_queue.specs.Files.{filed_due}
 use Rattle.sim_queue.specs.Keeps.{Keeps}
 use Rattle.sim_air.specs.Keeps.{IsTimed, GoesBy, follow_own}
 use Rattle.sim_queue.specs.Waiting.{happening_of}
 use Rattle.sim_air_model.specs.Timetable.{Rules, Timetable, AirModel, of_file}
-use Rattle.sim_air_model.specs.Timetable.{schedule_all}
 use Rattle.sim_air_model.specs.Timetable.{do_one, take_one, follow_tick}
 use Rattle.sim_air_model.specs.Timetable.{after_one}
 use Rattle.sim_air_model.specs.Timetable.{send_again, was_refused, by_file, present_after}
@@ -23,9 +20,6 @@ use Rattle.sim_air_model.specs.Timetable.{is_passed_over}
 use Rattle.sim_air_model.specs.Timetable.Filed.{Happens}
 use Rattle.sim_queue.specs.Traffics.{traffic_in}
 use Rattle.sim_queue.specs.Waits.{Waits, planned_of, pending_of}
-use Rattle.sim_queue.proofs.Keeping.{waits_at}
-use Rattle.sim_air.proofs.Opening.{waits_opening}
-use Rattle.sim_air_model.specs.Timetable.{Filed}
 
 -- what follows an event of the air's own
 pub follows : (w : Scheduled) (after : WorldModel) (t : Timetable) (b : Bool)
@@ -35,26 +29,19 @@ pub follows : (w : Scheduled) (after : WorldModel) (t : Timetable) (b : Bool)
 follows w after t b refused =
     sym (ap (λ (x : Bool). follow_own w x (slice_get after.stations w.station) t) refused)
 
--- nothing was taken yet
-pub keeps_opening : (queue : Queue) (words : List ℕ) (file : List Filed) (until seed : ℕ)
-    → AreDue file until (filed_due queue) → queue.taken ≡ 0 → queue.own ≡ []
-    → queue.pushed ≡ 0 → queue.until ≡ until → draws_at words ≡ draws_of seed
-    → Keeps queue words (record {
-      waiting = schedule_all (map of_file file) [];
-      draws = draws_of
-          seed;
-    })
-keeps_opening queue words file until seed due taken heap schedule last drawn =
-    let all : drop queue.taken (filed_due queue) ≡ filed_due queue =
-    ap (λ k. drop k (filed_due queue)) taken in
+-- nothing was put yet
+pub keeps_opening : (queue : Queue) (words : List ℕ) (seed : ℕ) → queue.own ≡ []
+    → queue.pushed ≡ 0 → draws_at words ≡ draws_of seed
+    → Keeps queue words (record { waiting = []; draws = draws_of seed })
+keeps_opening queue words seed heap pushed drawn =
     record {
-      waits = subst (λ (hs : List Scheduled). Waits (drop queue.taken (filed_due queue)) hs
-          queue.pushed queue.until (schedule_all (map of_file file) [])) (sym heap)
-          (waits_at (filed_due queue) _ [] 0 _ until _ (schedule_all (map of_file file) []) all
-          schedule
-          last (waits_opening file (filed_due queue) until due));
+      waits = subst (λ (hs : List Scheduled). Waits hs queue.pushed []) (sym heap)
+          (subst (λ n. Waits [] n []) (sym pushed) nothing);
       draws = sym drawn;
     }
+  where
+    nothing : Waits [] 0 []
+    nothing = record { own = []; same = λ f. refl; rise = tt; below = tt; is = refl }
 
 -- ---- what was taken is done
 

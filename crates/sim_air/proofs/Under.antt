@@ -9,7 +9,7 @@ use Rattle.sim_scenario.specs.declared.events.event.FileEvent.{FileEvent}
 use Rattle.its_world.specs.State.{WorldState}
 use Rattle.sim_simulation.specs.Simulated.{IsSimulated}
 use Rattle.sim_air.specs.AirRun.{AreAmong, events_in}
-use Rattle.sim_queue.specs.Queues.{filed_in, filed_of}
+use Rattle.sim_air.specs.FileEvents.{filed_in, filed_of}
 use Rattle.sim_air_model.specs.Timetable.{Filed}
 use Rattle.sim_air_model.specs.Timetable.Filed.{Happens, Leaves}
 use Rattle.sim_air.specs.Runs.{SaysAsBefore}

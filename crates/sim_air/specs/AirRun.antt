@@ -6,7 +6,7 @@ use Rattle.its_world.specs.State.{WorldState}
 use Rattle.sim_simulation.specs.Simulated.{IsSimulated}
 use Rattle.sim_air_model.specs.Timetable.{Filed}
 use Rattle.sim_air_model.specs.Timetable.Filed.{Happens, Leaves}
-use Rattle.sim_queue.specs.Due.{AreDue}
+use Rattle.sim_air.specs.Due.{AreDue}
 
 -- the events alone, without the leaves
 abbrev pub events_in : List Filed → List Event

@@ -6,7 +6,7 @@ use Rattle.its_world.specs.declared.entry.Entry.{Entry}
 use Rattle.sim_air.specs.Moving.{IsMoving}
 use Rattle.sim_air.specs.declared.filed_run.FiledRun.{FiledRun}
 use Rattle.sim_air_model.specs.Timetable.{Rules}
-use Rattle.sim_queue.specs.Queues.{filed_in}
+use Rattle.sim_air.specs.FileEvents.{filed_in}
 use Rattle.sim_scenario.specs.Airs.{moment_of}
 use Rattle.sim_scenario.specs.declared.events.event.FileEvent.{FileEvent}
 

@@ -31,10 +31,10 @@ pub record IsAnswered (entry : Entry) (after : WorldModel) : Type 0 where
   pub refused : was_refused after.log ≡ is_refusal answer
   pub moved : was_moved after.log ≡ is_moved answer
 
--- the air of a run goes by these rules
+-- the radio model of a run goes by these rules, except that a run has no end of its own
 abbrev pub GoesBy : Rules → Run → Type 0
 GoesBy rules run =
-    rules_of run.air (all_traffic run.every.now) run.queue.until rules.present ≡ rules
+    rules_of run.air (all_traffic run.every.now) rules.until rules.present ≡ rules
 
 -- a run that is under way stands as the air of the model does
 pub record IsTimed (rules : Rules) (configs : List Config) (a : AirModel) (run : Run)

@@ -1,3 +1,5 @@
+pub mod FileEvents
+pub mod Due
 pub mod AirRun
 pub mod Runs
 pub mod Scenarios

@@ -11,7 +11,7 @@ use Rattle.sim_scenario.specs.Airs.{end_of}
 use Rattle.sim_simulation.specs.Simulated.{IsSimulated}
 use Rattle.sim_air.specs.AirTimed.{IsTimedRun, rules_of}
 use Rattle.sim_air.specs.Moving.{IsMovedRun}
-use Rattle.sim_queue.specs.Queues.{filed_of}
+use Rattle.sim_air.specs.FileEvents.{filed_of}
 use Rattle.sim_queue.specs.Traffics.{all_traffic}
 
 -- in no air, just the scenario's events were done; in an air, just those that the timetable of its

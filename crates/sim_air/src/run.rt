@@ -17,10 +17,9 @@ ghost use Rattle.its_world.specs.Events.{IsConfig, IsInRange, config_of, event_o
 ghost use Rattle.its_world.specs.Mids.{AreApart};
 ghost use Rattle.sim_scenario.specs.Airs.{end_of, moment_of};
 ghost use Rattle.sim_simulation.specs.Simulated.{IsSimulated, IsSimulation};
-ghost use Rattle.sim_queue.specs.Due.{AreDue};
+ghost use Rattle.sim_air.specs.Due.{AreDue};
 ghost use Rattle.sim_air.specs.AirRun.{events_in};
 ghost use Rattle.sim_air.specs.AirTimed.{rules_of};
-ghost use Rattle.sim_queue.specs.Files.{SameFile, filed_due};
 ghost use Rattle.sim_queue.specs.Keeps.{Keeps};
 ghost use Rattle.sim_air.specs.Keeps.{IsAnswered, IsTimed, GoesBy, follow_own};
 ghost use Rattle.sim_air.specs.Outside.{IsDelivery};
@@ -35,7 +34,7 @@ ghost use Rattle.sim_air_model.specs.Timetable.{Rules, AirModel, spread, air_ope
 ghost use Rattle.sim_air_model.specs.Timetable.Filed.{Happens};
 ghost use Rattle.sim_air.specs.Runs.{AreIndexed, SameWorld, SaysAsBefore};
 ghost use Rattle.sim_queue.specs.PlaceIndexes.{AreStandingsOf};
-ghost use Rattle.sim_queue.specs.Queues.{filed_of, IsFiledInRange};
+ghost use Rattle.sim_air.specs.FileEvents.{filed_of, IsFiledInRange};
 ghost use Rattle.sim_queue.specs.Waiting.{happening_of, own_of};
 ghost use Rattle.sim_queue.specs.Waiting.{delivery_of};
 ghost use Rattle.sim_queue.specs.Traffics.{all_traffic};
@@ -51,7 +50,7 @@ use sim_queue::{
     AirAction, Delivery, Draws, Queue, Scheduled, is_present, schedule_coming_sends,
     schedule_coming_tick, schedule_first_ticks, schedule_tick, schedule_traffic,
 };
-use sim_scenario::events::{FileEvent, end_of};
+use sim_scenario::events::FileEvent;
 use sim_settings::{Air, Traffic};
 use sim_simulation::{EventSink, Note, do_event};
 use std::alloc::Global;
@@ -64,7 +63,7 @@ pub(crate) struct Run<'a> {
     /// What each station sends by itself.
     every: &'a [Traffic],
     pub(crate) world: World,
-    pub(crate) queue: Queue<'a>,
+    pub(crate) queue: Queue,
     draws: Draws,
     /// Which stations are present, by their numbers.
     present: Vec<bool>,
@@ -126,16 +125,13 @@ impl<'a> Run<'a> {
         present: &[bool],
         air: &Air,
         every: &[Traffic],
-    ) -> Result<(Queue<'a>, Draws), AirFault>
-        ensures until { IfOk result (λ begun. begun.0.until ≡ end_of air.now.until []) }
+    ) -> Result<(Queue, Draws), AirFault>
         ensures timed { IfOk result (λ begun. Keeps begun.0 begun.1 (air_opening
             (rules_of air.now (all_traffic every.now) (end_of air.now.until []) present.now)
             (map config_of configs.now) []).timetable) }
     {
         let mut draws = Draws::of_seed(air.seed);
-        // What comes from outside doesn't wait here: a run has a source of it.
-        let none: &[FileEvent] = &[];
-        let mut queue = Queue::of_file(alloc, none, end_of(air, none), every.len())?;
+        let mut queue = Queue::new(alloc, every.len());
         let ticking = if air.beacons { configs.len() } else { 0 };
         schedule_first_ticks(&mut queue, &mut draws, present, ticking)?;
         schedule_traffic(&mut queue, &mut draws, present, every, configs.len())?;
@@ -392,7 +388,6 @@ impl<'a> Run<'a> {
         requires moment { event.now.moment ≤ 2 ^ 63 + 10000 }
         requires kept { IsKept self.old.world.released (what_of event.now.what) }
         requires standings { AreIndexed self.old }
-        ensures file { SameFile self.old.queue self.new.queue }
         ensures released { self.new.world.released ≡ self.old.world.released }
         ensures count { length self.new.world.stations ≡ length self.old.world.stations }
         ensures standings { OnOk result (AreIndexed self.new) }
@@ -463,7 +458,6 @@ impl<'a> Run<'a> {
         requires standings { AreIndexed self.old }
         ensures world { SameWorld self.old self.new }
         ensures present { self.new.present ≡ self.old.present }
-        ensures file { SameFile self.old.queue self.new.queue }
         ensures told { OnOk result (SaysAsBefore (S.Took sink.old) (S.Took sink.new)) }
         ensures spread { (rules : Rules) (w : WorldModel) (t : Timetable) → GoesBy rules self.old →
             RepresentsWorld self.old.world w → Keeps self.old.queue self.old.draws t → OnOk result
@@ -527,7 +521,6 @@ impl<'a> Run<'a> {
     ) -> Result<(), AirFault>
         requires moment { event.now.moment ≤ 2 ^ 63 + 10000 }
         ensures world { SameWorld self.old self.new }
-        ensures file { SameFile self.old.queue self.new.queue }
         ensures told { OnOk result (SaysAsBefore (S.Took sink.old) (S.Took sink.new)) }
         ensures present { (after : WorldModel) → IsAnswered entry.now after → OnOk result
             (self.new.present.items
@@ -553,7 +546,6 @@ impl<'a> Run<'a> {
     fn admit(&mut self, event: &Event, entry: &Entry) -> Result<bool, AirFault>
         requires moment { event.now.moment ≤ 2 ^ 63 + 10000 }
         ensures world { SameWorld self.old self.new }
-        ensures file { SameFile self.old.queue self.new.queue }
         ensures present { (after : WorldModel) → IsAnswered entry.now after → OnOk result
             (self.new.present.items
             ≡ present_after self.old.present.items (event_of event.now) after) }
@@ -599,7 +591,6 @@ impl<'a> Run<'a> {
         requires moment { moment ≤ 2 ^ 63 + 10000 }
         ensures world { SameWorld self.old self.new }
         ensures present { self.new.present ≡ self.old.present }
-        ensures file { SameFile self.old.queue self.new.queue }
         ensures come { (rules : Rules) (t : Timetable) → GoesBy rules self.old →
             Keeps self.old.queue self.old.draws t → OnOk result
             (Keeps self.new.queue self.new.draws (come rules station moment t)) }
@@ -616,7 +607,6 @@ impl<'a> Run<'a> {
         requires moment { done.now.moment ≤ 2 ^ 63 + 10000 }
         ensures world { SameWorld self.old self.new }
         ensures present { self.new.present ≡ self.old.present }
-        ensures file { SameFile self.old.queue self.new.queue }
         ensures next { (w : WorldModel) (t : Timetable) (answer : Answer ℕ) →
             RepresentsWorld self.old.world w → TellsEntry entry.now answer →
             Keeps self.old.queue self.old.draws t → OnOk result
@@ -639,7 +629,6 @@ impl<'a> Run<'a> {
     fn schedule_next_tick(&mut self, tick: &Scheduled, entry: &Entry) -> Result<(), AirFault>
         ensures world { SameWorld self.old self.new }
         ensures present { self.new.present ≡ self.old.present }
-        ensures file { SameFile self.old.queue self.new.queue }
         ensures tick { (w : WorldModel) (t : Timetable) (answer : Answer ℕ) →
             RepresentsWorld self.old.world w → TellsEntry entry.now answer →
             Keeps self.old.queue self.old.draws t → OnOk result
@@ -724,7 +713,7 @@ struct GivenFrame {
 /// note of each loss, in order. A sink that uses them has a note of each delivery too.
 #[inline(always)]
 fn schedule_deliveries<S: EventSink>(
-    queue: &mut Queue<'_>,
+    queue: &mut Queue,
     draws: &mut Draws,
     loss: u8,
     given: GivenFrame,
@@ -732,7 +721,6 @@ fn schedule_deliveries<S: EventSink>(
     world: &World,
     sink: &mut S,
 ) -> Result<(), AirFault>
-    ensures file { SameFile queue.old queue.new }
     ensures told { OnOk result (SaysAsBefore (S.Took sink.old) (S.Took sink.new)) }
     ensures sent { (t : Timetable) → Keeps queue.old draws.old t → OnOk result
         (Keeps queue.new draws.new (send_all loss given.frame given.heard_at hearers.now t)) }
@@ -750,13 +738,12 @@ fn schedule_deliveries<S: EventSink>(
 /// Puts a delivery of a frame to a station, unless a draw loses it. Gives the note of it.
 #[inline(always)]
 fn schedule_delivery(
-    queue: &mut Queue<'_>,
+    queue: &mut Queue,
     draws: &mut Draws,
     loss: u8,
     given: GivenFrame,
     station: usize,
 ) -> Result<Note<'static>, AirFault>
-    ensures file { SameFile queue.old queue.new }
     ensures sent { (t : Timetable) → Keeps queue.old draws.old t → OnOk result
         (Keeps queue.new draws.new (send loss given.frame given.heard_at station t)) }
 {

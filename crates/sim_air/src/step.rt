@@ -10,7 +10,7 @@ ghost use Rattle.sim_air.specs.AirRun.{events_in};
 ghost use Rattle.sim_air.specs.Moving.{DoesAsked, DoesFiled, DoesTaken, DoesThere};
 ghost use Rattle.sim_air.specs.Moving.{LeavesOwn, TakesOwn};
 ghost use Rattle.sim_air.specs.Outside.{Delivers, opening_at, station_of_filed};
-ghost use Rattle.sim_queue.specs.Queues.{IsFiledInRange, filed_of};
+ghost use Rattle.sim_air.specs.FileEvents.{IsFiledInRange, filed_of};
 ghost use Rattle.sim_air.specs.Runs.{AreIndexed};
 ghost use Rattle.sim_queue.specs.Waiting.{own_of};
 ghost use Rattle.sim_air_model.specs.Timetable.Filed.{Happens};

@@ -70,14 +70,12 @@ count_own kind one same (w ∷ own) =
 -- as many wait as are in the heap
 counted : (kind : Pending → Bool) (one : Scheduled → Bool)
     → ((w : Scheduled) → kind (pending_of w) ≡ one w)
-    → ((e : Filed) → kind (of_file e) ≡ false)
-    → (due : List Filed) (heap : List Scheduled) (count until : ℕ) (ws : List Pending)
-    → Waits due heap count until ws → count_by kind ws ≡ count_by one heap
-counted kind one same none due heap count until ws h =
-    let file = map of_file (due ++ h.late) in
-    let a = count_put_all kind (map pending_of h.own) file in
+    → (heap : List Scheduled) (count : ℕ) (ws : List Pending)
+    → Waits heap count ws → count_by kind ws ≡ count_by one heap
+counted kind one same heap count ws h =
+    let a = count_put_all kind (map pending_of h.own) [] in
     let b = count_own kind one same h.own in
-    let c = count_file kind none (due ++ h.late) in
+    let c : count_by kind [] ≡ 0 = refl in
     let d : count_by one h.own ≡ count_by one heap = h.same (λ w. cond (one w) 1 0) in
     ap (count_by kind) h.is ∙ omega (arith, a, b, c, d)
 
@@ -96,8 +94,7 @@ pub no_tick_waits : (queue : Queue) (words : List ℕ) (t : Timetable) (station 
     ≡ (count_by (is_tick_at station) queue.own == 0)
 no_tick_waits queue words t station h =
     ap (λ (n : ℕ). n == 0)
-    (counted (is_tick_of station) (is_tick_at station) (λ w. refl) (no_tick station) _ _ _ _
-    t.waiting h.waits)
+    (counted (is_tick_of station) (is_tick_at station) (λ w. refl) _ _ t.waiting h.waits)
 
 -- and no send of a traffic
 pub no_send_waits : (queue : Queue) (words : List ℕ) (t : Timetable) (number station : ℕ)
@@ -106,5 +103,5 @@ pub no_send_waits : (queue : Queue) (words : List ℕ) (t : Timetable) (number s
     ≡ (count_by (is_send_at number station) queue.own == 0)
 no_send_waits queue words t number station h =
     ap (λ (n : ℕ). n == 0)
-    (counted (is_send_of number station) (is_send_at number station) (λ w. refl)
-    (no_send number station) _ _ _ _ t.waiting h.waits)
+    (counted (is_send_of number station) (is_send_at number station) (λ w. refl) _ _
+    t.waiting h.waits)

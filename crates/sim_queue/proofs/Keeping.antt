@@ -1,83 +1,60 @@
 -- A queue and a generator keep a timetable, once more was put or drawn.
 use Rattle.std.proofs.Common.{◌≡◌, ℕ, ◌+◌, ◌%◌, ◌<◌, List, [], ◌∷◌, ◌++◌, refl, sym, ap, ◌∙◌}
-use Rattle.std.proofs.Common.{subst, drop, cond, Bool, true, false, max}
+use Rattle.std.proofs.Common.{subst, cond, Bool, true, false, max}
 use Rattle.std.proofs.Common.{suc, length, arith}
-use Rattle.std.specs.Prelude.{nat_lt, Vec}
-use Rattle.std.specs.declared.alloc.Global.{Global}
+use Rattle.std.specs.Prelude.{nat_lt}
 use Rattle.std.specs.Prelude.{OnOk}
 use Rattle.std.proofs.Common.{Result, Ok, Err}
 use Rattle.std.specs.List.Sorted.{IsPermutation}
-use denote.Ref.{Bor}
 use Rattle.std.proofs.lemmas.Bool.{lt-ltb, ltb-true}
 use Rattle.rand_core.specs.Stream.{Stream, next_u64}
-use Rattle.sim_scenario.specs.declared.events.event.FileEvent.{FileEvent}
 use Rattle.sim_queue.specs.declared.scheduled.AirAction.TheVariants as owns
 use Rattle.sim_queue.specs.declared.scheduled.Scheduled.{Scheduled}
 use Rattle.sim_queue.specs.declared.queue.Queue.{Queue}
 use Rattle.sim_air_model.specs.Draws.{draws_at}
-use Rattle.sim_queue.specs.Files.{SameFile, filed_due}
 use Rattle.sim_queue.specs.Keeps.{Keeps}
-use Rattle.sim_queue.specs.Queues.{filed_in}
 use Rattle.sim_air_model.specs.Timetable.{Timetable, Planned, draw, draw_and_schedule, draw_alone}
 use Rattle.sim_air_model.specs.Timetable.{delivery, send}
 use Rattle.sim_air_model.specs.Timetable.{send_all, tick}
 use Rattle.sim_air_model.specs.Timetable.{schedule_alone, schedule_traffic, schedule_first_sends}
 use Rattle.sim_air_model.specs.Timetable.{Pending}
-use Rattle.sim_air_model.specs.Timetable.{Filed}
 use Rattle.sim_air_model.specs.Timetable.{Traffic, come_sending, come_sending_all}
 use Rattle.sim_settings.specs.declared.traffic.Traffic.{Traffic as Flow}
 use Rattle.sim_queue.specs.Traffics.{traffic_of, traffic_from}
 use Rattle.sim_queue.specs.Waits.{Waits, planned_of}
 use Rattle.sim_queue.proofs.Waits.{waits_put}
 
--- the same, told otherwise
-pub waits_at : (due due' : List Filed) (heap : List Scheduled) (n n' until until' : ℕ)
-    (ws : List Pending) → due' ≡ due → n' ≡ n → until' ≡ until → Waits due heap n until ws
-    → Waits due' heap n' until' ws
-waits_at due due' heap n n' until until' ws d e u h =
-    subst (λ (x : List Filed). Waits x heap n' until' ws) (sym d)
-    (subst (λ x. Waits due heap x until' ws) (sym e)
-    (subst (λ x. Waits due heap n x ws) (sym u) h))
-
--- the events of the file that are left
-left_same : (old new : Queue) → SameFile old new
-    → drop new.taken (filed_due new) ≡ drop old.taken (filed_due old)
-left_same old new same =
-    ap (λ k. drop k (filed_due new)) same.taken
-    ∙ ap (λ (d : Vec (Bor FileEvent) Global). drop old.taken (filed_in d.items)) same.due
+-- the same, of a number that is the same
+waits_at : (heap : List Scheduled) (n n' : ℕ) (ws : List Pending) → n' ≡ n → Waits heap n ws
+    → Waits heap n' ws
+waits_at heap n n' ws same h = subst (λ x. Waits heap x ws) (sym same) h
 
 -- one more was put, by one draw
 pub keeps_put : (old new : Queue) (before after : List ℕ) (t : Timetable) (x : Scheduled)
     (p : Planned)
-    → SameFile old new → IsPermutation (x ∷ old.own) new.own
+    → IsPermutation (x ∷ old.own) new.own
     → new.pushed ≡ old.pushed + 1 → x.place ≡ old.pushed → planned_of x ≡ p
     → draws_at after ≡ (next_u64 (draws_at before)).1
     → Keeps old before t → Keeps new after (draw_and_schedule p t)
-keeps_put old new before after t x p same moves count place is drawn h =
+keeps_put old new before after t x p moves count place is drawn h =
     record {
-      waits = subst (λ (q : Planned). Waits (drop new.taken (filed_due new))
-          new.own new.pushed new.until (draw_and_schedule q t).waiting) is
-          (waits_at (drop old.taken (filed_due old)) _ new.own (old.pushed + 1) _
-          old.until _ _ (left_same old new same) count same.until
-          (waits_put (drop old.taken (filed_due old)) old.own
-          new.own old.pushed old.until t.waiting x moves place h.waits));
+      waits = subst (λ (q : Planned). Waits new.own new.pushed (draw_and_schedule q t).waiting) is
+          (waits_at new.own (old.pushed + 1) _ _ count
+          (waits_put old.own new.own old.pushed t.waiting x moves place h.waits));
       draws = ap (λ (s : Stream). (next_u64 s).1) h.draws ∙ sym drawn;
     }
 
 -- one more was put, and none was drawn
 pub keeps_put_alone : (old new : Queue) (words : List ℕ) (t : Timetable) (x : Scheduled)
     (p : Planned)
-    → SameFile old new → IsPermutation (x ∷ old.own) new.own
+    → IsPermutation (x ∷ old.own) new.own
     → new.pushed ≡ old.pushed + 1 → x.place ≡ old.pushed → planned_of x ≡ p
     → Keeps old words t → Keeps new words (schedule_alone p t)
-keeps_put_alone old new words t x p same moves count place is h =
+keeps_put_alone old new words t x p moves count place is h =
     record {
-      waits = subst (λ (q : Planned). Waits (drop new.taken (filed_due new))
-          new.own new.pushed new.until (schedule_alone q t).waiting) is
-          (waits_at (drop old.taken (filed_due old)) _ new.own (old.pushed + 1) _
-          old.until _ _ (left_same old new same) count same.until
-          (waits_put (drop old.taken (filed_due old)) old.own
-          new.own old.pushed old.until t.waiting x moves place h.waits));
+      waits = subst (λ (q : Planned). Waits new.own new.pushed (schedule_alone q t).waiting) is
+          (waits_at new.own (old.pushed + 1) _ _ count
+          (waits_put old.own new.own old.pushed t.waiting x moves place h.waits));
       draws = h.draws;
     }
 
@@ -149,7 +126,7 @@ keeps_lost queue before after t loss frame moment station drawn lost h =
     (keeps_draw queue before after t drawn h)
 
 pub keeps_sent : (old new : Queue) (before after : List ℕ) (t : Timetable)
-    (loss frame moment station : ℕ) → SameFile old new
+    (loss frame moment station : ℕ)
     → IsPermutation (record {
       moment = moment;
       place = old.pushed;
@@ -161,7 +138,7 @@ pub keeps_sent : (old new : Queue) (before after : List ℕ) (t : Timetable)
     → new.pushed ≡ old.pushed + 1 → draws_at after ≡ (next_u64 (draws_at before)).1
     → ((next_u64 (draws_at before)).0 % 100 < loss → ⊥) → Keeps old before t
     → Keeps new after (send loss frame moment station t)
-keeps_sent old new before after t loss frame moment station same moves count drawn kept h =
+keeps_sent old new before after t loss frame moment station moves count drawn kept h =
     let is : nat_lt (draw t % 100) loss ≡ false =
     ap (λ n. nat_lt (n % 100) loss) (drawn_is old before t h)
     ∙ no_less ((next_u64 (draws_at before)).0 % 100) loss kept in
@@ -169,7 +146,7 @@ keeps_sent old new before after t loss frame moment station same moves count dra
     (draw_and_schedule (delivery frame moment station) t))) (sym is)
     (keeps_put old new before after t
     (record { moment = moment; place = old.pushed; station = station; own = owns.Deliver frame })
-    (delivery frame moment station) same moves count refl refl drawn h)
+    (delivery frame moment station) moves count refl refl drawn h)
   where
     no_less : (a b : ℕ) → (a < b → ⊥) → nat_lt a b ≡ false
     no_less a b never = by (nat_lt a b) refl

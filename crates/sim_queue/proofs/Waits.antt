@@ -1,11 +1,11 @@
 -- What waits, once one more was put or the first was taken.
 use Rattle.std.proofs.Common.{◌≡◌, ℕ, ◌+◌, ◌<◌, ◌≤◌, List, [], ◌∷◌, ◌++◌, map, refl, sym, ap}
 use Rattle.std.proofs.Common.{◌∙◌, arith, Bool, true, false, not, cond, ◌&&◌, subst, tests}
-use Rattle.std.specs.Prelude.{sum_by, count_by, ◌==◌, All, nat_le, nat_lt}
+use Rattle.std.specs.Prelude.{sum_by, count_by, ◌==◌, All, nat_lt}
 use Rattle.std.specs.List.{AllByRecursion}
 use Rattle.std.specs.List.Sorted.{IsPermutation}
 use Rattle.std.specs.BinaryHeap.{IsUpperBound, lt_by_cmp}
-use Rattle.std.proofs.lemmas.Bool.{eqb-true, eq-eqb, and_parts, and_from, le-leb, leb-true, lt-ltb}
+use Rattle.std.proofs.lemmas.Bool.{eqb-true, eq-eqb, and_parts, and_from, lt-ltb}
 use Rattle.std.proofs.lemmas.Bool.{ltb-true}
 use Rattle.std.proofs.lemmas.List.{map-append}
 use Rattle.std.proofs.lemmas.List.Elements.{recursion_from_All}
@@ -17,11 +17,10 @@ use Rattle.sim_queue.specs.declared.scheduled.AirAction.{AirAction}
 use Rattle.sim_queue.specs.declared.scheduled.AirAction.TheVariants as owns
 use Rattle.sim_queue.specs.declared.scheduled.Scheduled.{Scheduled}
 use Rattle.sim_queue.specs.Waiting.{waiting_cmp}
-use Rattle.sim_air_model.specs.Timetable.{of_file, schedule, schedule_all, NoneWaits}
-use Rattle.sim_air_model.specs.Timetable.{moment_in}
+use Rattle.sim_air_model.specs.Timetable.{schedule, schedule_all, NoneWaits}
 use Rattle.sim_queue.specs.Waits.{Waits, PlacesRise, pending_of}
-use Rattle.sim_air_model.specs.Timetable.{at, Pending, Filed}
-use Rattle.sim_air_model.proofs.Putting.{schedule_all_push, schedule_all_first, schedule_all_behind}
+use Rattle.sim_air_model.specs.Timetable.{at, Pending}
+use Rattle.sim_air_model.proofs.Putting.{schedule_all_push, schedule_all_first}
 use Rattle.sim_air_model.proofs.Putting.{schedule_all_above}
 
 -- ---- what is the same
@@ -273,16 +272,13 @@ bounded w (x ∷ xs) h = (ap not h.0, bounded w xs h.1)
 
 -- ---- what waits
 
--- one of the air's own was put
-pub waits_put : (due : List Filed) (heap new : List Scheduled) (count until : ℕ)
-    (waiting : List Pending) (x : Scheduled) → IsPermutation (x ∷ heap) new → x.place ≡ count
-    → Waits due heap count until waiting → Waits due new (count + 1) until
-    (schedule (pending_of x) waiting)
-waits_put due heap new count until waiting x moves place h =
+-- one more was put
+pub waits_put : (heap new : List Scheduled) (count : ℕ) (waiting : List Pending) (x : Scheduled)
+    → IsPermutation (x ∷ heap) new → x.place ≡ count → Waits heap count waiting
+    → Waits new (count + 1) (schedule (pending_of x) waiting)
+waits_put heap new count waiting x moves place h =
     record {
       own = h.own ++ x ∷ [];
-      late = h.late;
-      past = h.past;
       same = λ f.
           let a = sum_by-IsPermutation f (x ∷ heap) new moves in
           let b = sum_by-cons f x heap in
@@ -295,61 +291,15 @@ waits_put due heap new count until waiting x moves place h =
           (weaker (λ w. w.place < count) (λ w. w.place < count + 1)
           (λ w lt. omega (arith, lt)) h.own h.below) (omega (arith, place));
       is = ap (schedule (pending_of x)) h.is
-          ∙ sym (schedule_all_push (map pending_of h.own) (pending_of x)
-          (map of_file (due ++ h.late)))
-          ∙ ap (λ (l : List Pending). schedule_all l (map of_file (due ++ h.late)))
-          (sym (map-append pending_of h.own (x ∷ [])));
+          ∙ sym (schedule_all_push (map pending_of h.own) (pending_of x) [])
+          ∙ ap (λ (l : List Pending). schedule_all l []) (sym (map-append pending_of h.own (x ∷ [])));
     }
 
--- the first event of the file is taken
-pub waits_file : (e : Filed) (due : List Filed) (heap : List Scheduled) (count until : ℕ)
-    (waiting : List Pending) → All (λ w. (moment_in e) ≤ w.moment) heap
-    → Waits (e ∷ due) heap count until waiting
-    → (rest : List Pending) × (waiting ≡ of_file e ∷ rest) × Waits due heap count until rest
-waits_file e due heap count until waiting first h =
-    let ws = map of_file (due ++ h.late) in
-    let ps = map pending_of h.own in
-    let p : Scheduled → Bool = λ w. nat_le (moment_in e) w.moment in
-    let all : AllTrue p h.own = all_same p h.own heap h.same
-    (weaker (λ w. (moment_in e) ≤ w.moment) (λ w. p w ≡ true) (λ w le. le-leb (moment_in e) w.moment
-    le) heap
-    (recursion_from_All (λ w. (moment_in e) ≤ w.moment) heap first)) in
-    let behind : AllByRecursion (λ q. (moment_in e) ≤ at q) ps =
-    all_put (λ q. (moment_in e) ≤ at q) h.own
-    (weaker (λ w. p w ≡ true) (λ w. (moment_in e) ≤ w.moment) (λ w is. leb-true (moment_in e)
-    w.moment is)
-    h.own all) in (
-      schedule_all ps ws,
-      h.is ∙ schedule_all_behind ps (of_file e) ws behind,
-      record {
-        own = h.own;
-        late = h.late;
-        past = h.past;
-        same = h.same;
-        rise = h.rise;
-        below = h.below;
-        is = refl;
-      },
-    )
-
--- the first of the file's events that wait is later
-abbrev pub FileIsLater : ℕ → List Filed → Type 0
-FileIsLater m [] = Unit {0}
-FileIsLater m (e ∷ due) = m < (moment_in e)
-
-file_later : (m until : ℕ) (due late : List Filed) → FileIsLater m due → m ≤ until
-    → AllByRecursion (λ e. until < (moment_in e)) late → NoneWaits m (map of_file (due ++ late))
-file_later m until (e ∷ due) late h le past = h
-file_later m until [] [] h le past = tt
-file_later m until [] (e ∷ late) h le past =
-    let gt : until < (moment_in e) = past.0 in omega (arith, le, gt)
-
--- the first of the air's own is taken
-pub waits_own : (w : Scheduled) (due : List Filed) (heap new : List Scheduled) (count until : ℕ)
-    (waiting : List Pending) → IsPermutation heap (w ∷ new) → IsUpperBound waiting_cmp w new
-    → w.moment ≤ until → FileIsLater w.moment due → Waits due heap count until waiting
-    → (rest : List Pending) × (waiting ≡ pending_of w ∷ rest) × Waits due new count until rest
-waits_own w due heap new count until waiting moves first le later h =
+-- the first is taken
+pub waits_own : (w : Scheduled) (heap new : List Scheduled) (count : ℕ) (waiting : List Pending)
+    → IsPermutation heap (w ∷ new) → IsUpperBound waiting_cmp w new → Waits heap count waiting
+    → (rest : List Pending) × (waiting ≡ pending_of w ∷ rest) × Waits new count rest
+waits_own w heap new count waiting moves first h =
     let sums : Same h.own (w ∷ new) = λ f. h.same f
     ∙ sym (sum_by-IsPermutation f heap (w ∷ new) moves) in
     let one : one_same w w ≡ 1 =
@@ -359,7 +309,6 @@ waits_own w due heap new count until waiting moves first le later h =
     let at' = find w h.own (omega (arith, one, here, there)) in
     let us = at'.0 in
     let vs = at'.1 in
-    let ws = map of_file (due ++ h.late) in
     let all : AllTrue (comes_first w) (us ++ w ∷ vs) =
     subst (AllTrue (comes_first w)) at'.2
     (all_same (comes_first w) h.own (w ∷ new) sums (first_self w, bounded w new first)) in
@@ -374,18 +323,15 @@ waits_own w due heap new count until waiting moves first le later h =
     (weaker (λ y. comes_first w y ≡ true) (λ y. w.moment ≤ y.moment) (λ y. first_no_later w y) vs
     (tail (λ y. comes_first w y ≡ true) w vs (all_back (λ y. comes_first w y ≡ true) us (w ∷ vs)
     all))) in (
-      schedule_all (map pending_of (us ++ vs)) ws,
-      h.is ∙ ap (λ (l : List Scheduled). schedule_all (map pending_of l) ws) at'.2
-          ∙ ap (λ (l : List Pending). schedule_all l ws) (map-append pending_of us (w ∷ vs))
-          ∙ schedule_all_first (map pending_of us) (pending_of w) (map pending_of vs) ws above
-          behind
-          (file_later w.moment until due h.late later le h.past)
-          ∙ ap (λ (l : List Pending). pending_of w ∷ schedule_all l ws)
+      schedule_all (map pending_of (us ++ vs)) [],
+      h.is ∙ ap (λ (l : List Scheduled). schedule_all (map pending_of l) []) at'.2
+          ∙ ap (λ (l : List Pending). schedule_all l []) (map-append pending_of us (w ∷ vs))
+          ∙ schedule_all_first (map pending_of us) (pending_of w) (map pending_of vs) [] above
+          behind tt
+          ∙ ap (λ (l : List Pending). pending_of w ∷ schedule_all l [])
           (sym (map-append pending_of us vs)),
       record {
         own = us ++ vs;
-        late = h.late;
-        past = h.past;
         same = λ f.
             let a = sums f in
             let b = sum_by-cons f w new in
@@ -408,16 +354,14 @@ waits_own w due heap new count until waiting moves first le later h =
 
 -- nothing is taken
 pub waits_none : (heap : List Scheduled) (count until : ℕ) (waiting : List Pending)
-    → All (λ w. until < w.moment) heap → Waits [] heap count until waiting
-    → NoneWaits until waiting
+    → All (λ w. until < w.moment) heap → Waits heap count waiting → NoneWaits until waiting
 waits_none heap count until waiting past h =
     let p : Scheduled → Bool = λ w. nat_lt until w.moment in
     let all : AllTrue p h.own = all_same p h.own heap h.same
     (weaker (λ w. until < w.moment) (λ w. p w ≡ true) (λ w lt. lt-ltb until w.moment lt) heap
     (recursion_from_All (λ w. until < w.moment) heap past)) in
     subst (NoneWaits until) (sym h.is)
-    (schedule_all_above until (map pending_of h.own) (map of_file h.late)
-    (file_later until until [] h.late tt (omega arith) h.past)
+    (schedule_all_above until (map pending_of h.own) [] tt
     (all_put (λ q. until < at q) h.own
     (weaker (λ w. p w ≡ true) (λ w. until < w.moment) (λ w is. ltb-true until w.moment is) h.own
     all)))

@@ -3,9 +3,6 @@ pub mod Waiting
 pub mod Counted
 pub mod Line
 pub mod Waits
-pub mod Queues
-pub mod Files
-pub mod Due
 pub mod Keeps
 pub mod Reach
 pub mod PlaceIndexes

@@ -1,6 +1,5 @@
-//! What waits in an air, each at its moment and those of one moment in the order in which they were
-//! put: the events of a file, and what the air does by itself, ticks, sends and deliveries; and the
-//! draws that say when.
+//! What a radio model has waiting: ticks, sends and deliveries, in the order of time and then of
+//! putting. And the random numbers that set the times.
 #![tactic(auto)]
 
 mod draws;
@@ -16,7 +15,7 @@ mod scheduling;
 pub use draws::Draws;
 pub use fault::QueueFault;
 pub use own_events::OwnEvents;
-pub use queue::{Next, Queue};
+pub use queue::Queue;
 pub use receivers::Receivers;
 pub use scheduled::{AirAction, Delivery, Scheduled};
 pub use scheduling::{

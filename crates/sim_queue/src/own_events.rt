@@ -1,4 +1,4 @@
-//! The air's own events that wait: deliveries stand in a line, all else on a heap.
+//! The events that wait: deliveries in a line, all others on a heap.
 
 ghost use Rattle.std.specs.Prelude.{◌≡◌, ◌≤◌, ◌<◌, ◌∷◌, [], All, ◌==◌, count_by};
 ghost use Rattle.std.specs.Prelude.{IfSome, IfNone, OnOk, OnErr, IsTrue, false};
@@ -18,16 +18,16 @@ use std::alloc::Global;
 use std::collections::{BinaryHeap, VecDeque};
 use std::marker::Model;
 
-/// The air's own events that wait. All deliveries of a frame have one moment, and a frame that is
-/// given later is delivered no sooner: so deliveries stand in a line, in the order in which they
-/// are taken, and none has to be looked for. Ticks and sends come in any order.
+/// The events that wait. All deliveries of a frame have one time, and a frame that is sent later is
+/// not delivered earlier. So deliveries are in a line, in the order in which they are taken, and
+/// need no search. Ticks and sends come in any order.
 #[derive(Debug, Drop)]
 pub struct OwnEvents {
-    /// Ticks and sends, and a delivery that doesn't come behind all in line.
+    /// Ticks and sends, and each delivery that can't go to the end of the line.
     heap: BinaryHeap<Scheduled>,
-    /// Deliveries, the first in front.
+    /// Deliveries, in the order in which they are taken.
     line: VecDeque<Delivery>,
-    /// How many wait of each kind, at each station. In line is none of these.
+    /// How many of each kind wait at each station. The line has none that are counted.
     counts: Counts,
 }
 
@@ -47,7 +47,7 @@ impl Model for OwnEvents {
 }
 
 impl OwnEvents {
-    /// None, in an air with so many kinds that are counted.
+    /// No events. This number of kinds is counted.
     pub fn new(alloc: Global, kinds: usize) -> OwnEvents
         ensures { result ≡ [] }
     {
@@ -58,8 +58,9 @@ impl OwnEvents {
         }
     }
 
-    /// Puts on the heap what a station does at a moment, before which so many were put. It is
-    /// counted only where there is room for it, so that each that is counted waits.
+    /// Puts what a station does at a time on the heap. `place` is the number of events that were
+    /// put before. An event is counted only after memory for it was reserved, so that each one that
+    /// is counted waits.
     pub fn push(
         &mut self,
         moment: u64,
@@ -87,7 +88,8 @@ impl OwnEvents {
         Ok(())
     }
 
-    /// Puts a delivery: in line where it comes behind all that stand there, else on the heap.
+    /// Puts a delivery: at the end of the line if it is taken after all that are there, otherwise
+    /// on the heap.
     #[inline(always)]
     pub fn push_delivery(&mut self, delivery: Delivery) -> Result<(), QueueFault>
         ensures put { OnOk result (IsPermutation (delivery_of delivery ∷ self.old) self.new) }
@@ -102,24 +104,8 @@ impl OwnEvents {
         }
     }
 
-    /// Takes the first, if it stands in line and its moment lies before this one.
-    pub fn pop_delivery_before(&mut self, moment: u64) -> Option<Delivery>
-        ensures before { IfSome result (λ delivery. delivery.moment < moment) }
-        ensures first { IfSome result (λ delivery.
-            IsUpperBound waiting_cmp (delivery_of delivery) self.new) }
-        ensures left { IfSome result (λ delivery.
-            IsPermutation self.old (delivery_of delivery ∷ self.new)) }
-        ensures none { IfNone result (self.new ≡ self.old) }
-    {
-        if is_line_first(&self.heap, &self.line) {
-            pop_line(&mut self.line, moment)
-        } else {
-            None
-        }
-    }
-
-    /// The stations that receive the frame of a delivery that was just taken: its own, and those that
-    /// come next in line.
+    /// The stations that receive the frame of a delivery that was just taken: its own, and those
+    /// that come next in line.
     pub fn receivers(&self, delivery: &Delivery) -> Receivers {
         let mut receivers = Receivers::none();
         receivers.add(delivery.station);
@@ -132,7 +118,7 @@ impl OwnEvents {
         receivers
     }
 
-    /// Takes the first, if its moment lies before this one.
+    /// Takes the first event, if its time is before this one.
     #[inline(always)]
     pub fn pop_before(&mut self, moment: u64) -> Option<Scheduled>
         ensures before { IfSome result (λ event. event.moment < moment) }
@@ -165,8 +151,7 @@ impl OwnEvents {
         self.has_none(Kind::Send(number), station)
     }
 
-    /// Whether none of a kind waits at a station. Where these aren't counted, all on the heap are
-    /// looked through.
+    /// Whether no event of a kind waits at a station. Searches the heap if the kind isn't counted.
     fn has_none(&self, kind: Kind, station: usize) -> bool
         ensures { result ≡ (count_by (is_of_kind_at kind station) self.now == 0) }
     {
@@ -176,7 +161,7 @@ impl OwnEvents {
         }
     }
 
-    /// How many of a kind wait at a station, if these are counted.
+    /// Returns how many of a kind wait at a station, if they are counted.
     fn counted(&self, kind: Kind, station: usize) -> Option<usize>
         ensures { IfSome result (λ count.
             count ≡ count_by (is_of_kind_at kind station) self.now) }
@@ -185,7 +170,7 @@ impl OwnEvents {
     }
 }
 
-/// Whether a delivery comes behind all that stand in line.
+/// Whether a delivery is taken after all that are in the line.
 #[inline(always)]
 fn is_behind(line: &VecDeque<Delivery>, delivery: &Delivery) -> bool
     requires { StandInLine (in_line line.now.items) }
@@ -197,7 +182,7 @@ fn is_behind(line: &VecDeque<Delivery>, delivery: &Delivery) -> bool
     }
 }
 
-/// Whether the first of all that wait stands in line, and not on the heap.
+/// Whether the first event that is taken is in the line, and not on the heap.
 #[inline(always)]
 fn is_line_first(heap: &BinaryHeap<Scheduled>, line: &VecDeque<Delivery>) -> bool
     requires heap { IsHeap waiting_cmp (heap_items heap.now) }
@@ -214,7 +199,7 @@ fn is_line_first(heap: &BinaryHeap<Scheduled>, line: &VecDeque<Delivery>) -> boo
     }
 }
 
-/// Takes the first in line, if its moment lies before this one.
+/// Takes the first in the line, if its time is before this one.
 #[inline(always)]
 fn pop_line(line: &mut VecDeque<Delivery>, moment: u64) -> Option<Delivery>
     ensures taken { IfSome result (λ first. line.old.items ≡ first ∷ line.new.items) }
@@ -228,7 +213,7 @@ fn pop_line(line: &mut VecDeque<Delivery>, moment: u64) -> Option<Delivery>
     }
 }
 
-/// Takes the first on the heap, if its moment lies before this one.
+/// Takes the first on the heap, if its time is before this one.
 fn pop_heap(heap: &mut BinaryHeap<Scheduled>, moment: u64) -> Option<Scheduled>
     requires { IsHeap waiting_cmp (heap_items heap.old) }
     ensures order { IsHeap waiting_cmp (heap_items heap.new) }
@@ -250,7 +235,7 @@ fn pop_heap(heap: &mut BinaryHeap<Scheduled>, moment: u64) -> Option<Scheduled>
     }
 }
 
-/// How many of these are of a kind, at a station.
+/// Returns how many of these are of a kind, at a station.
 fn count_of(own: &[Scheduled], kind: Kind, station: usize) -> usize
     ensures count { result ≡ count_by (is_of_kind_at kind station) own.now }
 {

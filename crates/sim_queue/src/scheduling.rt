@@ -1,13 +1,12 @@
-//! What an air puts of its own where it begins and where a station comes: ticks, and the sends of
-//! its traffic. Moments are in milliseconds; `TooManyEvents` is answered where 2^64 were put, and
-//! `OutOfMemory` where an allocation failed.
+//! What a radio model plans at its start and when a station comes: ticks, and the sends of its
+//! traffic. Times are in milliseconds. The error is `TooManyEvents` if 2^64 events were put, and
+//! `OutOfMemory` if an allocation failed.
 
 ghost use Rattle.std.specs.Prelude.{◌≡◌, ◌≤◌, ◌+◌, ◌^◌, OnOk, cond};
 ghost use Rattle.sim_air_model.specs.Timetable.{Timetable, come_sending, come_sending_all};
 ghost use Rattle.sim_air_model.specs.Timetable.{come_ticking, is_present, schedule_first_sends};
 ghost use Rattle.sim_air_model.specs.Timetable.{schedule_first_ticks, schedule_send};
 ghost use Rattle.sim_air_model.specs.Timetable.{schedule_tick, schedule_traffic};
-ghost use Rattle.sim_queue.specs.Files.{SameFile};
 ghost use Rattle.sim_queue.specs.Keeps.{Keeps};
 ghost use Rattle.sim_queue.specs.Traffics.{all_traffic, traffic_of};
 
@@ -17,8 +16,8 @@ use crate::queue::Queue;
 use crate::scheduled::AirAction;
 use sim_settings::Traffic;
 
-/// Whether the station of this number is present; `present` has that by numbers. One that there
-/// isn't is absent.
+/// Whether the station of this number is present, by `present`, which has an element per station. A
+/// station that doesn't exist is absent.
 pub fn is_present(present: &[bool], station: usize) -> bool
     ensures { result ≡ is_present present.now station }
 {
@@ -28,15 +27,13 @@ pub fn is_present(present: &[bool], station: usize) -> bool
     }
 }
 
-/// Puts the first tick of each of the first `count` stations that is present: at its jitter, a draw
-/// each.
+/// Puts the first tick of each of the first `count` stations that is present, at a random jitter.
 pub fn schedule_first_ticks(
-    queue: &mut Queue<'_>,
+    queue: &mut Queue,
     draws: &mut Draws,
     present: &[bool],
     count: usize,
 ) -> Result<(), QueueFault>
-    ensures file { SameFile queue.old queue.new }
     ensures ticks { (t : Timetable) → Keeps queue.old draws.old t → OnOk result
         (Keeps queue.new draws.new (schedule_first_ticks present.now count t)) }
 {
@@ -48,12 +45,11 @@ pub fn schedule_first_ticks(
 
 /// Puts the first tick of a station, if it is present.
 fn schedule_first_tick(
-    queue: &mut Queue<'_>,
+    queue: &mut Queue,
     draws: &mut Draws,
     present: &[bool],
     station: usize,
 ) -> Result<(), QueueFault>
-    ensures file { SameFile queue.old queue.new }
     ensures tick { (t : Timetable) → Keeps queue.old draws.old t → OnOk result
         (Keeps queue.new draws.new (cond (is_present present.now station)
         (schedule_tick station 0 0 t) t)) }
@@ -65,16 +61,15 @@ fn schedule_first_tick(
     }
 }
 
-/// Puts the first sends of each traffic, in order: of each of the first `count` stations that is
-/// present, at a draw below its period each.
+/// Puts the first sends of each traffic, in order: one for each of the first `count` stations that
+/// is present, at a random time below the period.
 pub fn schedule_traffic(
-    queue: &mut Queue<'_>,
+    queue: &mut Queue,
     draws: &mut Draws,
     present: &[bool],
     every: &[Traffic],
     count: usize,
 ) -> Result<(), QueueFault>
-    ensures file { SameFile queue.old queue.new }
     ensures sends { (t : Timetable) → Keeps queue.old draws.old t → OnOk result
         (Keeps queue.new draws.new (schedule_traffic present.now (all_traffic every.now) count t)) }
 {
@@ -84,17 +79,16 @@ pub fn schedule_traffic(
     Ok(())
 }
 
-/// Puts the first send of the traffic of a number of each of so many stations that is present, in
-/// order.
+/// Puts the first sends of the traffic of a number: one for each of the first `count` stations that
+/// is present, in order.
 fn schedule_first_sends(
-    queue: &mut Queue<'_>,
+    queue: &mut Queue,
     draws: &mut Draws,
     present: &[bool],
     number: usize,
     traffic: &Traffic,
     count: usize,
 ) -> Result<(), QueueFault>
-    ensures file { SameFile queue.old queue.new }
     ensures sends { (t : Timetable) → Keeps queue.old draws.old t → OnOk result
         (Keeps queue.new draws.new (schedule_first_sends present.now (traffic_of number traffic.now)
         count t)) }
@@ -107,14 +101,13 @@ fn schedule_first_sends(
 
 /// Puts the first send of the traffic of a number by a station, if it is present.
 fn schedule_first_send(
-    queue: &mut Queue<'_>,
+    queue: &mut Queue,
     draws: &mut Draws,
     present: &[bool],
     number: usize,
     traffic: &Traffic,
     station: usize,
 ) -> Result<(), QueueFault>
-    ensures file { SameFile queue.old queue.new }
     ensures send { (t : Timetable) → Keeps queue.old draws.old t → OnOk result
         (Keeps queue.new draws.new (cond (is_present present.now station)
         (schedule_send (traffic_of number traffic.now) station 0 t) t)) }
@@ -126,17 +119,16 @@ fn schedule_first_send(
     }
 }
 
-/// Puts the first tick of a station that comes, where there are beacons and none waits: later by
-/// its jitter.
+/// Puts the first tick of a station that comes, a random jitter later, if there are beacons and no
+/// tick of it waits.
 pub fn schedule_coming_tick(
-    queue: &mut Queue<'_>,
+    queue: &mut Queue,
     draws: &mut Draws,
     beacons: bool,
     station: usize,
     moment: u64,
 ) -> Result<(), QueueFault>
     requires moment { moment ≤ 2 ^ 63 + 10000 }
-    ensures file { SameFile queue.old queue.new }
     ensures tick { (t : Timetable) → Keeps queue.old draws.old t → OnOk result
         (Keeps queue.new draws.new (come_ticking beacons station moment t)) }
 {
@@ -150,16 +142,16 @@ pub fn schedule_coming_tick(
     }
 }
 
-/// Puts the first sends of a station that comes: of each traffic, in order, where none waits.
+/// Puts the first sends of a station that comes: one for each traffic, in order, if none of it
+/// waits.
 pub fn schedule_coming_sends(
-    queue: &mut Queue<'_>,
+    queue: &mut Queue,
     draws: &mut Draws,
     every: &[Traffic],
     station: usize,
     moment: u64,
 ) -> Result<(), QueueFault>
     requires moment { moment ≤ 2 ^ 63 + 10000 }
-    ensures file { SameFile queue.old queue.new }
     ensures sends { (t : Timetable) → Keeps queue.old draws.old t → OnOk result
         (Keeps queue.new draws.new (come_sending_all (all_traffic every.now) station moment t)) }
 {
@@ -169,9 +161,9 @@ pub fn schedule_coming_sends(
     Ok(())
 }
 
-/// Puts the first send of one traffic, where none waits: later by a draw below the period.
+/// Puts the first send of one traffic, a random time below the period later, if none of it waits.
 fn schedule_coming_send(
-    queue: &mut Queue<'_>,
+    queue: &mut Queue,
     draws: &mut Draws,
     number: usize,
     traffic: &Traffic,
@@ -179,7 +171,6 @@ fn schedule_coming_send(
     moment: u64,
 ) -> Result<(), QueueFault>
     requires moment { moment ≤ 2 ^ 63 + 10000 }
-    ensures file { SameFile queue.old queue.new }
     ensures send { (t : Timetable) → Keeps queue.old draws.old t → OnOk result
         (Keeps queue.new draws.new
         (come_sending (traffic_of number traffic.now) station moment t)) }
@@ -191,9 +182,10 @@ fn schedule_coming_send(
     }
 }
 
-/// Puts a send of the traffic of a number by a station: at a draw below its period after a moment.
+/// Puts a send of the traffic of a number by a station, a random time below its period after
+/// `moment`.
 fn schedule_send(
-    queue: &mut Queue<'_>,
+    queue: &mut Queue,
     draws: &mut Draws,
     number: usize,
     traffic: &Traffic,
@@ -201,7 +193,6 @@ fn schedule_send(
     moment: u64,
 ) -> Result<(), QueueFault>
     requires moment { moment ≤ 2 ^ 63 + 10000 }
-    ensures file { SameFile queue.old queue.new }
     ensures send { (t : Timetable) → Keeps queue.old draws.old t → OnOk result
         (Keeps queue.new draws.new
         (schedule_send (traffic_of number traffic.now) station moment t)) }
@@ -210,17 +201,16 @@ fn schedule_send(
     queue.push(moment, station, AirAction::Send(number, *traffic))
 }
 
-/// Puts a tick of a station with the next jitter: at this moment, or, where that is later, when its
-/// beacon is due by that jitter.
+/// Puts a tick of a station with the next jitter: at `moment`, or when its beacon is due by that
+/// jitter, if that is later.
 pub fn schedule_tick(
-    queue: &mut Queue<'_>,
+    queue: &mut Queue,
     draws: &mut Draws,
     station: usize,
     moment: u64,
     beacon_from: u64,
 ) -> Result<(), QueueFault>
     requires { beacon_from ≤ 2 ^ 63 + 10000 }
-    ensures file { SameFile queue.old queue.new }
     ensures tick { (t : Timetable) → Keeps queue.old draws.old t → OnOk result
         (Keeps queue.new draws.new (schedule_tick station moment beacon_from t)) }
 {

@@ -4,8 +4,8 @@ use Rattle.std.proofs.lemmas.List.Sorted.{All-permutation, IsNonDecreasingBy-fro
 use Rattle.std.proofs.lemmas.Fn.{always_returns_same}
 use Rattle.sim_scenario.specs.Airs.{moment_of}
 use Rattle.sim_scenario.specs.declared.events.event.FileEvent.{FileEvent}
-use Rattle.sim_queue.specs.Queues.{IsFiledInRange}
-use Rattle.sim_queue.proofs.Files.{Kept, kept_push, kept_skip, due_in_order}
+use Rattle.sim_air.specs.FileEvents.{IsFiledInRange}
+use Rattle.sim_air.proofs.FileEvents.{Kept, kept_push, kept_skip, due_in_order}
 use Rattle.sim_air.proofs.filed.due_until.Goals.{then-moment-end+in_ok-push}
 use Rattle.sim_air.proofs.filed.due_until.Goals.{else-moment-end}
 use Rattle.sim_air.proofs.filed.due_until.Goals as goal

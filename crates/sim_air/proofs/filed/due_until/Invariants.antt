@@ -1,4 +1,4 @@
-use Rattle.sim_queue.proofs.Files.{Kept}
+use Rattle.sim_air.proofs.FileEvents.{Kept}
 use Rattle.sim_air.proofs.filed.due_until.Given as goal
 
 -- of those so far those up to the end are due

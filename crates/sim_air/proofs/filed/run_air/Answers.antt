@@ -12,8 +12,8 @@ use Rattle.sim_air.specs.AirRun.{IsAirRun}
 use Rattle.sim_air.specs.AirTimed.{IsTimedRun, rules_of}
 use Rattle.sim_air.specs.Beside.{rules_beside}
 use Rattle.sim_air_model.specs.Timetable.{Filed, Rules}
-use Rattle.sim_queue.specs.Due.{AreDue}
-use Rattle.sim_queue.specs.Queues.{IsFiledInRange, filed_in, filed_of}
+use Rattle.sim_air.specs.Due.{AreDue}
+use Rattle.sim_air.specs.FileEvents.{IsFiledInRange, filed_in, filed_of}
 use Rattle.sim_queue.specs.Traffics.{all_traffic}
 use Rattle.sim_air.proofs.Filing.{filing_begins}
 use Rattle.sim_air.proofs.filed.run_air.Goals as goal

@@ -4,10 +4,10 @@ use Rattle.sim_air.specs.Delivered.{KeepsFrom}
 use Rattle.sim_scenario.specs.declared.events.event.FileEvent.{FileEvent}
 use Rattle.its_world.specs.Events.{config_of}
 use Rattle.sim_scenario.specs.Airs.{end_of}
-use Rattle.sim_queue.specs.Due.{AreDue}
+use Rattle.sim_air.specs.Due.{AreDue}
 use Rattle.sim_air.specs.AirTimed.{rules_of}
 use Rattle.sim_air.specs.Filing.{IsFiling}
-use Rattle.sim_queue.specs.Queues.{IsFiledInRange, filed_in, filed_of}
+use Rattle.sim_air.specs.FileEvents.{IsFiledInRange, filed_in, filed_of}
 use Rattle.sim_queue.specs.PlaceIndexes.{AreStandingsOf}
 use Rattle.sim_queue.specs.Traffics.{all_traffic}
 use Rattle.sim_air.proofs.filed.run_air.Given as goal

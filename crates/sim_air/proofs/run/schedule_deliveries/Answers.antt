@@ -1,4 +1,4 @@
-use Rattle.std.proofs.Common.{◌≡◌, ◌+◌, ◌∙◌, List, ℕ, rules, ap, sym, subst, take, take_all, get_or}
+use Rattle.std.proofs.Common.{◌≡◌, ◌+◌, ◌∙◌, List, ℕ, ap, sym, subst, take, take_all, get_or}
 use Rattle.std.proofs.lemmas.List.{take_more}
 use Rattle.sim_queue.specs.Keeps.{Keeps}
 use Rattle.sim_air_model.specs.Timetable.{Timetable, send, send_all}
@@ -16,7 +16,6 @@ loop-station-preserved g c =
     let k = c.args.given.frame in
     let m = c.args.given.heard_at in
     record {
-      file = search rules;
       told = λ events log took.
           let before = c.loop-station.invariant.told events log took in
           elim c.if-wants_heard.branch [

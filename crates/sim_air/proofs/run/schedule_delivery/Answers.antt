@@ -2,14 +2,12 @@ use Rattle.std.proofs.Common.{◌∙◌, sym, true≢false}
 use Rattle.sim_queue.proofs.Keeping.{keeps_sent}
 use Rattle.sim_air.proofs.run.schedule_delivery.Goals as goal
 
-pub returns-clause-sent : goal.returns-clause-sent
-returns-clause-sent c = λ t h.
-    keeps_sent c.args.queue.now c.push_delivery.new.self c.args.draws.now c.is_lost.new.self t
-    c.args.loss c.args.given.frame c.args.given.heard_at c.args.station
-    (record {
-      due = c.push_delivery.ensures.due;
-      taken = c.push_delivery.ensures.taken;
-      until = c.push_delivery.ensures.until;
-    })
-    c.in_ok-push_delivery.ensures.put c.in_ok-push_delivery.ensures.count c.is_lost.ensures.rest
-    (λ lt. true≢false (sym (c.is_lost.ensures.lost.1 lt) ∙ c.if-is_lost.false)) h
+pub returns : goal.returns
+returns c =
+    record {
+      sent = λ t h.
+          keeps_sent c.args.queue.now c.push_delivery.new.self c.args.draws.now c.is_lost.new.self t
+          c.args.loss c.args.given.frame c.args.given.heard_at c.args.station
+          c.in_ok-push_delivery.ensures.put c.in_ok-push_delivery.ensures.count c.is_lost.ensures.rest
+          (λ lt. true≢false (sym (c.is_lost.ensures.lost.1 lt) ∙ c.if-is_lost.false)) h;
+    }

@@ -2,8 +2,8 @@ use Rattle.std.proofs.Common.{true}
 use Rattle.std.proofs.Common.{◌<◌, ◌∷◌, [], ℕ, length, refl, sym, subst, inl, inr}
 use Rattle.std.specs.Prelude.{OnOk}
 use Rattle.sim_air.specs.Moving.{DoesAt}
-use Rattle.sim_queue.specs.Queues.{filed_of}
-use Rattle.sim_queue.proofs.Files.{same_moment}
+use Rattle.sim_air.specs.FileEvents.{filed_of}
+use Rattle.sim_air.proofs.FileEvents.{same_moment}
 use Rattle.sim_queue.proofs.Keeping.{on_ok}
 use Rattle.sim_air.proofs.Moved.{comes_well, none_at, same_station, station_filed}
 use Rattle.sim_air.proofs.step.do_filed.Goals as goal

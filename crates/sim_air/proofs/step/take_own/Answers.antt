@@ -28,8 +28,7 @@ returns-clause-taken g c = λ is grows rules configs made past last from end mos
     let taken : IsTaken grows rules configs made past from end before.before before.delivered_by w
     one A =
     is_taken grows rules configs made past last from end before.before before.delivered_by old one
-    A w refl refl refl refl refl c.pop_before.ensures.due c.pop_before.ensures.taken
-    c.pop_before.ensures.until c.pop_before.ensures.put c.in-Some.ensures.left
+    A w refl refl refl refl refl c.pop_before.ensures.put c.in-Some.ensures.left
     c.in-Some.ensures.first (omega (arith, most, early)) h in
     let after = c.release_delivered.new.count in
     let goes = c.release_delivered.ensures in
@@ -51,8 +50,7 @@ returns-in_default-clause-left g c = λ is.
           (sym c.in_default.ensures.none) c.in_default.ensures.late;
       count = refl;
       world = refl;
-      stays = stays_moving c.args.run.now _ A refl refl refl refl refl c.pop_before.ensures.due
-          c.pop_before.ensures.taken c.pop_before.ensures.until c.pop_before.ensures.put
+      stays = stays_moving c.args.run.now _ A refl refl refl refl refl c.pop_before.ensures.put
           c.in_default.ensures.none;
     }
 

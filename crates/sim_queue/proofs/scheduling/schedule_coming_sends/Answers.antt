@@ -1,4 +1,4 @@
-use Rattle.std.proofs.Common.{◌≡◌, ◌+◌, ◌∷◌, ◌++◌, ◌∙◌, [], List, rules, arith, ap, sym, subst}
+use Rattle.std.proofs.Common.{◌≡◌, ◌+◌, ◌∷◌, ◌++◌, ◌∙◌, [], List, arith, ap, sym, subst}
 use Rattle.std.proofs.Common.{take, take_all}
 use Rattle.std.proofs.lemmas.List.{take_more, length-take-le}
 use Rattle.sim_settings.specs.declared.traffic.Traffic.{Traffic as Flow}
@@ -18,7 +18,6 @@ loop-number-preserved c =
     let n = c.args.station in
     let m = c.args.moment in
     record {
-      file = search rules;
       sends = λ t h.
           let before = c.loop-number.invariant.sends t h in
           let u = come_sending_all (all_traffic (take i every)) n m t in
@@ -35,9 +34,12 @@ loop-number-preserved c =
           (c.in_ok-schedule_coming_send.ensures.send u before);
     }
 
-pub returns-clause-sends : goal.returns-clause-sends
-returns-clause-sends c = λ t h.
-    subst (λ (l : List Flow). Keeps c.loop-number.queue c.loop-number.draws
-    (come_sending_all (all_traffic l) c.args.station c.args.moment t))
-    (take_all c.loop-number.number c.args.every.now (omega (arith, c.loop-number-test.false)))
-    (c.loop-number.invariant.sends t h)
+pub returns : goal.returns
+returns c =
+    record {
+      sends = λ t h.
+          subst (λ (l : List Flow). Keeps c.loop-number.queue c.loop-number.draws
+          (come_sending_all (all_traffic l) c.args.station c.args.moment t))
+          (take_all c.loop-number.number c.args.every.now (omega (arith, c.loop-number-test.false)))
+          (c.loop-number.invariant.sends t h);
+    }

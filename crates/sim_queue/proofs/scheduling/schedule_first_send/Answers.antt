@@ -5,17 +5,23 @@ use Rattle.sim_air_model.specs.Timetable.{is_present, schedule_send}
 use Rattle.sim_queue.specs.Traffics.{traffic_of}
 use Rattle.sim_queue.proofs.scheduling.schedule_first_send.Goals as goal
 
-pub returns-then-is_present-clause-send : goal.returns-then-is_present-clause-send
-returns-then-is_present-clause-send c = λ t h.
-    let there : is_present c.args.present.now c.args.station ≡ true = search rules in
-    subst (λ (b : Bool). OnOk c.schedule_send.result
-    (Keeps c.schedule_send.new.queue c.schedule_send.new.draws
-    (cond b (schedule_send (traffic_of c.args.number c.args.traffic.now) c.args.station 0 t) t)))
-    (sym there) (c.schedule_send.ensures.send t h)
+pub returns-then-is_present : goal.returns-then-is_present
+returns-then-is_present c =
+    record {
+      send = λ t h.
+          let there : is_present c.args.present.now c.args.station ≡ true = search rules in
+          subst (λ (b : Bool). OnOk c.schedule_send.result
+          (Keeps c.schedule_send.new.queue c.schedule_send.new.draws
+          (cond b (schedule_send (traffic_of c.args.number c.args.traffic.now) c.args.station 0 t) t)))
+          (sym there) (c.schedule_send.ensures.send t h);
+    }
 
-pub returns-else-is_present-clause-send : goal.returns-else-is_present-clause-send
-returns-else-is_present-clause-send c = λ t h.
-    let away : is_present c.args.present.now c.args.station ≡ false = search rules in
-    subst (λ (b : Bool). Keeps c.args.queue.now c.args.draws.now
-    (cond b (schedule_send (traffic_of c.args.number c.args.traffic.now) c.args.station 0 t) t))
-    (sym away) h
+pub returns-else-is_present : goal.returns-else-is_present
+returns-else-is_present c =
+    record {
+      send = λ t h.
+          let away : is_present c.args.present.now c.args.station ≡ false = search rules in
+          subst (λ (b : Bool). Keeps c.args.queue.now c.args.draws.now
+          (cond b (schedule_send (traffic_of c.args.number c.args.traffic.now) c.args.station 0 t) t))
+          (sym away) h;
+    }

@@ -7,31 +7,29 @@ use Rattle.sim_queue.specs.Keeps.{Keeps}
 use Rattle.sim_queue.proofs.Keeping.{keeps_put, drawn_is, on_ok_both}
 use Rattle.sim_queue.proofs.scheduling.schedule_send.Goals as goal
 
-pub returns-clause-send : goal.returns-clause-send
-returns-clause-send c = λ t h.
-    let queue = c.args.queue.now in
-    let words = c.args.draws.now in
-    let flow = traffic_of c.args.number c.args.traffic.now in
-    let moment = c.args.moment + c.within.result in
-    let x : Scheduled = record {
-      moment = moment;
-      place = queue.pushed;
-      station = c.args.station;
-      own = owns.Send c.args.number c.args.traffic.now;
-    } in
-    on_ok_both c.push.result (IsPermutation (x ∷ queue.own) c.push.new.self.own)
-    (c.push.new.self.pushed ≡ queue.pushed + 1)
-    (Keeps c.push.new.self c.within.new.self (schedule_send flow c.args.station c.args.moment t))
-    (λ moves count.
-    keeps_put queue c.push.new.self words c.within.new.self t x
-    (sending flow c.args.station (c.args.moment + draw t % flow.period))
-    (record {
-      due = c.push.ensures.due;
-      taken = c.push.ensures.taken;
-      until = c.push.ensures.until;
-    })
-    moves count refl
-    (ap (λ n. sending flow c.args.station (c.args.moment + n))
-    (c.within.ensures.value ∙ ap (λ n. n % flow.period) (sym (drawn_is queue words t h))))
-    c.within.ensures.rest h)
-    c.push.ensures.put c.push.ensures.count
+pub returns : goal.returns
+returns c =
+    record {
+      send = λ t h.
+          let queue = c.args.queue.now in
+          let words = c.args.draws.now in
+          let flow = traffic_of c.args.number c.args.traffic.now in
+          let moment = c.args.moment + c.within.result in
+          let x : Scheduled = record {
+            moment = moment;
+            place = queue.pushed;
+            station = c.args.station;
+            own = owns.Send c.args.number c.args.traffic.now;
+          } in
+          on_ok_both c.push.result (IsPermutation (x ∷ queue.own) c.push.new.self.own)
+          (c.push.new.self.pushed ≡ queue.pushed + 1)
+          (Keeps c.push.new.self c.within.new.self (schedule_send flow c.args.station c.args.moment t))
+          (λ moves count.
+          keeps_put queue c.push.new.self words c.within.new.self t x
+          (sending flow c.args.station (c.args.moment + draw t % flow.period))
+          moves count refl
+          (ap (λ n. sending flow c.args.station (c.args.moment + n))
+          (c.within.ensures.value ∙ ap (λ n. n % flow.period) (sym (drawn_is queue words t h))))
+          c.within.ensures.rest h)
+          c.push.ensures.put c.push.ensures.count;
+    }

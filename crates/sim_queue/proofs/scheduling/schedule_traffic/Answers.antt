@@ -1,4 +1,4 @@
-use Rattle.std.proofs.Common.{◌≡◌, ◌+◌, ◌∷◌, ◌++◌, ◌∙◌, [], List, rules, arith, ap, sym, subst}
+use Rattle.std.proofs.Common.{◌≡◌, ◌+◌, ◌∷◌, ◌++◌, ◌∙◌, [], List, arith, ap, sym, subst}
 use Rattle.std.proofs.Common.{take, take_all}
 use Rattle.std.proofs.lemmas.List.{take_more, length-take-le}
 use Rattle.sim_settings.specs.declared.traffic.Traffic.{Traffic as Flow}
@@ -19,7 +19,6 @@ loop-number-preserved c =
     let n = c.args.count in
     let present = c.args.present.now in
     record {
-      file = search rules;
       sends = λ t h.
           let before = c.loop-number.invariant.sends t h in
           let u = schedule_traffic present (all_traffic (take i every)) n t in
@@ -36,9 +35,12 @@ loop-number-preserved c =
           (c.in_ok-schedule_first_sends.ensures.sends u before);
     }
 
-pub returns-clause-sends : goal.returns-clause-sends
-returns-clause-sends c = λ t h.
-    subst (λ (l : List Flow). Keeps c.loop-number.queue c.loop-number.draws
-    (schedule_traffic c.args.present.now (all_traffic l) c.args.count t))
-    (take_all c.loop-number.number c.args.every.now (omega (arith, c.loop-number-test.false)))
-    (c.loop-number.invariant.sends t h)
+pub returns : goal.returns
+returns c =
+    record {
+      sends = λ t h.
+          subst (λ (l : List Flow). Keeps c.loop-number.queue c.loop-number.draws
+          (schedule_traffic c.args.present.now (all_traffic l) c.args.count t))
+          (take_all c.loop-number.number c.args.every.now (omega (arith, c.loop-number-test.false)))
+          (c.loop-number.invariant.sends t h);
+    }

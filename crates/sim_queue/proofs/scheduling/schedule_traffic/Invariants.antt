@@ -1,15 +1,13 @@
 use Rattle.std.proofs.Common.{take}
-use Rattle.sim_queue.specs.Files.{SameFile}
 use Rattle.sim_queue.specs.Keeps.{Keeps}
 use Rattle.sim_air_model.specs.Timetable.{Timetable, schedule_traffic}
 use Rattle.sim_queue.specs.Traffics.{all_traffic}
 use Rattle.sim_queue.proofs.scheduling.schedule_traffic.Given as goal
 
--- the file waits as before, and the sends of each traffic so far
+-- the sends of each traffic so far
 abbrev pub invariant-loop-number : goal.invariant-loop-number
 invariant-loop-number l =
     record {
-      file : SameFile l.fn.queue l.queue;
       sends : (t : Timetable) → Keeps l.fn.queue l.fn.draws t → Keeps l.queue l.draws
           (schedule_traffic l.present (all_traffic (take l.number l.every)) l.count t);
     }

@@ -4,7 +4,7 @@ use Rattle.std.proofs.lemmas.List.{length-map}
 use denote.Ref.{Bor}
 use Rattle.sim_air.specs.Delivered.{KeepsFrom}
 use Rattle.sim_air.specs.Moving.{IsMoving}
-use Rattle.sim_queue.specs.Queues.{IsFiledInRange, filed_in, filed_of}
+use Rattle.sim_air.specs.FileEvents.{IsFiledInRange, filed_in, filed_of}
 use Rattle.sim_queue.specs.declared.scheduled.Scheduled.{Scheduled}
 use Rattle.sim_air_model.specs.Timetable.{Filed}
 use Rattle.sim_scenario.specs.Airs.{moment_of}

@@ -34,10 +34,9 @@ returns-clause-timed g c = λ rules configs a h0.
     let Before = g.S.EventSink.Took c.do_event.new.sink in
     let After = g.S.EventSink.Took c.come-came.new.sink in
     let after = world_run (opening configs) (a.done ++ e ∷ []) in
-    let goes = goes_on rules run done h.goes_by c.do_event.ensures.air c.do_event.ensures.every
-    c.do_event.ensures.file.until in
+    let goes = goes_on rules run done h.goes_by c.do_event.ensures.air c.do_event.ensures.every in
     let goes_last = goes_on rules done last goes c.come-came.ensures.world.air
-    c.come-came.ensures.world.every c.come-came.ensures.file.until in
+    c.come-came.ensures.world.every in
     let present : done.present.items ≡ a.present =
     ap (λ (v : Vec Bool Global). v.items) c.do_event.ensures.present ∙ h.present in
     let run_it : is_passed_over a.present (planned_of w) ≡ false = refl in

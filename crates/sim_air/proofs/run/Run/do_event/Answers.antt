@@ -60,8 +60,7 @@ returns-clause-spread g c = λ rules configs events t goes_by before keeps.
     subst (λ (q : Queue). Keeps q moved.draws t) (sym c.update_place.ensures.queue)
     (subst (λ (ws : List ℕ). Keeps run.queue ws t) (sym c.update_place.ensures.draws) keeps) in
     let goes = goes_on rules run moved goes_by c.update_place.ensures.air
-    c.update_place.ensures.every
-    (ap (λ (q : Queue). q.until) c.update_place.ensures.queue) in
+    c.update_place.ensures.every in
     let frame : c.frame.result ≡ given after.log = c.frame.ensures a.answer a.tells ∙ sym l.0 in
     elim c.match-frame.branch [
       | in-Some-frame+in_ok-schedule_frame w ↦ rw w.self-is (

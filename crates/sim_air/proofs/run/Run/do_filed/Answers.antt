@@ -8,7 +8,7 @@ use Rattle.its_world.specs.State.{WorldState}
 use Rattle.sim_air.specs.AirRun.{events_in}
 use Rattle.sim_queue.specs.Keeps.{Keeps}
 use Rattle.sim_air.specs.Keeps.{IsTimed}
-use Rattle.sim_queue.specs.Queues.{filed_of}
+use Rattle.sim_air.specs.FileEvents.{filed_of}
 use Rattle.sim_air_model.specs.Timetable.{of_file, take_one}
 use Rattle.sim_queue.specs.declared.queue.Queue.{Queue}
 use Rattle.sim_queue.proofs.Keeping.{on_ok}
@@ -29,8 +29,7 @@ returns-in-Leaves-clause-timed g c = λ rules configs a h.
     (take_one rules configs a (of_file (filed_of f)) a.timetable) last After) (sym c.in-Leaves.is)
     (record {
       goes_by = goes_on rules run last h.goes_by c.leave.ensures.world.air
-          c.leave.ensures.world.every
-          (ap (λ (q : Queue). q.until) c.leave.ensures.queue);
+          c.leave.ensures.world.every;
       told = subst (λ (x : WorldState). IsSimulated configs a.done x After)
           (sym c.leave.ensures.world.world)
           (told_on configs a.done run.world (g.S.EventSink.Took c.args.sink.now) After says h.told);

@@ -21,11 +21,9 @@ returns-clause-timed g c = λ rules configs a h.
     let last = c.admit.new.self in
     let After = g.S.EventSink.Took c.do_event.new.sink in
     let after = world_run (opening configs) (a.done ++ e ∷ []) in
-    let goes = goes_on rules run done h.goes_by c.do_event.ensures.air c.do_event.ensures.every
-    c.do_event.ensures.file.until in
+    let goes = goes_on rules run done h.goes_by c.do_event.ensures.air c.do_event.ensures.every in
     let goes_last = goes_on rules done last goes c.admit.ensures.world.air
-    c.admit.ensures.world.every
-    c.admit.ensures.file.until in
+    c.admit.ensures.world.every in
     let present : done.present.items ≡ a.present =
     ap (λ (v : Vec Bool Global). v.items) c.do_event.ensures.present ∙ h.present in
     let said : IsAnswered c.in_ok-entry.entry after =

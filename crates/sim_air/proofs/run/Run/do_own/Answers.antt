@@ -39,13 +39,11 @@ returns-clause-timed g c = λ rules configs a h.
     let Before = g.S.EventSink.Took c.do_event.new.sink in
     let After = g.S.EventSink.Took c.come.new.sink in
     let after = world_run (opening configs) (a.done ++ e ∷ []) in
-    let goes = goes_on rules run done h.goes_by c.do_event.ensures.air c.do_event.ensures.every
-    c.do_event.ensures.file.until in
+    let goes = goes_on rules run done h.goes_by c.do_event.ensures.air c.do_event.ensures.every in
     let goes_next = goes_on rules done next goes c.schedule_next.ensures.world.air
-    c.schedule_next.ensures.world.every c.schedule_next.ensures.file.until in
+    c.schedule_next.ensures.world.every in
     let goes_last = goes_on rules next last goes_next c.come.ensures.world.air
-    c.come.ensures.world.every
-    c.come.ensures.file.until in
+    c.come.ensures.world.every in
     let present : next.present.items ≡ a.present =
     ap (λ (v : Vec Bool Global). v.items)
     (c.schedule_next.ensures.present ∙ c.do_event.ensures.present) ∙ h.present in

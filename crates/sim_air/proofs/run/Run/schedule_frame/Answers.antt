@@ -2,7 +2,6 @@ use Rattle.std.proofs.Common.{◌≡◌, ◌+◌, ◌∙◌, sym, subst, List, �
 use Rattle.std.specs.Prelude.{OnOk}
 use Rattle.sim_settings.specs.declared.air.Air.{Air}
 use Rattle.its_world.specs.Events.{event_of}
-use Rattle.sim_queue.specs.Files.{SameFile}
 use Rattle.sim_queue.specs.Keeps.{Keeps}
 use Rattle.sim_air_model.specs.Timetable.{Rules, send_all, spread_frame, heard_by}
 use Rattle.sim_queue.specs.declared.queue.Queue.{Queue}
@@ -32,8 +31,3 @@ returns-clause-spread g c = λ rules w t goes_by stands h.
     (subst (λ d. OnOk c.schedule_deliveries.result
     (Keeps queue words (send_all found.air.loss k (e.moment + d) c.as_slice-hearers.result.now t)))
     c.from.ensures (c.schedule_deliveries.ensures.sent t kept))))
-
-pub returns-clause-file : goal.returns-clause-file
-returns-clause-file g c =
-    subst (λ (q : Queue). SameFile q c.schedule_deliveries.new.queue) c.find_hearers.ensures.queue
-    c.schedule_deliveries.ensures.file

@@ -44,10 +44,5 @@ returns-in_ok-push-in-Send-clause-next c = λ w t answer stands tells h.
     (follows_send done n x (is_refusal answer) (slice_get w.stations done.station) t c.in-Send.is)
     (keeps_put_alone queue c.push.new.self words t schedule
     (sending (traffic_of n x) done.station (done.moment + x.period))
-    (record {
-      due = c.push.ensures.due;
-      taken = c.push.ensures.taken;
-      until = c.push.ensures.until;
-    })
     c.in_ok-push-in-Send.ensures.put c.in_ok-push-in-Send.ensures.count refl
     (ap (sending (traffic_of n x) done.station) later) h)

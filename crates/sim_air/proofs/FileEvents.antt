@@ -13,9 +13,9 @@ use Rattle.std.specs.Ordering.{nat_cmp, is_lt}
 use Rattle.sim_scenario.specs.Airs.{moment_of as file_moment}
 use Rattle.sim_scenario.specs.declared.events.event.FileEvent.{FileEvent}
 use Rattle.sim_scenario.specs.declared.events.event.FileEvent.TheVariants as files
-use Rattle.sim_queue.specs.Due.{of_moment, AreDue}
+use Rattle.sim_air.specs.Due.{of_moment, AreDue}
 use Rattle.sim_air_model.specs.Timetable.{moment_in}
-use Rattle.sim_queue.specs.Queues.{filed_in, filed_of, IsFiledInRange}
+use Rattle.sim_air.specs.FileEvents.{filed_in, filed_of, IsFiledInRange}
 use Rattle.sim_air_model.specs.Timetable.{Filed}
 
 -- a line of the file waits at its moment
