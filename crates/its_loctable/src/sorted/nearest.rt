@@ -26,7 +26,8 @@ impl Nearest {
 
     /// The nearest of these to a place.
     pub fn among(slots: &[SortedSlot], place: Place) -> Nearest
-        ensures { All (IsNotBelow result) slots.now }
+        ensures bound { All (IsNotBelow result) slots.now }
+        ensures place { result.place ≡ place }
     {
         let mut nearest = Nearest {
             place,
@@ -45,6 +46,7 @@ impl Nearest {
     pub fn meet(&mut self, slot: &SortedSlot)
         ensures within { IsNotBelow self.new slot.now }
         ensures lower { (s : SortedSlot) → IsNotBelow self.old s → IsNotBelow self.new s }
+        ensures place { self.new.place ≡ self.old.place }
     {
         if !slot.neighbour {
             return;

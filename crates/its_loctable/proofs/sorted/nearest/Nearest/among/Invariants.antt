@@ -5,4 +5,7 @@ use Rattle.its_loctable.proofs.sorted.nearest.Nearest.among.Given as goal
 
 abbrev pub invariant-loop-i : goal.invariant-loop-i
 invariant-loop-i l =
-    All (λ (s : SortedSlot). is_not_below l.nearest s ≡ true) (take l.i l.slots)
+    record {
+      bound : All (λ (s : SortedSlot). is_not_below l.nearest s ≡ true) (take l.i l.slots);
+      place : l.nearest.place ≡ l.fn.place;
+    }
