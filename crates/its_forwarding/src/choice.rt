@@ -4,12 +4,13 @@
 ghost use Rattle.std.specs.Prelude.{◌≡◌, ◌^◌, ◌≤◌, List};
 ghost use Rattle.its_model.specs.History.{Reception};
 ghost use Rattle.its_model.specs.Stations.{stations_at};
-ghost use Rattle.its_model.specs.Decision.{decision, is_sender_inside};
+ghost use Rattle.its_geometry.specs.Offsets.{squared_distance};
+ghost use Rattle.its_model.specs.Decision.{decision, is_sender_inside, next_hop, toward};
 ghost use Rattle.its_loctable.specs.Content.{Represents};
-ghost use Rattle.its_forwarding.specs.Chosen.{chosen};
+ghost use Rattle.its_forwarding.specs.Chosen.{chosen, IsByRules};
 
-use crate::nearest::nearest_neighbour;
-use its_geometry::{Area, Centre, contains};
+use crate::nearest::find_next_hop;
+use its_geometry::{Area, contains};
 use its_gnvalue::{Mac, Place};
 use its_loctable::LocationStore;
 
@@ -43,14 +44,71 @@ pub fn choose<S: LocationStore>(
         chosen result
         ≡ decision (stations_at (S.remember store.now) now history) own area.now sender }
 {
+    match choice_of_rules(store, now, own, area, sender) {
+        Some(choice) => choice,
+        None => greedy(store, now, own, area),
+    }
+}
+
+/// Returns what `choose` does, and has the store keep the neighbour that is nearest to the area's
+/// centre: the next choices for the area need no walk over all neighbours.
+pub fn choose_and_keep<S: LocationStore>(
+    store: &mut S,
+    now: u64,
+    own: Place,
+    area: &Area,
+    sender: Option<Mac>,
+) -> Choice
+    requires { now ≤ 2 ^ 62 }
+    ensures choice { (history : List Reception) →
+        Represents (S.remember store.old) (S.content store.old) history now →
+        chosen result
+        ≡ decision (stations_at (S.remember store.old) now history) own area.now sender }
+    ensures unchanged { S.content store.new ≡ S.content store.old }
+    ensures limit { S.limit store.new ≡ S.limit store.old }
+    ensures remember { S.remember store.new ≡ S.remember store.old }
+{
+    match choice_of_rules(store, now, own, area, sender) {
+        Some(choice) => choice,
+        None => {
+            store.keep_nearest(now, area.centre());
+            greedy(store, now, own, area)
+        }
+    }
+}
+
+/// The choice by the rules that come before greedy forwarding, if one of them applies.
+fn choice_of_rules<S: LocationStore>(
+    store: &S,
+    now: u64,
+    own: Place,
+    area: &Area,
+    sender: Option<Mac>,
+) -> Option<Choice>
+    requires { now ≤ 2 ^ 62 }
+    ensures { (history : List Reception) →
+        Represents (S.remember store.now) (S.content store.now) history now →
+        IsByRules (stations_at (S.remember store.now) now history) own area.now sender result }
+{
     if contains(area, own) {
-        return Choice::Broadcast;
+        return Some(Choice::Broadcast);
     }
     if is_sender_inside(store, now, area, sender) {
-        return Choice::Drop;
+        return Some(Choice::Drop);
     }
-    let centre = Centre::new(area.centre());
-    match nearest_neighbour(store, now, centre, centre.squared_distance(own)) {
+    None
+}
+
+/// The choice of greedy forwarding: the neighbour that is nearest to the area's centre, if one is
+/// nearer than the own place, or all.
+fn greedy<S: LocationStore>(store: &S, now: u64, own: Place, area: &Area) -> Choice
+    requires { now ≤ 2 ^ 62 }
+    ensures { (history : List Reception) →
+        Represents (S.remember store.now) (S.content store.now) history now →
+        chosen result ≡ toward (next_hop area.now.centre (squared_distance area.now.centre own)
+        (stations_at (S.remember store.now) now history)) }
+{
+    match find_next_hop(store, now, area.centre(), own) {
         Some(address) => Choice::To(address.mid()),
         None => Choice::Broadcast,
     }

@@ -5,4 +5,4 @@
 mod choice;
 mod nearest;
 
-pub use choice::{Choice, choose};
+pub use choice::{Choice, choose, choose_and_keep};

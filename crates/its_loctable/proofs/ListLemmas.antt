@@ -37,6 +37,17 @@ find_past p [] (suc i) fails = refl
 find_past p (y ∷ ys) zero fails = cond-false (p y) (Some y) (find p ys) (fails y)
 find_past p (y ∷ ys) (suc i) fails = find_past p ys i fails
 
+-- so are the first ones, if none of them passes
+pub find_skip : {X : Type 0} (p : X → Bool) (ys : List X) (n : ℕ)
+    → ((k : ℕ) (d : X) → k < n → k < length ys → p (get_or ys k d) ≡ false)
+    → find p (drop n ys) ≡ find p ys
+find_skip p [] zero fails = refl
+find_skip p [] (suc n) fails = refl
+find_skip p (y ∷ ys) zero fails = refl
+find_skip p (y ∷ ys) (suc n) fails =
+    find_skip p ys n (λ k d lt within. fails (suc k) d (omega arith) (omega arith))
+    ∙ sym (cond-false (p y) (Some y) (find p ys) (fails 0 y (omega arith) (omega arith)))
+
 -- ---- fewer are live than there is room for, where fewer stand there or one has expired
 module _ {X : Type 0} (end : X → ℕ) (now : ℕ) where
   counted : X → ℕ

@@ -1,6 +1,8 @@
 -- The content of a table in ascending order of addresses, and places in its column of addresses.
-use Rattle.std.specs.Prelude.{◌≡◌, ℕ, zero, suc, ◌<◌, ◌≤◌, ◌⊎◌, Bool, true, false, List, [], ◌∷◌}
+use Rattle.std.specs.Prelude.{◌≡◌, ◌≢◌, ℕ, zero, suc, ◌<◌, ◌≤◌, ◌⊎◌, Bool, true, false, List}
+use Rattle.std.specs.Prelude.{[], ◌∷◌}
 use Rattle.std.specs.Prelude.{map, find, length, get_or, Option, Some, None, nat_lt, if◌then◌else◌}
+use Rattle.its_gnvalue.specs.Values.{mid_of}
 use Rattle.its_model.specs.History.{Known}
 use Rattle.its_loctable.specs.declared.sorted.slot.SortedSlot.{SortedSlot}
 use Rattle.its_model.specs.Stations.{is_above}
@@ -81,3 +83,8 @@ IsLiveAt slots place now live = (d : SortedSlot) → live ≡ nat_lt now (get_or
 abbrev pub IsFirstOf : (SortedSlot → Bool) → List SortedSlot → Option ℕ → Type 0
 IsFirstOf p slots None = find p slots ≡ None
 IsFirstOf p slots (Some place) = (d : SortedSlot) → find p slots ≡ Some (get_or slots place d)
+
+-- none of the first n addresses has the MID
+abbrev pub AreWithoutMid : ℕ → ℕ → List ℕ → Type 0
+AreWithoutMid mid n addresses = (k d : ℕ) → k < n → k < length addresses
+    → mid_of (get_or addresses k d) ≢ mid

@@ -69,3 +69,12 @@ pub struct Known {
     /// Whether a BEACON or an SHB of it came.
     pub neighbour: bool,
 }
+
+/// The neighbour that is nearest to a place, of equally near ones the one of least address.
+#[derive(Clone, Copy, Debug, PartialEq, Eq)]
+pub struct NearestNeighbour {
+    /// Its address.
+    pub address: GnAddress,
+    /// The square of its distance from the place, in square centimetres.
+    pub distance: u64,
+}

@@ -10,12 +10,13 @@ ghost use Rattle.its_loctable.specs.Content.{Entry, Represents};
 ghost use Rattle.its_loctable.specs.Heard.{reception, shown, verdict_at};
 ghost use Rattle.its_loctable.specs.Found.{addresses_in, verdict_of, HasIndex, IsIndexOf, Admits};
 ghost use Rattle.its_loctable.specs.Pieces.{first_piece, neighbours_above, AreAllAbove};
+ghost use Rattle.its_loctable.specs.Nearest.{IsNearest};
 
 use crate::found::{EntryIndex, Found};
-use crate::heard::{Heard, Known};
+use crate::heard::{Heard, Known, NearestNeighbour};
 use crate::piece::Piece;
 use crate::refused::StoreRefused;
-use its_gnvalue::{GnAddress, LongPv, Mac, NoMemory};
+use its_gnvalue::{GnAddress, LongPv, Mac, NoMemory, Place};
 use std::alloc::Global;
 
 /// Whether a packet is new.
@@ -213,6 +214,30 @@ pub trait LocationStore: Sized + Drop {
             after = Some(vector.address());
             piece.push(vector.address(), vector.place());
         }
+    }
+
+    /// Has the store keep the nearest neighbour to a place, which is the centre of an area, for
+    /// `nearest`. It is kept while packets are accepted, until another place is asked for. A store
+    /// may keep nothing.
+    fn keep_nearest(&mut self, now: u64, centre: Place)
+        requires { now ≤ 2 ^ 62 }
+        ensures unchanged { content self.new ≡ content self.old }
+        ensures limit { limit self.new ≡ limit self.old }
+        ensures remember { remember self.new ≡ remember self.old }
+    {
+        let _ = (now, centre);
+    }
+
+    /// The nearest live neighbour to a place, of equally near ones the one of least address, if the
+    /// store keeps it. `None` says nothing of the neighbours.
+    fn nearest(&self, now: u64, centre: Place) -> Option<NearestNeighbour>
+        requires { now ≤ 2 ^ 62 }
+        ensures { (history : List Reception) →
+            Represents (remember self.now) (content self.now) history now →
+            IsNearest centre (stations_at (remember self.now) now history) result }
+    {
+        let _ = (now, centre);
+        None
     }
 
     /// What is known of the live source of least address that has a MID.

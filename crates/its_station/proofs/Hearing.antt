@@ -1,17 +1,14 @@
 -- What a station does with a frame.
 use Rattle.std.proofs.Common.{◌≡◌, ℕ, ◌≤◌, ◌^◌, List, ◌∷◌, Option, Some, None, Bool, true, false}
-use Rattle.std.proofs.Common.{not, cond, eqb, leb, ◌&&◌, refl, sym, ap, subst, ◌∙◌, true≢false}
-use Rattle.std.proofs.Common.{is_some, unwrap_or}
+use Rattle.std.proofs.Common.{not, cond, eqb, refl, sym, ap, subst, ◌∙◌, true≢false}
+use Rattle.std.proofs.Common.{is_some}
 use Rattle.std.specs.Prelude.{Result, Ok, Err, IfSome, Vec, IsErrAnd}
 use Rattle.std.specs.Option.{option_map}
 use Rattle.std.specs.declared.alloc.Global.{Global}
 use Rattle.std.proofs.lemmas.Bool.{le-ltb}
-use Rattle.its_gnvalue.specs.Values.{mid_of, broadcast}
-use Rattle.its_geometry.specs.Area.{GeoArea, area_holds}
-use Rattle.its_model.specs.Packet.{Body, beacon, shb, gbc, gac, Transmission, number_in, relay}
+use Rattle.its_model.specs.Packet.{Transmission, number_in}
 use Rattle.its_model.specs.History.{Reception}
 use Rattle.its_model.specs.Stations.{stations_at, is_full}
-use Rattle.its_model.specs.Decision.{Decision, To}
 use Rattle.its_model.specs.Calls as model
 use Rattle.its_model.specs.Calls.{Answer, Refusal}
 use Rattle.its_model.specs.Station as station
@@ -20,7 +17,6 @@ use Rattle.its_model.specs.Station.{receive_step, receive_step_by, is_for, is_se
 use Rattle.its_model.specs.Station.{is_repeated, or_else, handing, relayed, sent_on, decided}
 use Rattle.its_model.specs.Station.{after_hearing, first, own_refusal, own_step, station_step}
 use Rattle.its_model.specs.Station.{junk_step_by}
-use Rattle.its_headers.specs.Fields.{area_in}
 use Rattle.its_loctable.specs.Content.{Represents}
 use Rattle.its_loctable.specs.Heard as table
 use Rattle.its_loctable.specs.Heard.{verdict_at}
@@ -43,7 +39,7 @@ use Rattle.its_station.specs.State.{StationState, HasPast, IsPast, RepresentsSta
 use Rattle.its_station.specs.State.{SamePorts, model_of}
 use Rattle.its_station.specs.Steps.{IsStepOf, IsRefusedStep}
 use Rattle.its_station.specs.Receiving.{Encoded, IsSentFrame, Tells, TellsBy, IsRelayBy}
-use Rattle.its_station.specs.Receiving.{report_of, copy_of, said_by}
+use Rattle.its_station.specs.Receiving.{report_of, said_by}
 use Rattle.its_station.specs.Receiving.{why_of, why_found, why_unasked, accept_step}
 use Rattle.its_station.specs.Receiving.{secured_step_by, IsAdmitted}
 use Rattle.its_station.specs.declared.refused.Refused.TheVariants as refused
@@ -59,52 +55,6 @@ pub frame_of_relay : (E : Encoded) (w : Vec ℕ Global) (o : Option Transmission
     → IsRelayBy E (Some w) o → IsSentFrame E w.items
 frame_of_relay E w None h = absurd h
 frame_of_relay E w (Some t) h = record { transmission = t; encodes = h }
-
--- a frame that goes on to all goes on to whom the decision says
-redirected : (E : Encoded) (s : StationModel) (now : ℕ) (t : Transmission) (area own : GeoArea) (mac : ℕ)
-    (copy new : Vec ℕ Global)
-    → area ≡ own → To mac ≡ decided s now area (Some t.link_source)
-    → ((u : Transmission) → E u copy.items
-    → E (record u { link_target = mac }) new.items)
-    → (b : Bool) → IsRelayBy E (Some copy) (cond b (Some (relay t (mid_of s.address) broadcast)) None)
-    → IsRelayBy E (Some new) (cond b (sent_on s t (decided s now own (Some t.link_source))) None)
-redirected E s now t area own mac copy new same d keep true enc =
-    subst (λ (x : Decision). IsRelayBy E (Some new) (sent_on s t x)) (d
-    ∙ ap (λ a. decided s now a (Some t.link_source)) same)
-    (keep (relay t (mid_of s.address) broadcast) enc)
-redirected E s now t area own mac copy new same d keep false enc = absurd enc
-
-pub directed_to : (E : Encoded) (s : StationModel) (now : ℕ) (t : Transmission) (body : Body) (area : GeoArea)
-    (mac : ℕ) (copy new : Vec ℕ Global)
-    → mid_of s.vector.address ≡ mid_of s.address
-    → Some area ≡ area_in body → To mac ≡ decided s now area (Some t.link_source)
-    → ((u : Transmission) → E u copy.items
-    → E (record u { link_target = mac }) new.items)
-    → IsRelayBy E (Some copy) (copy_of s.vector t body) → IsRelayBy E (Some new) (relayed s now t body)
-directed_to E s now t beacon area mac copy new own e d keep enc = absurd enc
-directed_to E s now t (shb media message) area mac copy new own e d keep enc = absurd enc
-directed_to E s now t (gbc number its message) area mac copy new own e d keep enc =
-    redirected E s now t area its mac copy new (ap (λ o. unwrap_or o area) e) d keep
-    (leb 2 t.hops_left)
-    (subst (λ (m : ℕ).
-    IsRelayBy E (Some copy) (cond (leb 2 t.hops_left) (Some (relay t m broadcast)) None)) own enc)
-directed_to E s now t (gac number its message) area mac copy new own e d keep enc =
-    by (area_holds its s.vector.place)
-    (subst (λ (m : ℕ).
-    IsRelayBy E (Some copy)
-    (cond (not (area_holds its s.vector.place) && leb 2 t.hops_left)
-    (Some (relay t m broadcast)) None)) own enc)
-  where
-    by : (h : Bool)
-        → IsRelayBy E (Some copy)
-        (cond (not h && leb 2 t.hops_left) (Some (relay t (mid_of s.address) broadcast)) None)
-        → IsRelayBy E (Some new)
-        (cond h None
-        (cond (leb 2 t.hops_left) (sent_on s t (decided s now its (Some t.link_source))) None))
-    by true enc = absurd enc
-    by false enc =
-        redirected E s now t area its mac copy new (ap (λ o. unwrap_or o area) e) d keep
-        (leb 2 t.hops_left) enc
 
 -- ---- a packet that is accepted
 

@@ -32,7 +32,7 @@ use crate::received::ReceivedFrame;
 use crate::refused::Refused;
 use crate::station::Station;
 use its_btp::split;
-use its_forwarding::{Choice, choose};
+use its_forwarding::{Choice, choose_and_keep};
 use its_geometry::contains;
 use its_gnvalue::{GnAddress, Mac, NoMemory};
 use its_headers::Kind;
@@ -385,20 +385,21 @@ impl<S: LocationStore> Station<S> {
     /// Gives the frame its target, if it goes on at all.
     #[inline(always)]
     fn direct<'a, F: ReceivedFrame<'a>>(
-        &self,
+        &mut self,
         now: u64,
         frame: &F,
         copy: Option<Vec<u8>>,
     ) -> Option<Vec<u8>>
         requires time { now ≤ 2 ^ 62 }
         requires copy { IsRelayBy (F.Encodes frame.now) copy
-            (copy_of self.now.vector (F.frame frame.now) (F.frame frame.now).pdu.body) }
+            (copy_of self.old.vector (F.frame frame.now) (F.frame frame.now).pdu.body) }
         requires short { IfSome copy (λ w. length w.items ≤ F.most frame.now) }
         ensures short_frame { IfSome result (λ relayed. length relayed.items ≤ F.most frame.now) }
         ensures relay { (ports : List ℕ) (history : List Reception) →
-            Represents self.now.remember self.now.content history now →
-            IsRelayBy (F.Encodes frame.now) result (relayed (model_of self.now ports history) now
+            Represents self.old.remember self.old.content history now →
+            IsRelayBy (F.Encodes frame.now) result (relayed (model_of self.old ports history) now
             (F.frame frame.now) (F.frame frame.now).pdu.body) }
+        ensures unchanged { self.new ≡ self.old }
     {
         let Some(octets) = copy else {
             return None;
@@ -406,8 +407,8 @@ impl<S: LocationStore> Station<S> {
         let Some(area) = frame.area() else {
             return None;
         };
-        match choose(
-            &self.store,
+        match choose_and_keep(
+            &mut self.store,
             now,
             self.vector.place(),
             &area,

@@ -13,6 +13,7 @@ use Rattle.its_loctable.specs.Kept.{numbers_of}
 use Rattle.its_loctable.specs.Rows.{numbers_at, IsRow, HasRow, AreOwned}
 use Rattle.its_loctable.specs.Sorted.{known_by, entry_by, held, bare, addresses_of}
 use Rattle.its_loctable.specs.Sorted.{IsGapFor}
+use Rattle.its_loctable.specs.Bound.{is_within}
 use Rattle.its_loctable.specs.Eager.{swept, upsert, is_rising}
 use Rattle.its_loctable.proofs.EagerLemmas.{rising-true, true-rising, IsRising-upsert}
 use Rattle.its_loctable.proofs.RowLemmas.{popped, inserted}
@@ -108,6 +109,12 @@ invariant_of-self c =
           (All-weaker (λ (s : SortedSlot). table.first_end ≤ s.until)
           (λ (s : SortedSlot). c.min-self.result ≤ s.until)
           (λ s le. omega (arith, c.min-self.ensures)) xs table.ends));
+      bound = All-same (λ (s : SortedSlot). is_within c.note.new.nearest s ≡ true) _ _ put
+          (All-insert (λ (s : SortedSlot). is_within c.note.new.nearest s ≡ true) xs place slot
+          c.note.ensures.within
+          (All-weaker (λ (s : SortedSlot). is_within table.nearest s ≡ true)
+          (λ (s : SortedSlot). is_within c.note.new.nearest s ≡ true)
+          c.note.ensures.lower xs table.bound));
     }
 
 pub invariant_of-self-in-None : goal.invariant_of-self-in-None
@@ -129,6 +136,7 @@ invariant_of-self-in-None c =
           table.free_rows;
       owned = subst (λ l. AreOwned table.slots.items l) (sym free) table.owned;
       ends = table.ends;
+      bound = table.bound;
     }
 
 -- how many slots stand there after the sweep

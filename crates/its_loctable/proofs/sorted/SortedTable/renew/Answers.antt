@@ -1,5 +1,5 @@
 use Rattle.std.proofs.Common.{◌≡◌, ◌≢◌, ℕ, ◌≤◌, ◌<◌, [], All, length, get_or, set, refl, subst}
-use Rattle.std.proofs.Common.{sym, ap, ◌∙◌, arith}
+use Rattle.std.proofs.Common.{sym, ap, ◌∙◌, arith, true}
 use Rattle.std.specs.Prelude.{vec_len}
 use Rattle.std.proofs.lemmas.List.{get_or_default}
 use Rattle.std.proofs.lemmas.List.Elements.{All-set, All-weaker}
@@ -11,6 +11,7 @@ use Rattle.its_loctable.specs.Kept.{numbers_of}
 use Rattle.its_loctable.specs.Rows.{numbers_at, IsRow, HasRow}
 use Rattle.its_loctable.specs.Sorted.{known_by, entry_by, held, bare, addresses_of}
 use Rattle.its_loctable.specs.Sorted.{IsFoundAt}
+use Rattle.its_loctable.specs.Bound.{is_within}
 use Rattle.its_loctable.specs.Eager.{swept, upsert, is_rising}
 use Rattle.its_loctable.proofs.EagerLemmas.{rising-true, true-rising, IsRising-upsert, swept-upsert}
 use Rattle.its_loctable.proofs.RowLemmas.{distinct, replaced}
@@ -70,6 +71,11 @@ invariant_of-self c =
           (All-weaker (λ (s : SortedSlot). table.first_end ≤ s.until)
           (λ (s : SortedSlot). c.min-self.result ≤ s.until)
           (λ s le. omega (arith, c.min-self.ensures)) xs table.ends);
+      bound = All-set (λ (s : SortedSlot). is_within c.note.new.nearest s ≡ true) xs c.args.place
+          next c.note.ensures.within
+          (All-weaker (λ (s : SortedSlot). is_within table.nearest s ≡ true)
+          (λ (s : SortedSlot). is_within c.note.new.nearest s ≡ true)
+          c.note.ensures.lower xs table.bound);
     }
 
 pub returns-clause-content : goal.returns-clause-content

@@ -1,9 +1,10 @@
-use Rattle.std.proofs.Common.{[], ltb, ap, ◌∙◌, arith}
+use Rattle.std.proofs.Common.{◌≡◌, [], ltb, ap, true, ◌∙◌, arith}
 use Rattle.std.specs.Prelude.{vec_len}
 use Rattle.std.proofs.lemmas.List.Elements.{All-filter, All-same}
 use Rattle.its_loctable.specs.declared.sorted.slot.SortedSlot.{SortedSlot}
 use Rattle.its_loctable.specs.Kept.{numbers_of}
 use Rattle.its_loctable.specs.Rows.{HasRow}
+use Rattle.its_loctable.specs.Bound.{is_within}
 use Rattle.its_loctable.specs.Sorted.{held, bare}
 use Rattle.its_loctable.specs.Eager.{swept, is_rising}
 use Rattle.its_loctable.proofs.EagerLemmas.{rising-true, true-rising, IsRising-swept}
@@ -31,6 +32,9 @@ invariant_of-self c =
       free_rows = rest.rows table.remembered (vec_len table.numbers) table.rows table.free_rows;
       owned = rest.owned table.owned;
       ends = rest.ends;
+      bound = All-same (λ (s : SortedSlot). is_within table.nearest s ≡ true) _ _ rest.items
+          (All-filter (λ (s : SortedSlot). ltb c.args.now s.until)
+          (λ (s : SortedSlot). is_within table.nearest s ≡ true) xs table.bound);
     }
 
 pub returns-clause-content : goal.returns-clause-content

@@ -1,9 +1,10 @@
-use Rattle.std.proofs.Common.{◌≤◌, sym, ap, subst, ◌∙◌, [], arith}
+use Rattle.std.proofs.Common.{◌≡◌, true, ◌≤◌, sym, ap, subst, ◌∙◌, [], arith}
 use Rattle.std.specs.Prelude.{vec_len}
 use Rattle.std.proofs.lemmas.List.Elements.{All-same, All-nil}
 use Rattle.its_loctable.specs.declared.sorted.slot.SortedSlot.{SortedSlot}
 use Rattle.its_loctable.specs.Content.{Represents}
 use Rattle.its_loctable.specs.Kept.{numbers_of}
+use Rattle.its_loctable.specs.Bound.{is_within}
 use Rattle.its_loctable.specs.Rows.{HasRow}
 use Rattle.its_loctable.specs.Sorted.{held, bare, addresses_of}
 use Rattle.its_loctable.specs.Eager.{is_rising}
@@ -28,6 +29,8 @@ invariant_of-self c =
       owned = all.owned table.owned;
       ends = All-same (λ (s : SortedSlot). 18446744073709551615 ≤ s.until) _ _ all.items
           (All-nil (λ (s : SortedSlot). 18446744073709551615 ≤ s.until));
+      bound = All-same (λ (s : SortedSlot). is_within table.nearest s ≡ true) _ _ all.items
+          (All-nil (λ (s : SortedSlot). is_within table.nearest s ≡ true));
     }
 
 pub returns-clause-represents : goal.returns-clause-represents

@@ -1,6 +1,7 @@
-use Rattle.std.proofs.Common.{◌*◌, ◌<◌, ◌≤◌, All, subst, sym, ◌∙◌, [], ap, arith}
+use Rattle.std.proofs.Common.{◌≡◌, true, None, ◌*◌, ◌<◌, ◌≤◌, All, subst, sym, ◌∙◌, [], ap, arith}
 use Rattle.std.specs.Prelude.{vec_len}
 use Rattle.its_loctable.specs.Content.{Represents}
+use Rattle.its_loctable.specs.Bound.{is_within}
 use Rattle.its_loctable.specs.Rows.{numbers_at, HasRow, IsRow, AreOwned}
 use Rattle.its_loctable.specs.Sorted.{held, bare, addresses_of}
 use Rattle.std.proofs.lemmas.List.Elements.{All-same, All-nil, All-weaker}
@@ -38,4 +39,6 @@ invariant_of-result c =
       owned = subst (λ xs. AreOwned xs c.in_ok-free.free.items) (sym none) free.owned;
       ends = All-same (λ (s : SortedSlot). 18446744073709551615 ≤ s.until) _ _ none
           (All-nil (λ (s : SortedSlot). 18446744073709551615 ≤ s.until));
+      bound = All-same (λ (s : SortedSlot). is_within None s ≡ true) _ _ none
+          (All-nil (λ (s : SortedSlot). is_within None s ≡ true));
     }
