@@ -1,7 +1,10 @@
 //! Vehicles that move by the rows of a file, in plain Rust: `moves VEHICLES SECONDS rows` prints the
-//! file for `geostation sim --moves`, ten rows a second of each vehicle; `moves run` reads it from
-//! standard input, moves a station a row and prints the totals. Nobody sends.
+//! file for `geostation sim --moves`, ten rows per second of each vehicle. `moves run` reads it from
+//! standard input, moves a station per row and prints the totals. With `moves sends` each vehicle
+//! also sends a single-hop message of 50 octets per second.
 #![allow(dead_code)]
+#[path = "twin/common.rs"]
+mod common;
 #[path = "twin/geometry.rs"]
 mod geometry;
 #[path = "twin/packets.rs"]
@@ -11,17 +14,26 @@ mod station;
 #[path = "twin/table.rs"]
 mod table;
 
-use geometry::Place;
-use station::Station;
-use std::collections::{HashMap, VecDeque};
+use common::{DELAY, Draws, Tally};
+use geometry::{Place, offset, scale};
+use station::{Entry, Event, Station, What, World};
+use std::cmp::Reverse;
+use std::collections::{BinaryHeap, HashMap, VecDeque};
 use std::io::{BufRead, BufWriter, Write};
 
 const GONE: u64 = 1000;
+const AFTER: u64 = 10_000;
 const CAPACITY: usize = 256;
 const REMEMBER: usize = 8;
 const FIRST: u64 = 0x1400_0201_0000_0001;
 const STEP: u64 = 100;
-/// The side of a cell in which vehicles are looked for, in tenths of a microdegree.
+const RANGE: u64 = 400;
+const SEED: u64 = 1;
+const PERIOD: u64 = 1000;
+const PORT: u16 = 2002;
+const OCTETS: usize = 50;
+/// The side of a cell in which vehicles are looked for, in tenths of a microdegree: no less than
+/// the range to the north.
 const CELL: i32 = 36_000;
 
 struct Row {
@@ -60,67 +72,222 @@ fn cell(place: Place) -> (i32, i32) {
     (place.lat.div_euclid(CELL), place.lon.div_euclid(CELL))
 }
 
+/// The vehicles by cells.
 #[derive(Default)]
-struct Town {
-    ids: HashMap<String, usize>,
-    stations: Vec<Station>,
-    last_rows: Vec<u64>,
-    present: Vec<bool>,
-    leaves: VecDeque<(u64, usize)>,
-    cells: HashMap<(i32, i32), Vec<usize>>,
-    events: u64,
-}
+struct Cells(HashMap<(i32, i32), Vec<usize>>);
 
-impl Town {
-    /// Those leave that had no row for a while.
-    fn leave_before(&mut self, moment: u64) {
-        while let Some((due, station)) = self.leaves.front().copied().filter(|(due, _)| *due < moment) {
-            self.leaves.pop_front();
-            if self.last_rows[station] + GONE == due {
-                self.present[station] = false;
-            }
-        }
-    }
-
-    fn take(&mut self, row: Row) {
-        self.leave_before(row.at);
-        let number = match self.ids.get(&row.id) {
-            Some(number) => *number,
-            None => self.make(row.id, row.place),
-        };
-        let stood = cell(self.stations[number].place());
-        let _ = self.stations[number].move_to(row.at, row.place, row.speed, row.heading);
-        self.follow(number, stood, cell(row.place));
-        self.last_rows[number] = row.at;
-        self.present[number] = true;
-        self.leaves.push_back((row.at + GONE, number));
-        self.events += 1;
-    }
-
-    fn make(&mut self, id: String, place: Place) -> usize {
-        let number = self.stations.len();
-        self.ids.insert(id, number);
-        self.stations.push(Station::new(FIRST + number as u64, place, CAPACITY, REMEMBER));
-        self.last_rows.push(0);
-        self.present.push(false);
-        self.cells.entry(cell(place)).or_default().push(number);
-        number
+impl Cells {
+    fn add(&mut self, number: usize, place: Place) {
+        self.0.entry(cell(place)).or_default().push(number);
     }
 
     fn follow(&mut self, number: usize, from: (i32, i32), to: (i32, i32)) {
         if from != to {
-            let there = self.cells.entry(from).or_default();
+            let there = self.0.entry(from).or_default();
             if let Some(place) = there.iter().position(|other| *other == number) {
                 there.swap_remove(place);
             }
-            self.cells.entry(to).or_default().push(number);
+            self.0.entry(to).or_default().push(number);
         }
+    }
+
+    /// Who is present and hears what a vehicle sends, in order.
+    fn hearers(&self, sender: usize, town: &Vehicles, found: &mut Vec<usize>) {
+        found.clear();
+        let place = town.places[sender];
+        let k = scale(place.lat);
+        let reach = (100 * RANGE) * (100 * RANGE);
+        let (row, column) = cell(place);
+        let beside = (10_000 / k.max(1) + 1) as i32;
+        for row in row - 1..=row + 1 {
+            for column in column - beside..=column + beside {
+                for number in self.0.get(&(row, column)).into_iter().flatten() {
+                    let (north, east) = offset(place, k, town.places[*number]);
+                    let near = (north * north + east * east) as u64 <= reach;
+                    if near && *number != sender && town.present[*number] {
+                        found.push(*number);
+                    }
+                }
+            }
+        }
+        found.sort_unstable();
     }
 }
 
-fn run() -> std::io::Result<()> {
-    let (mut town, mut line) = (Town::default(), String::new());
-    let mut input = std::io::stdin().lock();
+/// What is known of each vehicle, by its number.
+#[derive(Default)]
+struct Vehicles {
+    ids: HashMap<String, usize>,
+    places: Vec<Place>,
+    last_rows: Vec<u64>,
+    present: Vec<bool>,
+    /// Whether a send of it waits.
+    sending: Vec<bool>,
+}
+
+/// A delivery, which waits in line.
+struct Delivery {
+    moment: u64,
+    place: u64,
+    station: usize,
+    frame: usize,
+}
+
+struct Town {
+    sends: bool,
+    vehicles: Vehicles,
+    world: World,
+    leaves: VecDeque<(u64, usize)>,
+    cells: Cells,
+    draws: Draws,
+    tally: Tally,
+    /// Sends: moment, place and station, the first on top.
+    heap: BinaryHeap<Reverse<(u64, u64, usize)>>,
+    /// Deliveries, which come in the order in which they were put, the first in front.
+    line: VecDeque<Delivery>,
+    placed: u64,
+    found: Vec<usize>,
+}
+
+impl Town {
+    fn new(sends: bool) -> Town {
+        Town {
+            sends,
+            vehicles: Vehicles::default(),
+            world: World::new(Vec::new()),
+            leaves: VecDeque::new(),
+            cells: Cells::default(),
+            draws: Draws::new(SEED),
+            tally: Tally::default(),
+            heap: BinaryHeap::new(),
+            line: VecDeque::new(),
+            placed: 0,
+            found: Vec::new(),
+        }
+    }
+
+    /// Does what comes before a moment: those leave that had no row for a while, then sends and
+    /// deliveries.
+    fn go_on_to(&mut self, moment: u64) {
+        loop {
+            let leaving = self.leaves.front().map_or(u64::MAX, |(due, _)| *due);
+            let in_line = self.line.front().map_or((u64::MAX, 0), |it| (it.moment, it.place));
+            let on_heap = self
+                .heap
+                .peek()
+                .map_or((u64::MAX, 0), |Reverse((moment, place, _))| (*moment, *place));
+            let own = in_line.min(on_heap);
+            if leaving.min(own.0) >= moment {
+                break;
+            }
+            if leaving <= own.0 {
+                self.leave();
+            } else if in_line < on_heap {
+                self.deliver();
+            } else {
+                self.send();
+            }
+        }
+    }
+
+    fn leave(&mut self) {
+        if let Some((due, station)) = self.leaves.pop_front() {
+            if self.vehicles.last_rows[station] + GONE == due {
+                self.vehicles.present[station] = false;
+            }
+        }
+    }
+
+    fn deliver(&mut self) {
+        if let Some(Delivery { moment, station, frame, .. }) = self.line.pop_front() {
+            let event = Event { station, moment, what: What::Deliver(frame) };
+            let entry = self.world.step(&event);
+            self.tally.count(&self.world, &event, &entry);
+        }
+    }
+
+    fn send(&mut self) {
+        let Some(Reverse((moment, _, station))) = self.heap.pop() else { return };
+        if !self.vehicles.present[station] {
+            self.vehicles.sending[station] = false;
+            return;
+        }
+        let what = What::SendShb { port: PORT, payload: vec![0; OCTETS] };
+        let event = Event { station, moment, what };
+        let entry = self.world.step(&event);
+        self.tally.count(&self.world, &event, &entry);
+        if let Entry::Sent(frame) = entry {
+            self.spread(moment, station, frame);
+        }
+        self.put_send(moment + PERIOD, station);
+    }
+
+    /// Puts the deliveries of a frame.
+    fn spread(&mut self, moment: u64, station: usize, frame: usize) {
+        let mut found = std::mem::take(&mut self.found);
+        self.cells.hearers(station, &self.vehicles, &mut found);
+        for station in &found {
+            // No frame is lost, but each has its draw.
+            let _ = self.draws.next();
+            let (moment, place, station) = (moment + DELAY, self.placed, *station);
+            self.line.push_back(Delivery { moment, place, station, frame });
+            self.placed += 1;
+        }
+        self.found = found;
+    }
+
+    fn put_send(&mut self, moment: u64, station: usize) {
+        self.heap.push(Reverse((moment, self.placed, station)));
+        self.placed += 1;
+    }
+
+    fn take(&mut self, row: Row) {
+        self.go_on_to(row.at);
+        let known = self.vehicles.ids.get(&row.id).copied();
+        let number = known.unwrap_or_else(|| self.make(row.id, row.place));
+        let stood = cell(self.vehicles.places[number]);
+        let (at, place) = (row.at, row.place);
+        let _ = self.world.stations[number].move_to(at, place, row.speed, row.heading);
+        self.tally.count_move();
+        self.cells.follow(number, stood, cell(place));
+        self.vehicles.places[number] = place;
+        self.vehicles.last_rows[number] = at;
+        self.leaves.push_back((at + GONE, number));
+        if known.is_none() && self.sends {
+            let event = Event { station: number, moment: at, what: What::Open(PORT) };
+            let entry = self.world.step(&event);
+            self.tally.count(&self.world, &event, &entry);
+        }
+        if !std::mem::replace(&mut self.vehicles.present[number], true) {
+            self.come(at, number);
+        }
+    }
+
+    /// A vehicle that comes begins to send, if no send of it waits.
+    fn come(&mut self, moment: u64, number: usize) {
+        if self.sends && !std::mem::replace(&mut self.vehicles.sending[number], true) {
+            let moment = moment + self.draws.next() % PERIOD;
+            self.put_send(moment, number);
+        }
+    }
+
+    fn make(&mut self, id: String, place: Place) -> usize {
+        let number = self.world.stations.len();
+        self.vehicles.ids.insert(id, number);
+        self.vehicles.places.push(place);
+        self.vehicles.last_rows.push(0);
+        self.vehicles.present.push(false);
+        self.vehicles.sending.push(false);
+        let address = FIRST + number as u64;
+        self.world.stations.push(Station::new(address, place, CAPACITY, REMEMBER));
+        self.cells.add(number, place);
+        number
+    }
+}
+
+fn run(sends: bool) -> std::io::Result<()> {
+    let (mut town, mut line) = (Town::new(sends), String::new());
+    let (mut input, mut last) = (std::io::stdin().lock(), 0);
     input.read_line(&mut line)?;
     for number in 2.. {
         line.clear();
@@ -128,13 +295,29 @@ fn run() -> std::io::Result<()> {
             break;
         }
         match read(line.trim_end()) {
-            Some(row) => town.take(row),
+            Some(row) => {
+                last = row.at;
+                town.take(row);
+            }
             None => panic!("line {number}"),
         }
     }
-    let events = town.events;
-    println!("total events {events} frames 0 deliveries 0 duplicates 0 ignored 0 refused 0");
+    town.go_on_to(last + AFTER + 1);
+    town.tally.print();
+    eprintln!("{}", town.tally.receptions);
     Ok(())
+}
+
+/// The scenario for geostation of such a run.
+fn print_scenario(sends: bool) {
+    println!("[air]\nrange = {RANGE}\nseed = {SEED}");
+    println!("[moves]\ncapacity = {CAPACITY}");
+    if sends {
+        println!("ports = [{PORT}]");
+        println!(
+            "[[every]]\nperiod = {PERIOD}\nport = {PORT}\ninfo = 0\ntc = 0\noctets = {OCTETS}"
+        );
+    }
 }
 
 /// Streets of ten kilometres to the north, some 100 m apart, one for each hundred vehicles.
@@ -153,10 +336,18 @@ fn rows(vehicles: u64, seconds: u64) -> std::io::Result<()> {
 
 fn main() -> std::io::Result<()> {
     let words: Vec<String> = std::env::args().skip(1).collect();
-    let number = |place: usize| words[place].parse().expect("a whole number");
-    match words.last().map(String::as_str) {
-        Some("run") => run(),
-        Some("rows") => rows(number(0), number(1)),
-        _ => panic!("moves VEHICLES SECONDS rows, or moves run"),
+    let words: Vec<&str> = words.iter().map(String::as_str).collect();
+    let number = |word: &str| word.parse().expect("a whole number");
+    match words.as_slice() {
+        ["run"] => run(false),
+        ["sends"] => run(true),
+        ["scenario", of] => {
+            print_scenario(*of == "sends");
+            Ok(())
+        }
+        [vehicles, seconds, "rows"] => rows(number(vehicles), number(seconds)),
+        _ => panic!(
+            "moves VEHICLES SECONDS rows, moves scenario run|sends, moves run, or moves sends"
+        ),
     }
 }

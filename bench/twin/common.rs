@@ -185,6 +185,11 @@ impl Tally {
         }
     }
 
+    /// Counts a move.
+    pub fn count_move(&mut self) {
+        self.events += 1;
+    }
+
     pub fn print(&self) {
         for send in &self.sends {
             let Send { event, moment, station, port, inside, .. } = send;
