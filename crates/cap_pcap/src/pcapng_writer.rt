@@ -2,6 +2,7 @@
 
 ghost use Rattle.std.specs.Prelude.{◌≡◌, ◌-◌, ◌+◌, ◌/◌, ◌%◌, ◌^◌, ◌<◌, ◌≤◌, ◌↔◌, ◌||◌, ◌++◌};
 ghost use Rattle.std.specs.Prelude.{false, OnOk, IfErr, Err, IsTrue, if◌then◌else◌, length};
+ghost use Rattle.std.specs.Prelude.{◌∷◌, [], take};
 ghost use Rattle.std.specs.Io.KnownBytes.{Appends};
 ghost use Rattle.byteorder.specs.Endian.{little_bytes};
 ghost use Rattle.cap_pcap.specs.PcapngWritten.{padding_size, section_octets, interface_front};
@@ -62,6 +63,9 @@ const PACKET_SIZE: u32 = 32;
 
 /// Octets of padding.
 const PADDING: [u8; 3] = [0; 3];
+
+/// The most octets of a packet after its frame.
+const TAIL: usize = 7;
 
 /// Writes a pcapng file of one section: its header, its interfaces, then its records, one after the
 /// other. It takes no memory.
@@ -166,8 +170,9 @@ impl<W: Sink> PcapngWriter<W> {
         let padding = padding_after(size);
         let block = PACKET_SIZE + (size + padding);
         let head = head_for(interface, ticks, block, size);
-        let zeros = &PADDING[..padding as usize];
-        self.output.write(&[&head, frame, zeros, &end_of(block)])
+        let mut tail = [0; TAIL];
+        self.output
+            .write(&[&head, frame, tail_in(&mut tail, padding, block)])
     }
 
     /// The sink, with what it has.
@@ -311,11 +316,12 @@ fn head_for(interface: u32, ticks: u64, block: u32, size: u32) -> [u8; HEAD]
     head
 }
 
-/// The size of a block, as it stands at its end.
-fn end_of(block: u32) -> [u8; 4]
-    ensures { result ≡ little_bytes 4 block }
+/// Returns what goes after a frame: the padding, and the size of the block.
+fn tail_in(tail: &mut [u8; TAIL], padding: u32, block: u32) -> &[u8]
+    requires { padding ≤ 3 }
+    ensures { result.now ≡ take padding (0 ∷ 0 ∷ 0 ∷ []) ++ little_bytes 4 block }
 {
-    let mut end = [0; 4];
-    LittleEndian::write_u32(&mut end, block);
-    end
+    *tail = [0; TAIL];
+    LittleEndian::write_u32(&mut tail[PADDING.len()..], block);
+    &tail[PADDING.len() - padding as usize..]
 }
