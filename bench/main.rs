@@ -1,5 +1,6 @@
 //! The hot calls beside the same algorithms in plain Rust: a row for each, by interleaved rounds.
 //! `./bench WORD` measures the rows whose name has the word.
+#![allow(dead_code)]
 #[path = "twin/geometry.rs"]
 mod geometry;
 #[path = "twin/lines.rs"]
@@ -46,7 +47,6 @@ unsafe extern "C" {
     fn bench_receive(b: *const u8, n: usize, p: *const u8, m: usize, stride: usize, r: u32) -> u64;
     fn bench_world(w: *const u64, n: usize, runs: u32) -> u64;
     fn bench_simulate(w: *const u64, n: usize, runs: u32) -> u64;
-    fn bench_show(p: *const u8, n: usize) -> u64;
 }
 
 // ---- rows
@@ -891,39 +891,6 @@ fn world_rows() {
     );
 }
 
-fn line_rows() {
-    let kinds = [BEACON, SHB, GBC, GAC];
-    let record = |i: u64| {
-        let source = 0x1400_0200_0000_0001 + i;
-        let made = packet(kinds[i as usize % 4], source, i as u16, (450_000_100, 70_000_000), 34);
-        let frame = frame_of(source, made);
-        let mut octets = (1000 * i).to_be_bytes().to_vec();
-        octets.extend((frame.len() as u16).to_be_bytes());
-        octets.extend(frame);
-        octets
-    };
-    let capture: Vec<u8> = (0..10_000).flat_map(record).collect();
-    let (p, n) = (capture.as_ptr(), capture.len());
-    row!(
-        "show a record, beside write!",
-        10_000,
-        30,
-        1,
-        false,
-        |r| repeated(r, || bench_show(p, n)),
-        repeated(r, || lines::show(black_box(&capture)).map_or(0, |out| out.len() as u64))
-    );
-    row!(
-        "show a record, beside a line by hand",
-        10_000,
-        30,
-        1,
-        false,
-        |r| repeated(r, || bench_show(p, n)),
-        repeated(r, || lines::show_by_hand(black_box(&capture)).len() as u64)
-    );
-}
-
 fn main() {
     println!("{:52} {:>9} {:>9} {:>6}", "ns a call", "ours", "plain", "ratio");
     packet_rows();
@@ -936,5 +903,4 @@ fn main() {
         receive_rows(count);
     }
     world_rows();
-    line_rows();
 }
