@@ -1,4 +1,4 @@
-//! What comes of a station's reply: an entry, and the frame that the station gave.
+//! The result of a call: an entry, and the frame that the station sent.
 
 ghost use Rattle.std.specs.Prelude.{◌≡◌, Option, None, true, not};
 ghost use Rattle.its_model.specs.Packet.{Transmission};
@@ -11,18 +11,18 @@ ghost use Rattle.its_world.specs.Entries.{TellsEntry, was_done};
 use crate::entry::{Entry, EntryFault};
 use its_station::Reply;
 
-/// What comes of a call: what is told of it, and the frame that the station gave, if it gave one.
+/// The result of a call: its entry, and the frame that the station sent, if it sent one.
 #[derive(Debug, Drop, PartialEq, Eq)]
 pub struct CallOutcome {
-    /// What is told of the call.
+    /// The entry of the call.
     pub entry: Entry,
-    /// The octets of the frame that the entry has by its number.
+    /// The octets of the frame whose number the entry has.
     pub frame: Option<Vec<u8>>,
 }
 
 impl CallOutcome {
-    /// What comes of a reply. `done` is the entry of a call of which the reply tells only that it was
-    /// done, and a frame gets `number`.
+    /// Returns the result of a call with this reply. `done` is the entry if the reply is `Done`. A
+    /// frame gets `number`.
     pub fn of_reply(done: Entry, reply: Reply, number: usize) -> CallOutcome
         ensures entry { (answer : Answer Transmission) → TellsReply reply answer →
             (reply ≡ Reply.Done → TellsEntry done (entry_of number answer)) →
@@ -51,7 +51,7 @@ impl CallOutcome {
         }
     }
 
-    /// An entry of a call for which the station gave no frame.
+    /// Returns the result of a call for which the station sent no frame.
     pub fn told(entry: Entry) -> CallOutcome
         ensures entry { result.entry ≡ entry }
         ensures frame { result.frame ≡ None }
@@ -60,7 +60,7 @@ impl CallOutcome {
     }
 }
 
-/// A number for the frame, if there is one.
+/// Returns the number for the frame, if there is a frame.
 fn number_of(frame: &Option<Vec<u8>>, number: usize) -> Option<usize>
     ensures { (relayed : Option Transmission) → IsRelay frame.now relayed →
         result ≡ numbered number relayed }
