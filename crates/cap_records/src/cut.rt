@@ -7,10 +7,7 @@ use crate::frame::traits_of;
 use crate::refusal::RecordFault;
 use cap_pcap::{RecordHeader, frame_start};
 use its_headers::Kind;
-use its_linkframe::{FrameFault, FrameView, LONGEST_FRAME, read_frame};
-
-/// Where a packet begins in a frame.
-const PACKET: usize = 14;
+use its_linkframe::{FrameFault, FrameView, LONGEST_FRAME, PACKET, read_frame};
 
 /// Fields of a packet, from its own first octet (EN 302 636-4-1 clause 9): header type and sub-type,
 /// the payload's length, and the lower octets of an area's distances.

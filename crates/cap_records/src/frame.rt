@@ -2,7 +2,7 @@
 
 ghost use Rattle.std.specs.Prelude.{◌≡◌, ℕ, List, IfOk, IfErr};
 ghost use Rattle.its_linkframe.specs.Frames.{EncodesFrame, transmission_of};
-ghost use Rattle.its_linkframe.specs.Padding.{IsUnpadded};
+ghost use Rattle.its_linkframe.specs.FrameFaults.{IsFrameFault};
 ghost use Rattle.cap_records.specs.RecordFrames.{HasFrame, IsRecordFault, traits_in};
 ghost use Rattle.cap_records.specs.RecordFrames.{IsReadAs, IsNoFrame};
 
@@ -21,10 +21,10 @@ pub(crate) struct RecordFrame<'a> {
     pub(crate) secured: Option<SecuredFacts>,
 }
 
-/// Returns the frame of a record, or why the record is refused. Its octets are the first ones of the
-/// record, `LONGEST_RECORD` of them if there are so many. A frame that is found is put together among
-/// them: the header of its link layer is read first, and what Ethernet filled a short frame up with
-/// is left out.
+/// Returns the frame of a record, or why the record is refused. Its octets are the first ones of
+/// the record, `LONGEST_RECORD` of them if there are so many. A frame that is found is put together
+/// among them: the header of its link layer is read first, and what Ethernet filled a short frame
+/// up with is left out.
 pub fn frame_of<'a>(
     head: &RecordHeader,
     octets: &'a mut Vec<u8>,
@@ -38,41 +38,34 @@ pub fn frame_of<'a>(
     read_on(layer, &octets.as_slice()[start..])
 }
 
-/// The frame in octets that came from this link layer.
+/// Returns the frame in octets that came from this link layer, and the octets of that frame alone:
+/// Ethernet fills short frames up. The octets are read once.
+pub fn read_from(layer: LinkLayer, octets: &[u8]) -> Unpadded<'_>
+    ensures octets { IsReadAs layer octets.now result.octets.now }
+    ensures found { IfOk result.frame (λ v.
+        EncodesFrame (transmission_of v) result.octets.now) }
+    ensures fault { IfErr result.frame (IsFrameFault result.octets.now) }
+{
+    match layer {
+        LinkLayer::Ethernet => read_unpadded(octets),
+        LinkLayer::Sll => read_unpadded(octets),
+        LinkLayer::Sll2 => read_unpadded(octets),
+        LinkLayer::Bare | LinkLayer::Ieee80211 | LinkLayer::Radiotap => Unpadded {
+            octets,
+            frame: read_frame(octets),
+        },
+    }
+}
+
+/// The frame in octets that came from this link layer, or why they aren't a frame.
 pub(crate) fn read_on(layer: LinkLayer, octets: &[u8]) -> Result<FrameView<'_>, RecordFault>
     ensures frame { IfOk result (λ v. (text : List ℕ) × IsReadAs layer octets.now text
         × EncodesFrame (transmission_of v) text) }
     ensures fault { IfErr result (λ f. (text : List ℕ) × IsReadAs layer octets.now text
         × IsNoFrame text f) }
 {
-    match layer {
-        LinkLayer::Ethernet => read_filled_up(octets),
-        LinkLayer::Sll => read_filled_up(octets),
-        LinkLayer::Sll2 => read_filled_up(octets),
-        LinkLayer::Bare | LinkLayer::Ieee80211 | LinkLayer::Radiotap => read(octets),
-    }
-}
-
-/// The frame in octets that came over Ethernet, which fills short frames up.
-fn read_filled_up(octets: &[u8]) -> Result<FrameView<'_>, RecordFault>
-    ensures frame { IfOk result (λ v. (text : List ℕ) × IsUnpadded octets.now text
-        × EncodesFrame (transmission_of v) text) }
-    ensures fault { IfErr result (λ f. (text : List ℕ) × IsUnpadded octets.now text
-        × IsNoFrame text f) }
-{
-    let Unpadded { octets, frame } = read_unpadded(octets);
+    let Unpadded { octets, frame } = read_from(layer, octets);
     match frame {
-        Ok(frame) => Ok(frame),
-        Err(fault) => Err(RecordFault::of(fault, octets)),
-    }
-}
-
-/// The frame that the octets are.
-fn read(octets: &[u8]) -> Result<FrameView<'_>, RecordFault>
-    ensures frame { IfOk result (λ v. EncodesFrame (transmission_of v) octets.now) }
-    ensures fault { IfErr result (IsNoFrame octets.now) }
-{
-    match read_frame(octets) {
         Ok(frame) => Ok(frame),
         Err(fault) => Err(RecordFault::of(fault, octets)),
     }

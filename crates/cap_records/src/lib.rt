@@ -12,7 +12,7 @@ mod signed;
 mod walk;
 
 pub use crate::choosing::{Choice, Kinds, Traits};
-pub use frame::{frame_of, traits_of};
+pub use frame::{frame_of, read_from, traits_of};
 pub use refusal::{FileFault, RecordCode, RecordFault, SIGNED_HINT};
 pub use refused_capture::RefusedCapture;
 pub use signed::{

@@ -12,7 +12,7 @@ use cmd_reporting::Fault;
 use cmd_text::frames::{FrameReason, SecuredReason};
 use cmd_text::lines::{GZIP, GzipFile};
 use its_faults::FaultKind;
-use its_linkframe::{CaptureFault, FrameFault, SecuredFault};
+use its_linkframe::{CaptureFault, FrameFault, PACKET, SecuredFault};
 use std::alloc::AllocError;
 use std::fmt;
 
@@ -33,9 +33,6 @@ pub enum RecordFault {
     /// The message of its secured frame can't be read.
     Message(MessageFault),
 }
-
-/// Where a packet begins in a frame.
-const PACKET: usize = 14;
 
 /// What follows the Basic Header of a secured packet, in the lower half of an octet.
 const SECURED: u8 = 2;

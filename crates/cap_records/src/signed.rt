@@ -17,13 +17,10 @@ use crate::messages::{HeaderInfo, read_message};
 use crate::refusal::RecordFault;
 use cap_pcap::{LinkLayer, RecordHeader, frame_start};
 use its_btp::split;
-use its_linkframe::{FrameView, VerifiedFrame, read_frame, read_secured_frame};
+use its_linkframe::{FrameView, PACKET, VerifiedFrame, read_frame, read_secured_frame};
 
-/// Octets of a frame: where its type is, where its packet begins, and where the message of a secured
-/// one does.
+/// Octets of a frame: where its type is, and where the message of a secured one begins.
 const TYPE: usize = 12;
-
-const PACKET: usize = 14;
 
 const MESSAGE: usize = 18;
 

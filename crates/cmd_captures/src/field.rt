@@ -4,9 +4,7 @@ ghost use Rattle.std.specs.Prelude.{◌≡◌, IfSome};
 ghost use Rattle.cmd_captures.specs.Fields.{field_word, is_of_secured};
 
 use its_headers::Kind;
-
-/// Where a packet begins in a frame.
-const PACKET: usize = 14;
+use its_linkframe::PACKET;
 
 /// A key of the object of a record.
 #[derive(Clone, Copy, Debug, PartialEq, Eq)]

@@ -1,3 +1,4 @@
+pub mod Readings
 pub mod Opened
 pub mod Records
 pub mod Verified

@@ -1,3 +1,4 @@
+pub mod Readings
 pub mod Units
 pub mod OnAir
 pub mod Replays

@@ -11,8 +11,6 @@ use Rattle.cap_pcap.specs.declared.record.Step.TheVariants as steps
 use Rattle.its_station.specs.Receiving.{IsFrameCall, IsVerifiedCall, VerifiedCall, verified_step}
 use Rattle.its_station.specs.Runs.{TellsReply}
 use Rattle.its_station.specs.State.{StationState, RepresentsStation}
-use Rattle.its_station.specs.declared.run.Call.{Call}
-use Rattle.its_station.specs.declared.run.Call.TheVariants as calls
 use Rattle.cmd_stats.specs.OnAir.{AnswersChoice, IsOnAir}
 use Rattle.cmd_stats.specs.declared.replay.heard.Heard.{Heard}
 use Rattle.cmd_stats.specs.declared.replay.heard.Heard.TheVariants as heards
@@ -234,11 +232,6 @@ pub record IsHeard (choice : Choice) (signed : Bool) (head : RecordHeader) (w : 
   pub tells : TellsRecord choice signed head w s told next
   pub took : Took (log ++ told)
   pub stands : RepresentsStation station next
-
--- the call is that of a frame
-abbrev pub IsReceive : Call → Type 0
-IsReceive (calls.Receive octets) = Unit {0}
-IsReceive call = ⊥
 
 -- these octets were received at the moment
 pub record TellsOctets (octets : List ℕ) (moment : ℕ) (s : StationModel) (heard : Heard)

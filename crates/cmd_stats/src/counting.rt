@@ -13,13 +13,10 @@ use cap_records::{
     Place, RecordFault, RecordVisitor, Selection, each_record, open_records, traits_of,
 };
 use cmd_reporting::{Fault, Io, Status, open};
-use its_linkframe::FrameView;
+use its_linkframe::{FrameView, PACKET};
 use std::alloc::{AllocError, Global};
 use std::io::{Read, Write};
 use std::rt::Files;
-
-/// The octets of a frame before its packet.
-const LINK_HEADER: usize = 14;
 
 /// What is counted of the records of a capture.
 #[derive(Drop)]
@@ -64,7 +61,7 @@ impl Counts {
 fn length_of(place: &Place, frame: &FrameView<'_>) -> usize {
     match place.secured {
         Some(secured) => secured.length,
-        None => frame.packet.octets().len().saturating_add(LINK_HEADER),
+        None => frame.packet.octets().len().saturating_add(PACKET),
     }
 }
 

@@ -1,5 +1,6 @@
 //! The command `replay`: what one station would have done with the frames of a capture.
 
+mod air_octets;
 mod command;
 mod heard;
 mod lines;

@@ -12,8 +12,8 @@ pub(crate) const SOURCE: usize = 6;
 /// The type, two octets.
 pub(crate) const ETHER_TYPE: usize = 12;
 
-/// Its packet.
-pub(crate) const PACKET: usize = 14;
+/// Its packet: where the packet begins in a frame.
+pub const PACKET: usize = 14;
 
 /// The hops that its packet has left.
 pub(crate) const HOPS_LEFT: usize = PACKET + its_headers::HOPS_LEFT;

@@ -19,6 +19,7 @@ mod writer;
 
 pub use building::{relay_frame, retarget, write_frame};
 pub use counted::Counted;
+pub use fields::PACKET;
 pub use frame::{FrameView, read_frame};
 pub use its_faults::{FrameCode, FrameFault, SecuredCode, SecuredFault};
 pub use padding::{Unpadded, frame_length, read_unpadded, without_padding};

@@ -1,4 +1,4 @@
-//! The frames of a world: those that are kept, by their numbers.
+//! The frames of a world, by their numbers. Those that are kept have their octets.
 
 ghost use Rattle.std.specs.Prelude.{◌≡◌, ◌<◌, ◌≤◌, ◌+◌, ◌-◌, ◌^◌, [], Some, OnOk};
 ghost use Rattle.std.specs.Prelude.{length, drop, min, max};
@@ -11,13 +11,13 @@ use its_gnvalue::NoMemory;
 use std::alloc::Global;
 use std::collections::VecDeque;
 
-/// Frames, numbered from 0 in the order in which they were given. The first ones may have been let
-/// go: they have no octets any more, and the others keep their numbers.
+/// Frames, numbered from 0 in the order in which they were sent. The first ones may have been
+/// released. They have no octets then, and the others keep their numbers.
 #[derive(Drop)]
 pub(crate) struct Air {
     /// The octets of those that are kept, in order.
     kept: VecDeque<Vec<u8>>,
-    /// How many were let go.
+    /// How many were released.
     released: usize,
     ghost numbered: { released + deque_len kept < 2 ^ 64 },
 }
@@ -34,14 +34,14 @@ impl Air {
         }
     }
 
-    /// How many were let go: of these numbers there are no octets.
+    /// Returns how many were released. The frames of these numbers have no octets.
     pub(crate) fn released(&self) -> usize
         ensures { result ≡ self.now.released }
     {
         self.released
     }
 
-    /// How many were given: the number of the next one.
+    /// Returns how many were sent, which is the number of the next one.
     #[inline(always)]
     pub(crate) fn count(&self) -> usize
         ensures { result ≡ self.now.released + length self.now.kept.items }
@@ -49,7 +49,7 @@ impl Air {
         self.released + self.kept.len()
     }
 
-    /// The octets of the frame of a number; `None` where it was let go, or none has it.
+    /// Returns the octets of the frame of a number. `None` if it was released or doesn't exist.
     #[inline(always)]
     pub(crate) fn get(&self, number: usize) -> Option<&[u8]>
         ensures { option_map (λ octets. octets.now) result ≡ option_map (λ w. w.items)
@@ -64,7 +64,7 @@ impl Air {
         }
     }
 
-    /// The octets of the frame of a number that is kept.
+    /// Returns the octets of the frame of a number, which has to be kept.
     pub(crate) fn frame(&self, number: usize) -> &[u8]
         requires kept { self.now.released ≤ number }
         requires given { number < self.now.released + length self.now.kept.items }
@@ -74,7 +74,7 @@ impl Air {
         self.kept[number - self.released].as_slice()
     }
 
-    /// Makes room for one more. `NoMemory` where an allocation failed, or there is no number left.
+    /// Reserves memory for one more. `NoMemory` if an allocation failed or no number is left.
     #[inline(always)]
     pub(crate) fn make_room(&mut self) -> Result<(), NoMemory>
         ensures kept { self.new.kept.items ≡ self.old.kept.items }
@@ -90,8 +90,8 @@ impl Air {
         Ok(())
     }
 
-    /// Gives the next number to the frame that a station gave, if it gave one. There has to be room
-    /// for it.
+    /// Adds the frame that a station sent, if it sent one, with the next number. Memory for it has
+    /// to be reserved.
     #[inline(always)]
     pub(crate) fn number(&mut self, given: Option<Vec<u8>>)
         requires room { deque_len self.old.kept < deque_capacity self.old.kept }
@@ -104,7 +104,7 @@ impl Air {
         }
     }
 
-    /// Lets those before this number go, as far as there are such and they aren't gone already.
+    /// Releases the frames before this number that exist and are kept.
     pub(crate) fn release(&mut self, before: usize)
         ensures released { self.new.released ≡ max self.old.released
             (min before (self.old.released + length self.old.kept.items)) }

@@ -12,19 +12,19 @@ use std::fmt;
 pub struct Config {
     /// Its address.
     pub address: GnAddress,
-    /// Where it stands.
+    /// Its position.
     pub place: Place,
-    /// For how many sources its location table has room, 1 to 4096.
+    /// The size of its location table, 1 to 4096.
     pub capacity: u16,
-    /// How many sequence numbers it remembers of a source, 1 to 64.
+    /// The length of its duplicate packet lists, 1 to 64.
     pub remember: u8,
 }
 
-/// Why a world isn't made.
+/// Why a world can't be made.
 #[derive(Clone, Copy, Debug, PartialEq, Eq)]
 pub enum WorldFault {
-    /// M1: the second of these stations is the first that has the MID of an earlier one, the first
-    /// of these.
+    /// M1: two stations have one MID. The second of these numbers is the first station that has the
+    /// MID of an earlier one. The first is that earlier one.
     SameMid(usize, usize),
     /// M2: an allocation failed.
     NoMemory,

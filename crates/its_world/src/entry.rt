@@ -1,4 +1,4 @@
-//! What is told of an event that was done.
+//! The answer to an event.
 
 ghost use Rattle.std.specs.Prelude.{◌≡◌, ℕ};
 ghost use Rattle.its_model.specs.Calls.{Answer};
@@ -9,19 +9,19 @@ use its_station::{Delivery, Refused, Why};
 use std::error::Error;
 use std::fmt;
 
-/// Why an event was refused. It changed nothing then.
+/// Why an event failed. It changed nothing.
 #[derive(Clone, Copy, Debug, PartialEq, Eq)]
 pub enum EntryFault {
-    /// The station refused the call; it is never for memory.
+    /// The station refused the call. The reason is never memory.
     Station(Refused),
     /// M3: there is no frame of this number.
     NoSuchFrame,
-    /// M4: there is no such station. It is told before M3.
+    /// M4: there is no such station. M4 comes before M3.
     NoSuchStation,
 }
 
 impl EntryFault {
-    /// What logs and the program's lines show, as `S8 B2` or `M3`.
+    /// The code that logs and the program's lines show, for example `S8 B2` or `M3`.
     pub fn code(&self) -> EntryCode
         ensures { result ≡ record { 0 = self.now } }
     {
@@ -41,7 +41,7 @@ impl fmt::Display for EntryFault {
 
 impl Error for EntryFault {}
 
-/// An event's refusal that prints as its code, as `S8 B2` or `M3`.
+/// A fault that prints as its code, for example `S8 B2` or `M3`.
 #[derive(Clone, Copy, Debug, PartialEq, Eq)]
 pub struct EntryCode(pub EntryFault);
 
@@ -55,7 +55,7 @@ impl fmt::Display for EntryCode {
     }
 }
 
-/// What is told of an event that was done. A frame is told by its number.
+/// The answer to an event. A frame is named by its number.
 #[derive(Debug, Drop, PartialEq, Eq)]
 pub enum Entry {
     /// The station moved.
@@ -68,7 +68,7 @@ pub enum Entry {
     Restarted,
     /// No beacon was due.
     Quiet,
-    /// It gave this frame.
+    /// It sent this frame.
     Sent(usize),
     /// It ignored a frame.
     Ignored(Why),
@@ -76,15 +76,15 @@ pub enum Entry {
     Accepted {
         /// What was delivered to a port, if anything was.
         handed: Option<Delivery>,
-        /// The frame in which the packet goes on, if it does.
+        /// The frame in which the packet is forwarded, if it is.
         sent: Option<usize>,
     },
-    /// The event was refused.
+    /// The event failed.
     Refused(EntryFault),
 }
 
 impl Entry {
-    /// The frame that was given, by its number; `None` where none was.
+    /// Returns the number of the frame that was sent, if one was.
     pub fn frame(&self) -> Option<usize>
         ensures { (answer : Answer ℕ) → TellsEntry self.now answer → result ≡ frame_of answer }
     {

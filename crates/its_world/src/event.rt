@@ -13,18 +13,18 @@ use crate::entry::Entry;
 use its_gnvalue::Place;
 use its_station::{Call, OwnedGbcRequest, OwnedShbRequest};
 
-/// A call of a station, with its arguments but for the moment, or the delivery of a frame.
+/// A call of a station with its arguments, except the time, or the delivery of a frame.
 #[derive(Debug, Drop, PartialEq, Eq)]
 pub enum What {
-    /// `move_to`; the speed is in its range.
+    /// `move_to`, with a speed in its range.
     MoveTo {
-        /// Where the station stands.
+        /// The position of the station.
         place: Place,
-        /// Whether the place is accurate.
+        /// Whether the position is accurate.
         pai: bool,
-        /// In 0.01 m/s, from -16384 to 16383.
+        /// The speed in 0.01 m/s, -16384 to 16383.
         speed: i16,
-        /// In 0.1 degree.
+        /// The heading in 0.1 degree.
         heading: u16,
     },
     /// `open`, of this port.
@@ -46,8 +46,8 @@ pub enum What {
 }
 
 impl What {
-    /// The call that it asks of its station; `None` where it delivers a frame. The speed has to be
-    /// in its range where it is a `MoveTo`.
+    /// Returns the call that it asks of its station. `None` if it delivers a frame. The speed of a
+    /// `MoveTo` has to be in its range.
     pub fn into_call(self) -> Option<Call>
         requires { IsInRange self }
         ensures call { (own : OwnCall) → what_of self ≡ Calls own
@@ -79,7 +79,7 @@ impl What {
         }
     }
 
-    /// What is told of it where its station answers only that it was done.
+    /// Returns the entry of a call that succeeded and returned nothing.
     pub fn done_entry(&self) -> Entry
         ensures { TellsEntry result (done_answer (what_of self.now)) }
     {
@@ -100,9 +100,9 @@ impl What {
 /// What happens, to which station, and when.
 #[derive(Debug, Drop, PartialEq, Eq)]
 pub struct Event {
-    /// The station, by its place among the configs.
+    /// The number of the station, from 0 in the order of the configs.
     pub station: usize,
-    /// The moment, in milliseconds.
+    /// The time, in milliseconds.
     pub moment: u64,
     /// What happens.
     pub what: What,

@@ -1,5 +1,5 @@
-//! A world of stations, and all frames that they gave: calls and deliveries in any order, and laws
-//! that hold after every one of them.
+//! A world of stations, and all frames that they sent: calls and deliveries in any order, and laws
+//! that hold after each of them.
 #![tactic(auto)]
 
 mod air;

@@ -9,8 +9,8 @@ use its_gnvalue::{Mac, NoMemory};
 use std::alloc::Global;
 use std::collections::HashMap;
 
-/// Refuses stations of which two share a MID: by `SameMid` (M1) exactly where they do, and else by
-/// `NoMemory` (M2) where an allocation failed.
+/// Fails with `SameMid` (M1) if and only if two of these stations share a MID. Otherwise fails with
+/// `NoMemory` (M2) if an allocation failed.
 pub fn refuse_shared(alloc: Global, configs: &[Config]) -> Result<(), WorldFault>
     ensures apart { OnOk result (AreApart configs.now) }
     ensures refused { IfErr result (λ fault. IsMidFault fault configs.now) }
@@ -25,8 +25,8 @@ pub fn refuse_shared(alloc: Global, configs: &[Config]) -> Result<(), WorldFault
     }
 }
 
-/// The first station that has the MID of an earlier one, behind that one; `None` where no two
-/// stations share one. `NoMemory` where the map of MIDs finds no memory.
+/// Returns the first station that has the MID of an earlier one, after that earlier one. `None` if
+/// no two stations share a MID. `NoMemory` if an allocation for the map of MIDs failed.
 fn first_shared(alloc: Global, configs: &[Config]) -> Result<Option<(usize, usize)>, NoMemory>
     ensures apart { result ≡ Ok None → AreApart configs.now }
     ensures shared { IfOk result (λ found.
@@ -42,7 +42,7 @@ fn first_shared(alloc: Global, configs: &[Config]) -> Result<Option<(usize, usiz
     Ok(None)
 }
 
-/// The same, and in no memory: by comparing each station with those before it.
+/// Returns what `first_shared` does without allocating: compares each station with those before it.
 fn first_shared_by_pairs(configs: &[Config]) -> Option<(usize, usize)>
     ensures apart { IfNone result (AreApart configs.now) }
     ensures shared { IfSome result (λ pair. ShareMid configs.now pair.0 pair.1) }
@@ -55,7 +55,7 @@ fn first_shared_by_pairs(configs: &[Config]) -> Option<(usize, usize)>
     None
 }
 
-/// The first station that has this MID, if one has.
+/// Returns the first station that has this MID, if one has.
 fn place_of(configs: &[Config], mid: Mac) -> Option<usize>
     ensures found { IfSome result (λ place. (place < length configs.now)
         × (slice_index (mids configs.now) place ≡ mid)) }

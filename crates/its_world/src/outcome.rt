@@ -1,4 +1,4 @@
-//! What comes of a station's reply: an entry, and the frame that the station gave.
+//! The result of a call: an entry, and the frame that the station sent.
 
 ghost use Rattle.std.specs.Prelude.{◌≡◌, Option, None, true, not, IsSome, MatchResult};
 ghost use Rattle.its_model.specs.Packet.{Transmission};
@@ -13,18 +13,18 @@ use crate::entry::{Entry, EntryFault};
 use its_gnvalue::NoMemory;
 use its_station::{Refused, Reply};
 
-/// What comes of a call: what is told of it, and the frame that the station gave, if it gave one.
+/// The result of a call: its entry, and the frame that the station sent, if it sent one.
 #[derive(Debug, Drop, PartialEq, Eq)]
 pub struct CallOutcome {
-    /// What is told of the call.
+    /// The entry of the call.
     pub entry: Entry,
-    /// The octets of the frame that the entry has by its number.
+    /// The octets of the frame whose number the entry has.
     pub frame: Option<Vec<u8>>,
 }
 
 impl CallOutcome {
-    /// What comes of a reply. `done` is the entry of a call of which the reply tells only that it was
-    /// done, and a frame gets `number`.
+    /// Returns the result of a call with this reply. `done` is the entry if the reply is `Done`. A
+    /// frame gets `number`.
     #[inline(always)]
     pub fn of_reply(done: Entry, reply: Reply, number: usize) -> CallOutcome
         ensures entry { (answer : Answer Transmission) → TellsReply reply answer →
@@ -54,7 +54,7 @@ impl CallOutcome {
         }
     }
 
-    /// An entry of a call for which the station gave no frame.
+    /// Returns the result of a call for which the station sent no frame.
     #[inline(always)]
     pub fn told(entry: Entry) -> CallOutcome
         ensures entry { result.entry ≡ entry }
@@ -64,7 +64,7 @@ impl CallOutcome {
     }
 }
 
-/// The entry of a refused call, unless an allocation failed.
+/// Returns the entry of a refused call. `NoMemory` if an allocation failed.
 pub(crate) fn refusal(refused: Refused) -> Result<Entry, NoMemory>
     ensures { MatchResult result
         (λ entry. (entry ≡ Entry.Refused (EntryFault.Station refused)) × IsSome (refusal_of refused))
@@ -84,7 +84,7 @@ pub(crate) fn refusal(refused: Refused) -> Result<Entry, NoMemory>
     }
 }
 
-/// A number for the frame, if there is one.
+/// Returns the number for the frame, if there is a frame.
 #[inline(always)]
 pub(crate) fn number_of(frame: &Option<Vec<u8>>, number: usize) -> Option<usize>
     ensures { (relayed : Option Transmission) → IsRelay frame.now relayed →

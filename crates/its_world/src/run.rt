@@ -1,4 +1,4 @@
-//! Many events, one after the other: the headline.
+//! Many events, one after the other.
 
 ghost use Rattle.std.specs.Prelude.{◌≡◌, ◌<◌, ◌≤◌, [], List, All, map, take, length, IsTrue, IsFalse};
 ghost use Rattle.its_model.specs.World.{WorldModel, Config, Event as Happening, opening, world_run};
@@ -13,31 +13,35 @@ use crate::world::World;
 use its_model::laws::{every_schedule, runs_go_on};
 use std::alloc::Global;
 
-/// What came of the events.
+/// The result of the events.
 #[derive(Debug, Drop, PartialEq, Eq)]
 pub struct Run {
     /// An entry for each event that was done, in order.
     pub log: Vec<Entry>,
     /// How many events were done.
     pub done: usize,
-    /// Whether memory ran out, so that the events after these weren't done.
+    /// Whether memory ran out, so that the later events weren't done.
     pub out_of_memory: bool,
 }
 
 impl World {
-    /// Does the events in order, until memory runs out: then neither the event that met it nor any
-    /// after it is done, the world stands as after those before it, and `run` may be called again.
-    /// The speed of each `MoveTo` has to be in its range.
+    /// Does the events in order, until memory runs out. Then the event for which it ran out and
+    /// those after it are not done, the world is as after the events before, and `run` may be
+    /// called again. The speed of each `MoveTo` has to be in its range.
     ///
-    /// For every run at whose end the world stood, these events, where they deliver no frame that
-    /// was let go, continue it as the written rules say, and of the longer run hold the laws over
-    /// every schedule of losses, repeats and reorderings: what is delivered of a packet for an area
-    /// was sent earlier to that port for an area that holds the receiver then; a relay is the
-    /// received packet, one hop fewer; no station delivers a send twice unless, between, as many
-    /// other packets of the source came as it remembers, nothing new of the source came for 20 s,
-    /// or the station restarted. And where the deliveries come, a geobroadcast reaches: each station
-    /// of a way on which what one gave came to the next accepts it, n links away n delays after the
-    /// send at the latest, where its hops suffice (`what_is_delivered_reaches` of `its_model`).
+    /// If the world was at the end of a run, and these events deliver no frame that was released,
+    /// then they continue that run by the rules of the model. The laws over every schedule of
+    /// losses, repeats and reorderings hold of the longer run:
+    ///
+    /// - What is delivered of a packet for an area was sent earlier to that port, for an area that
+    ///   holds the receiver at delivery.
+    /// - A forwarded packet is the received packet with one hop less.
+    /// - No station delivers a send twice, except in three cases: as many other packets of the
+    ///   source as the duplicate packet list holds came between, nothing new of the source came for
+    ///   20 s, or the station restarted.
+    /// - If the deliveries come and its hops suffice, a geobroadcast reaches each station of a path
+    ///   on which each station receives what the one before sent. A station n links away accepts it
+    ///   n delays after the send at the latest (`what_is_delivered_reaches` of `its_model`).
     pub fn run(&mut self, events: &[Event]) -> Run
         requires { All (λ event. IsInRange event.what) events.now }
         ensures log { length result.log.items ≡ result.done }
@@ -106,7 +110,7 @@ fn log_of(alloc: Global, entries: usize) -> Vec<Entry>
     log
 }
 
-/// What came of the events until memory ran out.
+/// Returns the result of the events that were done before memory ran out.
 fn stopped(log: Vec<Entry>) -> Run
     ensures log { result.log ≡ log }
     ensures done { result.done ≡ length log.items }

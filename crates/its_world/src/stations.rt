@@ -12,7 +12,7 @@ use its_loctable::SortedTable;
 use its_station::Station;
 use std::alloc::Global;
 
-/// New stations of these configs, in their order. It takes all memory of their location tables.
+/// Makes stations of these configs, in their order. Allocates all memory of their location tables.
 pub fn stations_of(alloc: Global, configs: &[Config]) -> Result<Vec<Station<SortedTable>>, NoMemory>
     requires { All IsConfig configs.now }
     ensures { IfOk result (λ stations.
@@ -26,7 +26,7 @@ pub fn stations_of(alloc: Global, configs: &[Config]) -> Result<Vec<Station<Sort
     Ok(stations)
 }
 
-/// A new station of this config. It takes all memory of its location table.
+/// Makes a station of this config. Allocates all memory of its location table.
 pub(crate) fn begin_station(
     alloc: Global,
     config: &Config,

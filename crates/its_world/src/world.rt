@@ -40,9 +40,9 @@ use std::alloc::Global;
 use std::array;
 use std::marker::Model;
 
-/// Stations, and all frames that they gave, numbered from 0 in the order in which they were given.
-/// A frame that is delivered to nobody is lost; one may be delivered often, late, and to any
-/// station. The first frames may be let go (`release`): those after them keep their numbers.
+/// Stations, and all frames that they sent, numbered from 0 in the order in which they were sent. A
+/// frame that is not delivered is lost. A frame may be delivered often, late, and to any station.
+/// The first frames may be released (`release`). Those after them keep their numbers.
 #[derive(Drop)]
 pub struct World {
     pub(crate) alloc: Global,
@@ -72,10 +72,10 @@ impl Model for World {
 }
 
 impl World {
-    /// The world of these configs, at most 65535, in which nothing happened yet. The capacity of
-    /// each is 1 to 4096, and what it remembers 1 to 64. Refused by `SameMid` (M1) exactly where
-    /// two stations share a MID, and else by `NoMemory` (M2) where an allocation failed. So each
-    /// has an address of its own, which the law on reaching asks of a sender.
+    /// Makes the world of these configs, at most 65535, before its first event. The capacity of
+    /// each is 1 to 4096, and `remember` is 1 to 64. Fails with `SameMid` (M1) if and only if two
+    /// stations share a MID. Otherwise fails with `NoMemory` (M2) if an allocation failed. So each
+    /// station has an address of its own, which the law on reaching requires of a sender.
     pub fn new(alloc: Global, configs: &[Config]) -> Result<World, WorldFault>
         requires ranges { All IsConfig configs.now }
         requires count { length configs.now ≤ 65535 }
@@ -92,8 +92,8 @@ impl World {
         World::of_apart(alloc, configs).map_err(|_| WorldFault::NoMemory)
     }
 
-    /// The same of configs of which no two share a MID, as `refuse_shared` tells: their MIDs aren't
-    /// compared again.
+    /// Makes the world of configs that have no MID in common, for example after `refuse_shared`.
+    /// Their MIDs aren't compared again.
     pub fn of_apart(alloc: Global, configs: &[Config]) -> Result<World, NoMemory>
         requires ranges { All IsConfig configs.now }
         requires count { length configs.now ≤ 65535 }
@@ -110,10 +110,10 @@ impl World {
         })
     }
 
-    /// Adds a station of this config, numbered behind all others, to which nothing happened yet. It
-    /// is as if it had been there from the beginning (`late_stations_were_there`). Its capacity is 1
-    /// to 4096, and what it remembers 1 to 64. Whether another has its MID isn't looked at. Where an
-    /// allocation failed nothing changed.
+    /// Adds a station of this config, with the next number, before its first event. It is in the
+    /// state that it would have if it had been there from the beginning
+    /// (`late_stations_were_there`). Its capacity is 1 to 4096, and `remember` is 1 to 64. Its MID
+    /// is not compared with those of others. If an allocation failed, nothing changed.
     pub fn add_station(&mut self, config: &Config) -> Result<(), NoMemory>
         requires { IsConfig config.now }
         ensures added { OnOk result ((w : WorldModel) → RepresentsWorld self.old w →
@@ -130,28 +130,30 @@ impl World {
         Ok(())
     }
 
-    /// The station of a number, as it stands after the events done; `None` where there is none.
+    /// Returns the station of a number, after the events that were done. `None` if it doesn't
+    /// exist.
     pub fn station(&self, number: usize) -> Option<&Station<SortedTable>>
         ensures { option_map (λ station. station.now) result ≡ slice_get self.now.stations number }
     {
         self.stations.get(number)
     }
 
-    /// The stations, in the order of the configs, as they stand after the events done.
+    /// Returns the stations, in the order of the configs, after the events that were done.
     pub fn stations(&self) -> &[Station<SortedTable>]
         ensures { result.now ≡ self.now.stations }
     {
         self.stations.as_slice()
     }
 
-    /// How many frames were given, those that were let go among them: the number of the next one.
+    /// Returns how many frames were sent, with those that were released. This is the number of the
+    /// next one.
     pub fn frames(&self) -> usize
         ensures { result ≡ self.now.released + length self.now.frames }
     {
         self.air.count()
     }
 
-    /// How many frames were let go: those of the numbers below. 0 as long as `release` isn't
+    /// Returns how many frames were released: those of lower numbers. It is 0 before `release` is
     /// called.
     pub fn released(&self) -> usize
         ensures { result ≡ self.now.released }
@@ -159,10 +161,10 @@ impl World {
         self.air.released()
     }
 
-    /// Lets the frames before this number go, so that their memory can hold others: their octets
-    /// are no longer there, and they can't be delivered any more. The numbers of the others stay.
-    /// Nothing else changes: the world stands as before, at the end of the same run. Those before
-    /// may be gone already, and there may be no frame of this number yet.
+    /// Releases the frames before this number, so that their memory is free for others. Their
+    /// octets are gone, and they can't be delivered. The others keep their numbers. Nothing else
+    /// changes: the world is at the end of the same run. Frames that were released before stay so,
+    /// and the number may be above that of all frames.
     pub fn release(&mut self, before: usize)
         ensures stands { (w : WorldModel) → RepresentsWorld self.old w → RepresentsWorld self.new w }
         ensures stations { self.new.stations ≡ self.old.stations }
@@ -177,8 +179,8 @@ impl World {
         self.air.release(before);
     }
 
-    /// The octets of a frame, by its number, which has to be below `frames()`, and no lower than
-    /// `released()`.
+    /// Returns the octets of a frame, by its number. The number has to be below `frames()`, and at
+    /// least `released()`.
     pub fn frame(&self, number: usize) -> &[u8]
         requires kept { self.now.released ≤ number }
         requires given { number < self.now.released + length self.now.frames }
@@ -188,7 +190,7 @@ impl World {
         self.air.frame(number)
     }
 
-    /// The octets of a frame, by its number; `None` where it was let go, or there is no such frame.
+    /// Returns the octets of a frame, by its number. `None` if it was released or doesn't exist.
     pub fn kept_frame(&self, number: usize) -> Option<&[u8]>
         ensures { option_map (λ octets. octets.now) result ≡ option_map (λ w. w.items)
             (frame_in self.now.released self.now.frames number) }
@@ -196,13 +198,13 @@ impl World {
         self.air.get(number)
     }
 
-    /// Does one event, whose speed has to be in its range where it is a `MoveTo`: the world goes one
-    /// step of the written rules, and the entry is what they log of it. No other station is touched.
-    /// Where an allocation failed nothing changed, and the event may be done again. `run` does many,
-    /// and says what holds then.
+    /// Does one event. The speed of a `MoveTo` has to be in its range. The world makes one step of
+    /// the model, and the entry is what the model logs of it. No other station changes. If an
+    /// allocation failed, nothing changed, and the event may be done again. `run` does many events,
+    /// and its contract has the laws.
     ///
-    /// The written rules know of no frame that was let go, so nothing is said by them of its
-    /// delivery: it is refused as `NoSuchFrame` then, and changes nothing.
+    /// The model knows nothing of released frames. The delivery of one fails with `NoSuchFrame`,
+    /// and changes nothing.
     #[inline(always)]
     pub fn step(&mut self, event: &Event) -> Result<Entry, NoMemory>
         requires { IsInRange event.now.what }

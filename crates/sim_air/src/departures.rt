@@ -1,4 +1,4 @@
-//! When stations leave that move by rows: some time after the last row of each.
+//! When the stations that move by rows leave: some time after the last row of each.
 
 ghost use Rattle.std.specs.Prelude.{◌≡◌, ◌≤◌, ℕ, [], All, nat_eq};
 ghost use Rattle.std.specs.Prelude.{IfNone, IfOk, IfSome, OnOk};
@@ -13,10 +13,11 @@ use std::alloc::{AllocError, Global};
 use std::cmp::Ordering;
 use std::collections::BinaryHeap;
 
-/// When a station leaves. The greatest is the first; of one moment, the one of the lesser number.
+/// When a station leaves. The greatest is the first one: the one with the earlier time, and at one
+/// time the one with the lower number.
 #[derive(Clone, Copy, Debug)]
 pub(crate) struct Departure {
-    /// The moment, in milliseconds.
+    /// The time, in milliseconds.
     pub(crate) moment: u64,
     /// The number of the station.
     pub(crate) station: usize,
@@ -69,28 +70,28 @@ impl PartialOrd for Departure {
 /// What is known of a station.
 #[derive(Clone, Copy, Debug, Default)]
 struct Seen {
-    /// When it leaves, if no row of it comes before.
+    /// When it leaves, if no row of it comes before that.
     due: u64,
-    /// Whether it is among those that wait.
+    /// Whether it is among the departures that wait.
     waits: bool,
 }
 
-/// When each of these stations leaves, if no row of it comes before.
+/// When each station leaves, if no row of it comes before that.
 #[derive(Drop)]
 pub(crate) struct Departures {
     /// How long after its last row a station leaves, in milliseconds.
     gone: u32,
     /// What is known of each station, by its number.
     seen: Vec<Seen>,
-    /// One of each station that waits, at a moment that isn't past the one when it leaves: so a row
-    /// needs no look at the others.
+    /// One entry per station that waits, at a time that is not after its departure. So a row
+    /// changes no entry.
     waiting: BinaryHeap<Departure>,
     ghost ordered: { IsHeap (then_cmp (flip_args (on (λ d. d.moment) nat_cmp))
         (flip_args (on (λ d. d.station) nat_cmp))) (heap_items waiting) } by { Prim.hlevel props },
 }
 
 impl Departures {
-    /// Of so many stations, of which no row was seen.
+    /// No row was seen yet, for this number of stations.
     pub(crate) fn of(alloc: Global, stations: usize, gone: u32) -> Result<Departures, AllocError>
         ensures none { IfOk result (λ departures. heap_items departures.waiting ≡ []) }
     {
@@ -101,7 +102,7 @@ impl Departures {
         })
     }
 
-    /// One station more.
+    /// Adds a station.
     pub(crate) fn add_station(&mut self) -> Result<(), AllocError>
         ensures waiting { self.new.waiting ≡ self.old.waiting }
     {
@@ -109,7 +110,7 @@ impl Departures {
         Ok(())
     }
 
-    /// A row of a station was seen at this moment.
+    /// Notes a row of a station at this time.
     pub(crate) fn note_row(&mut self, station: usize, moment: u64) -> Result<(), AllocError>
         ensures from { (from : ℕ) → from ≤ moment →
             All (λ d. from ≤ d.moment) (heap_items self.old.waiting) → OnOk result
@@ -127,7 +128,7 @@ impl Departures {
         self.push(station, due)
     }
 
-    /// The first that may leave.
+    /// Returns the station that may leave first.
     pub(crate) fn first(&self) -> Option<Departure>
         ensures first { IfSome result (λ first.
             All (λ d. first.moment ≤ d.moment) (heap_items self.now.waiting)) }
@@ -138,8 +139,8 @@ impl Departures {
         self.waiting.peek().copied()
     }
 
-    /// The first that may leave waits no longer at its moment. Gives whether it leaves: where a row
-    /// of it came since, it waits until it leaves by that.
+    /// Takes the station that may leave first. Returns whether it leaves. If a row of it came
+    /// since, it waits for the departure that follows that row.
     pub(crate) fn take_first(&mut self) -> Result<bool, AllocError>
         ensures from { (from : ℕ) → All (λ d. from ≤ d.moment) (heap_items self.old.waiting) →
             OnOk result (All (λ d. from ≤ d.moment) (heap_items self.new.waiting)) }

@@ -1,4 +1,4 @@
-//! What ends the run of an air before its last event.
+//! What ends a run with a radio model before its last event.
 
 use its_gnvalue::NoMemory;
 use sim_moves::MovesFault;
@@ -7,7 +7,7 @@ use sim_simulation::SimulationFault;
 use std::alloc::{AllocError, AllocFailed};
 use thiserror::Error;
 
-/// Why the run of an air ended before its last event. The sink has the events before it.
+/// Why a run with a radio model ended before its last event. The sink has the events before it.
 #[derive(Debug, Drop, Error)]
 pub enum AirFault {
     /// An allocation failed.
@@ -19,10 +19,10 @@ pub enum AirFault {
     /// There are 2^64 events or more.
     #[error("too many events")]
     TooManyEvents,
-    /// The rows by which stations move can't be read on.
+    /// The next row of moves can't be read.
     #[error("moves: {0}")]
     Moves(MovesFault),
-    /// The scenario was read for the rows of a file, and is run without them.
+    /// The scenario is for a file of moves, and is run without it.
     #[error("no rows of moves")]
     NoRows,
 }

@@ -1,4 +1,4 @@
-//! The run of an air over the events of a file.
+//! A run with a radio model over the events of a file.
 
 ghost use Rattle.std.specs.Prelude.{[], List, Some, All, map, length, slice_get, true, false};
 ghost use Rattle.std.specs.Prelude.{◌≡◌, ◌≤◌, ◌<◌, ◌+◌, ◌^◌, ◌∷◌, IfNone, IfOk, IfSome, OnOk};
@@ -99,7 +99,7 @@ pub fn run_air<S: EventSink>(
 }
 
 impl<'a> FiledRun<'a> {
-    /// A run of which nothing is done yet.
+    /// A run before its first event.
     fn begin(
         alloc: Global,
         configs: &[Config],
@@ -150,7 +150,8 @@ impl<'a> FiledRun<'a> {
         })
     }
 
-    /// Takes the first that waits, if one does: of the file, or of the radio model's own.
+    /// Does what comes next, if anything does: of the file, or what the radio model planned.
+    /// Returns whether it did.
     fn go_on<S: EventSink>(&mut self, sink: &mut S) -> Result<bool, AirFault>
         requires standings { AreIndexed self.old.run }
         requires kept { self.old.run.world.released ≤ self.old.lowest }
@@ -190,8 +191,8 @@ impl<'a> FiledRun<'a> {
         Ok(true)
     }
 
-    /// The time before which the radio model's own come first: that of the next of the file, if
-    /// there is one.
+    /// Returns the time before which what the radio model planned comes first: the time of the next
+    /// event of the file, if there is one.
     fn limit(&self) -> u64
         ensures next { (e : Bor Line) → slice_get self.now.due.items self.now.taken ≡ Some e →
             result ≡ moment_of e.now }
@@ -204,7 +205,7 @@ impl<'a> FiledRun<'a> {
         }
     }
 
-    /// The next event or leave of the file.
+    /// Returns the next event or departure of the file.
     fn next(&self) -> Option<&'a FileEvent>
         ensures some { IfSome result (λ next.
             slice_get self.now.due.items self.now.taken ≡ Some next) }
@@ -217,7 +218,8 @@ impl<'a> FiledRun<'a> {
     }
 }
 
-/// The events and leaves of a file up to a time, by their times, those of one time as in the file.
+/// Returns the events and departures of a file up to a time, in the order of time and then of the
+/// file.
 fn due_until(alloc: Global, file: &[FileEvent], end: u64) -> Result<Vec<&FileEvent>, AllocError>
     requires ranges { All IsFiledInRange file.now }
     ensures due { IfOk result (λ due. AreDue (map filed_of file.now) end (filed_in due.items)) }
@@ -235,7 +237,7 @@ fn due_until(alloc: Global, file: &[FileEvent], end: u64) -> Result<Vec<&FileEve
     Ok(due)
 }
 
-/// The lowest number of a frame that one of these delivers, or the greatest number.
+/// Returns the lowest number of a frame that one of these delivers, or the greatest `usize`.
 fn lowest_delivery(due: &[&FileEvent]) -> usize
     ensures { All (λ e. KeepsFrom result e.now) due.now }
 {
@@ -246,7 +248,7 @@ fn lowest_delivery(due: &[&FileEvent]) -> usize
     lowest
 }
 
-/// The number of the frame that an event delivers, or the greatest number.
+/// Returns the number of the frame that an event delivers, or the greatest `usize`.
 fn delivered(filed: &FileEvent) -> usize
     ensures { KeepsFrom result filed.now }
 {

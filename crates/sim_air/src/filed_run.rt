@@ -13,7 +13,8 @@ use sim_scenario::events::FileEvent;
 pub(crate) struct FiledRun<'a> {
     pub(crate) run: Run<'a>,
     pub(crate) count: FrameCount,
-    /// The events and leaves of the file up to the last time, in the order in which they are done.
+    /// The events and departures of the file up to the last time, in the order in which they are
+    /// done.
     pub(crate) due: Vec<&'a FileEvent>,
     /// How many of these were done.
     pub(crate) taken: usize,

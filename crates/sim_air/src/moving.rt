@@ -1,5 +1,5 @@
-//! The run of an air in which stations move by the rows of a file, come with their first row and
-//! leave some time after their last one.
+//! A run with a radio model in which stations move by the rows of a file. A station comes with its
+//! first row and leaves some time after its last one.
 
 ghost use Rattle.std.specs.Prelude.{[], ℕ, List, Some, None, map, ◌≡◌, ◌≤◌, ◌<◌, ◌+◌, ◌^◌, All};
 ghost use Rattle.std.specs.Prelude.{length, slice_get, true, false, vec_len, ◌⊎◌, ◌*◌};
@@ -49,32 +49,29 @@ use sim_simulation::{EventSink, Note};
 use std::alloc::{AllocError, Global};
 use std::io::BufRead;
 
-/// Runs a scenario of at most 65535 stations, whose timeline is this one, while stations move by
-/// the rows of a file, and hands each event to a sink as it is done. Returns the world that the last
-/// one left.
+/// Runs a scenario of at most 65535 stations with this timeline, while stations move by the rows of
+/// a file, and passes each event to a sink as it is done. Returns the world that the last one left.
 ///
-/// A row is a move of the station of its id, with an accurate place. Of an id that is new it makes
-/// the station, numbered behind all others and absent: it is moved, opens the ports that the
-/// scenario gives it, and is present then, as one that is absent and moved always is. A station of
-/// an id leaves when its time without a row is over. Of one moment come rows first, in the file's
-/// order, then those that leave, by their numbers, then the scenario's events in their order, then
-/// the air's own as in `run_air`. An event for an id of which no station is present isn't run, and
-/// the sink has a note of it.
+/// - A row moves the station of its id, with an accurate position.
+/// - The first row of an id makes the station, with the next number. The station is moved, opens
+///   the ports that the scenario gives it, and is present from then on.
+/// - A station of an id leaves when it had no row for the time that the scenario gives.
+/// - At one time, rows come first, in the order of the file. Then come departures by number, the
+///   events of the scenario in their order, and what the radio model planned, as in `run_air`.
+/// - An event for an id of which no station is present isn't run. The sink gets a note of it.
 ///
 /// Frames are released some time after their deliveries are done, so the world that is returned has
 /// only the last ones.
 ///
-/// Without a last moment the run goes on for ten seconds after the greatest moment of an event or a
-/// row, 0 where there is neither. A row is read once the one before it was run, and none once
-/// nothing that waits has its moment up to the last.
+/// Without a last time the run ends ten seconds after the greatest time of an event or a row. A row
+/// is read when the one before it was run. No row is read after the last time.
 ///
-/// It is the run of an air, as `run_air` does one, of the scenario's stations and those that rows
-/// made, these absent at the start, whose file is what came from outside, in the order of moments:
-/// so the laws of airs hold of it.
+/// This is a run with a radio model, as `run_air` does one, so the laws of such runs hold of it.
+/// Its stations are those of the scenario, and those that rows made, which are absent at the start.
+/// Its file is what came from outside, in the order of time.
 ///
-/// `Moves` where a row can't be read, or one that was read would need a station too many, or one of
-/// a MID that another has: the sink has the events before, as where an allocation or the sink
-/// failed.
+/// The error is `Moves` if a row can't be read, or needs one station too many, or a station with
+/// the MID of another. If it fails, the sink has the events before.
 pub fn run_moves<R: BufRead + Drop, S: EventSink>(
     alloc: Global,
     scenario: &Scenario,
@@ -104,14 +101,14 @@ pub fn run_moves<R: BufRead + Drop, S: EventSink>(
 /// The station of a row.
 #[derive(Clone, Copy, Debug)]
 struct RowStation<'a> {
-    /// Its number.
+    /// The number of the station.
     station: usize,
-    /// The ports that it opens.
+    /// The ports that the station opens.
     ports: &'a [u16],
 }
 
 impl<'a> MovingRun<'a> {
-    /// A run of which nothing is done yet, and no row was read.
+    /// A run before its first event. No row was read.
     fn begin(
         alloc: Global,
         scenario: &'a Scenario,
@@ -192,13 +189,13 @@ impl<'a> MovingRun<'a> {
         Ok(())
     }
 
-    /// Whether the station of a row is known, or one can be made for it.
+    /// Whether the station of a row exists, or can be made.
     fn has_station_for(&self, row: &Row) -> bool {
         self.known.is_some() || self.next_config(row.place).is_some()
     }
 
-    /// How the next station begins that a row makes, at this place. `None` where it would be one
-    /// too many, or have the MID of another or of none.
+    /// Returns how the next station that a row makes begins, at this place. `None` if it would be
+    /// one too many, or would have the MID of another station or an invalid one.
     fn next_config(&self, place: Place) -> Option<Config>
         ensures { IfSome result IsConfig }
     {
@@ -208,7 +205,7 @@ impl<'a> MovingRun<'a> {
         self.vehicles.next_config(place)
     }
 
-    /// Takes the first that waits, if one does.
+    /// Does what comes next, if anything does. Returns whether it did.
     fn go_on<R: BufRead + Drop, S: EventSink>(
         &mut self,
         rows: &mut Rows<R>,
@@ -233,7 +230,7 @@ impl<'a> MovingRun<'a> {
         let end = self.end();
         let coming = self.next_until(end);
         let limit = limit_of(coming, end);
-        // Where stations move by rows an event that delivers a frame is left out.
+        // An event that delivers a frame is left out of a run with rows.
         let taken = take_own(&mut self.run, &mut self.count, usize::MAX, limit, sink)?;
         if taken {
             return Ok(true);
@@ -247,8 +244,8 @@ impl<'a> MovingRun<'a> {
         }
     }
 
-    /// The last moment that is run, as far as rows were read: with a row ahead it is no less than
-    /// that one's.
+    /// Returns the last time that is run, by the rows that were read. It is not before the next
+    /// row.
     fn end(&self) -> u64
         ensures end { result ≡ end_in self.now }
         ensures bound { result ≤ 2 ^ 63 + 10000 }
@@ -259,8 +256,8 @@ impl<'a> MovingRun<'a> {
         }
     }
 
-    /// What comes next from outside, up to a moment: of one moment first a row, then a station
-    /// that may leave, then an event.
+    /// Returns what comes next from outside, up to a time. At one time a row comes first, then a
+    /// departure, then an event.
     fn next_until(&self, end: u64) -> Option<Coming>
         requires end { end ≤ 2 ^ 63 + 10000 }
         ensures until { IfSome result (λ coming. coming.moment ≤ end) }
@@ -274,7 +271,7 @@ impl<'a> MovingRun<'a> {
         if next.moment <= end { Some(next) } else { None }
     }
 
-    /// The next row, as what comes.
+    /// Returns the next row as what comes.
     fn next_row(&self) -> Option<Coming>
         ensures some { IfSome result (λ coming. IsComing self.now coming.moment coming.outside
             × ForSome self.now.row (λ row. coming.moment ≤ row.moment)) }
@@ -290,7 +287,7 @@ impl<'a> MovingRun<'a> {
         }
     }
 
-    /// The first that may leave, as what comes.
+    /// Returns the next departure as what comes.
     fn next_departure(&self) -> Option<Coming>
         ensures some { IfSome result (λ coming. IsComing self.now coming.moment coming.outside
             × All (λ d. coming.moment ≤ d.moment) (heap_items self.now.departures.waiting)) }
@@ -306,7 +303,7 @@ impl<'a> MovingRun<'a> {
         }
     }
 
-    /// The next event of the scenario, as what comes.
+    /// Returns the next event of the scenario as what comes.
     fn next_event(&self) -> Option<Coming>
         ensures some { IfSome result (λ coming. IsComing self.now coming.moment coming.outside
             × ((e : Bor Addressed) → slice_get self.now.events.items self.now.taken ≡ Some e →
@@ -378,7 +375,7 @@ impl<'a> MovingRun<'a> {
         self.read_row(rows)
     }
 
-    /// A station leaves, by its number, if no row of it came since.
+    /// Has the station of this number leave, if no row of it came since.
     fn do_departure<S: EventSink>(
         &mut self,
         station: usize,
@@ -403,8 +400,8 @@ impl<'a> MovingRun<'a> {
         }
     }
 
-    /// Moves the station of a row, of this line; one that the row makes opens its ports then. One
-    /// that was absent comes.
+    /// Moves the station of a row, which is in this line. A station that the row makes then opens
+    /// its ports. A station that was absent comes.
     fn do_row<S: EventSink>(&mut self, row: &Row, line: u64, sink: &mut S) -> Result<(), AirFault>
         requires row { FitsRun row.now }
         requires standings { AreIndexed self.old.run }
@@ -422,7 +419,8 @@ impl<'a> MovingRun<'a> {
         move_in(&mut self.run, &event, found.ports, sink)
     }
 
-    /// The station of a row, of this line: one that the row makes opens the ports of the scenario.
+    /// Returns the station of a row, which is in this line, and makes it if it does not exist. A new
+    /// station opens the ports of the scenario.
     fn station_of<S: EventSink>(
         &mut self,
         row: &Row,
@@ -457,7 +455,7 @@ impl<'a> MovingRun<'a> {
         })
     }
 
-    /// The number of the station of an id, where a row made one.
+    /// Returns the number of the station of an id, if a row made it.
     fn number_of(&self, id: &str) -> Option<usize>
         ensures { IfSome result (λ station. station < length self.now.run.world.stations) }
     {
@@ -469,7 +467,7 @@ impl<'a> MovingRun<'a> {
         }
     }
 
-    /// The number of the station of the row that was read last, where a row made one.
+    /// Returns the number of the station of the row that was read last, if a row made it.
     fn known_station(&self) -> Option<usize>
         ensures { IfSome result (λ station. station < length self.now.run.world.stations) }
     {
@@ -481,7 +479,7 @@ impl<'a> MovingRun<'a> {
         }
     }
 
-    /// Makes the station of a row, of this line: its number.
+    /// Makes the station of a row, which is in this line. Returns its number.
     fn make_station<S: EventSink>(
         &mut self,
         row: &Row,
@@ -502,7 +500,7 @@ impl<'a> MovingRun<'a> {
     {
         let station = self.run.world.stations().len();
         let Some(config) = self.next_config(row.place) else {
-            // It was looked for when the row was read.
+            // This was checked when the row was read.
             return Err(MovesFault::Line(line, Word::TooManyStations).into());
         };
         self.run.add_station(&config)?;
@@ -514,8 +512,8 @@ impl<'a> MovingRun<'a> {
         Ok(station)
     }
 
-    /// Does the next event or leave of the scenario. One for an id of which no station is present
-    /// isn't run, and noted.
+    /// Does the next event or departure of the scenario. One for an id of which no station is
+    /// present isn't run, and the sink gets a note of it.
     fn do_next_event<S: EventSink>(&mut self, sink: &mut S) -> Result<(), AirFault>
         requires standings { AreIndexed self.old.run }
         ensures standings { OnOk result (AreIndexed self.new.run) }
@@ -555,7 +553,7 @@ impl<'a> MovingRun<'a> {
         }
     }
 
-    /// The number of the station of an id, where it is present.
+    /// Returns the number of the station of an id, if it is present.
     fn present_station(&self, id: &str) -> Option<usize> {
         let station = self.number_of(id)?;
         if self.run.is_present(station) {
@@ -566,7 +564,7 @@ impl<'a> MovingRun<'a> {
     }
 }
 
-/// Events and leaves in the order in which they are taken: those of one moment as they stand.
+/// Returns events and departures by time. Those of one time keep their order.
 fn in_order(alloc: Global, addressed: &[AddressedEvent]) -> Result<Vec<&AddressedEvent>, AllocError>
     requires ranges { All FitsAddressed addressed.now }
     ensures ranges { IfOk result (λ events. All (λ a. FitsAddressed a.now) events.items) }
@@ -583,7 +581,7 @@ fn in_order(alloc: Global, addressed: &[AddressedEvent]) -> Result<Vec<&Addresse
     Ok(events)
 }
 
-/// The moment of the last of these, 0 where there is none.
+/// Returns the time of the last of these, and 0 if there are no events.
 fn last_moment(events: &[&AddressedEvent]) -> u64
     requires { All (λ a. FitsAddressed a.now) events.now }
     ensures { result < 2 ^ 63 }
@@ -594,7 +592,7 @@ fn last_moment(events: &[&AddressedEvent]) -> u64
     }
 }
 
-/// The first of two, the former where they are of one moment.
+/// Returns the earlier of two, and the former if they have one time.
 fn first_of(former: Option<Coming>, latter: Option<Coming>) -> Option<Coming>
     requires classes { IfSome former (λ one. IfSome latter (λ other.
         class_in one.outside ≤ class_in other.outside)) }
@@ -616,8 +614,8 @@ fn first_of(former: Option<Coming>, latter: Option<Coming>) -> Option<Coming>
     }
 }
 
-/// The moment before which the air's own come first: that of what comes from outside, up to the
-/// last moment.
+/// Returns the time before which what the radio model planned comes first: the time of what comes
+/// from outside, up to the last time.
 fn limit_of(coming: Option<Coming>, end: u64) -> u64
     requires { end ≤ 2 ^ 63 + 10000 }
     ensures some { IfSome coming (λ coming. result ≡ coming.moment) }
@@ -629,7 +627,7 @@ fn limit_of(coming: Option<Coming>, end: u64) -> u64
     }
 }
 
-/// The move that a row is.
+/// Returns the move of a row.
 fn move_of(station: usize, row: &Row) -> Event
     requires { FitsRun row.now }
     ensures range { IsInRange result.what }

@@ -16,18 +16,18 @@ use sim_scenario::events::AddressedEvent;
 use sim_settings::Moves;
 use std::alloc::Global;
 
-/// What comes to an air from outside.
+/// What comes to a run from outside.
 #[derive(Clone, Copy, Debug)]
 pub(crate) enum Outside {
     /// The next row.
     Row,
-    /// A station leaves, by its number, if no row of it came since.
+    /// The station of this number leaves, if no row of it came since.
     Departure(usize),
     /// The next event of the scenario.
     Event,
 }
 
-/// What comes to an air from outside, and when.
+/// What comes to a run from outside, and when.
 #[derive(Clone, Copy, Debug)]
 pub(crate) struct Coming {
     pub(crate) moment: u64,
@@ -39,7 +39,7 @@ pub(crate) struct Coming {
 pub(crate) struct MovingRun<'a> {
     pub(crate) alloc: Global,
     pub(crate) run: Run<'a>,
-    /// What stations the rows make.
+    /// The stations that the rows make.
     pub(crate) moves: &'a Moves,
     pub(crate) vehicles: Vehicles<'a>,
     pub(crate) departures: Departures,
@@ -47,13 +47,13 @@ pub(crate) struct MovingRun<'a> {
     pub(crate) events: Vec<&'a AddressedEvent>,
     /// How many of these were taken.
     pub(crate) taken: usize,
-    /// The next row, where there is one.
+    /// The next row, if there is one.
     pub(crate) row: Option<Row>,
-    /// The number of its station, where a row made one: so its id is looked for once.
+    /// The number of its station, if a row made it. So the id is looked up once.
     pub(crate) known: Option<usize>,
-    /// The last moment that is run, where one is given.
+    /// The last time that is run, if one is given.
     pub(crate) until: Option<u64>,
-    /// The greatest moment of an event, and of a row that was read; 0 where there is neither.
+    /// The greatest time of an event or of a row that was read, and 0 without any.
     pub(crate) greatest: u64,
     pub(crate) count: FrameCount,
     ghost ranges: { All (λ a. FitsAddressed a.now) events.items },

@@ -1,4 +1,4 @@
-//! What a run has while it is under way, and what it does with one event.
+//! The state of a run with a radio model, and what it does with one event.
 
 ghost use Rattle.std.specs.Prelude.{◌≡◌, ◌≤◌, ◌<◌, ◌^◌, ◌++◌, ◌∷◌, [], List, All, map, length};
 ghost use Rattle.std.specs.Prelude.{ℕ, ◌+◌, ◌↔◌, cond, slice_set};
@@ -60,16 +60,16 @@ use std::alloc::Global;
 pub(crate) struct Run<'a> {
     alloc: Global,
     air: Air,
-    /// What each station sends by itself.
+    /// The traffic that each station sends by itself.
     every: &'a [Traffic],
     pub(crate) world: World,
     pub(crate) queue: Queue,
     draws: Draws,
     /// Which stations are present, by their numbers.
     present: Vec<bool>,
-    /// Where the stations of the world stand.
+    /// The positions of the stations of the world.
     pub(crate) standings: PlaceIndex,
-    /// Who hears the last frame that was given.
+    /// The receivers of the last frame that was sent.
     hearers: Vec<usize>,
     /// How many events were done.
     done: usize,
@@ -78,7 +78,7 @@ pub(crate) struct Run<'a> {
 }
 
 impl<'a> Run<'a> {
-    /// A run of which nothing is done yet.
+    /// A run before its first event.
     pub(crate) fn begin(
         alloc: Global,
         configs: &[Config],
@@ -118,7 +118,7 @@ impl<'a> Run<'a> {
         })
     }
 
-    /// What waits at the start, and the draws behind those that this took.
+    /// Returns what waits at the start, and the random numbers that follow those that it used.
     fn begin_queue(
         alloc: Global,
         configs: &[Config],
@@ -138,7 +138,7 @@ impl<'a> Run<'a> {
         Ok((queue, draws))
     }
 
-    /// Adds a station of this config, numbered behind all others, that is absent.
+    /// Adds a station of this config with the next number. It is absent.
     pub(crate) fn add_station(&mut self, config: &Config) -> Result<(), AirFault>
         requires config { IsConfig config.now }
         requires standings { AreIndexed self.old }
@@ -179,7 +179,7 @@ impl<'a> Run<'a> {
         station < self.world.stations().len()
     }
 
-    /// Whether none of the frames that were let go is delivered by what happens.
+    /// Whether an event delivers no released frame.
     pub(crate) fn keeps(&self, what: &What) -> bool
         ensures kept { IsTrue result → IsKept self.now.world.released (what_of what.now) }
         ensures delivers { result ≡ false → IsDelivery (what_of what.now) }
@@ -190,7 +190,7 @@ impl<'a> Run<'a> {
         }
     }
 
-    /// The same of what the air does by itself.
+    /// Whether what the radio model planned delivers no released frame.
     pub(crate) fn keeps_own(&self, own: &AirAction) -> bool
         ensures { IsTrue result ↔ IsKept self.now.world.released (own_of own.now) }
     {
@@ -200,7 +200,7 @@ impl<'a> Run<'a> {
         }
     }
 
-    /// How long after it was given a frame is delivered, in milliseconds.
+    /// Returns how long after its send a frame is delivered, in milliseconds.
     pub(crate) fn delay(&self) -> u64
         ensures delay { result ≡ self.now.air.delay }
         ensures bound { result < 2 ^ 32 }
@@ -214,7 +214,7 @@ impl<'a> Run<'a> {
         is_present(self.present.as_slice(), station)
     }
 
-    /// Does what the file has: an event, with which its station may come, or a leave.
+    /// Does an event or a departure of the file. With an event its station may come.
     pub(crate) fn do_filed<S: EventSink>(
         &mut self,
         filed: &FileEvent,
@@ -243,8 +243,8 @@ impl<'a> Run<'a> {
         }
     }
 
-    /// Does an event that isn't the air's own, with which its station may come. Gives whether it
-    /// does, of which the sink has no note yet.
+    /// Does an event from outside, with which its station may come. Returns whether the station
+    /// came. The sink has no note of that yet.
     pub(crate) fn do_outer<S: EventSink>(
         &mut self,
         event: &Event,
@@ -266,7 +266,7 @@ impl<'a> Run<'a> {
         self.admit(event, &entry)
     }
 
-    /// A station is absent from now on.
+    /// Makes a station absent.
     pub(crate) fn leave<S: EventSink>(
         &mut self,
         station: usize,
@@ -288,7 +288,7 @@ impl<'a> Run<'a> {
         Ok(())
     }
 
-    /// Does a delivery. Nothing follows it but the deliveries of the frame that it gives.
+    /// Does a delivery. Nothing follows it but the deliveries of a frame that the station sends.
     #[inline(always)]
     pub(crate) fn deliver<S: EventSink>(
         &mut self,
@@ -343,8 +343,8 @@ impl<'a> Run<'a> {
         self.world.expect(delivery.moment, delivery.frame, stations);
     }
 
-    /// Does one of the air's own, and puts what follows it. A tick or a send of an absent station
-    /// is passed over.
+    /// Does what the radio model planned, and puts what follows it. A tick or a send of an absent
+    /// station is skipped.
     pub(crate) fn do_own<S: EventSink>(
         &mut self,
         waiting: &Scheduled,
@@ -369,15 +369,15 @@ impl<'a> Run<'a> {
         self.come(&event, &entry, sink)
     }
 
-    /// Whether one of the air's own isn't run: a tick or a send of an absent station.
+    /// Whether it is skipped: a tick or a send of an absent station.
     fn is_passed_over(&self, waiting: &Scheduled) -> bool
         ensures { result ≡ is_passed_over self.now.present.items (planned_of waiting.now) }
     {
         !waiting.own.is_delivery() && !is_present(self.present.as_slice(), waiting.station)
     }
 
-    /// Does an event, hands it to the sink, and puts the deliveries of the frame that it gave.
-    /// Where its station has moved, it stands there from now on.
+    /// Does an event, passes it to the sink, and puts the deliveries of the frame that was sent.
+    /// The index of positions follows the station if it moved.
     #[inline(always)]
     pub(crate) fn do_event<S: EventSink>(
         &mut self,
@@ -423,7 +423,7 @@ impl<'a> Run<'a> {
         Ok(entry)
     }
 
-    /// A station may have moved from where it stood: it stands where the world has it.
+    /// Brings the position of a station, which may have moved, into the index.
     #[inline(always)]
     fn update_place(&mut self, number: usize, stood: Option<Place>)
         ensures air { self.new.air ≡ self.old.air }
@@ -446,8 +446,9 @@ impl<'a> Run<'a> {
         }
     }
 
-    /// Puts a delivery of a frame to each station that hears it and doesn't lose it, and notes
-    /// which of them do and which lose it. That of an absent station is heard by none.
+    /// Puts a delivery of a frame to each station that receives it and doesn't lose it, and notes
+    /// which stations receive it and which lose it. The frame of an absent station has no
+    /// receivers.
     fn schedule_frame<S: EventSink>(
         &mut self,
         event: &Event,
@@ -483,7 +484,7 @@ impl<'a> Run<'a> {
         )
     }
 
-    /// Finds who hears what a station gives: none where it is absent.
+    /// Finds the receivers of what a station sends. An absent station has no receivers.
     fn find_hearers(&mut self, giver: usize) -> Result<(), AirFault>
         requires standings { AreIndexed self.old }
         ensures world { SameWorld self.old self.new }
@@ -511,7 +512,7 @@ impl<'a> Run<'a> {
         Ok(())
     }
 
-    /// After one of the air's own its station may come, of which the sink has a note then.
+    /// Has the station of an event come, if it does, and passes the sink a note of it.
     #[inline(always)]
     fn come<S: EventSink>(
         &mut self,
@@ -539,9 +540,9 @@ impl<'a> Run<'a> {
         }
     }
 
-    /// Makes a station present that was absent and that an event moved, and puts its first tick and
-    /// its first sends, where none of them waits. Gives whether it did, of which the sink has no
-    /// note yet.
+    /// Makes a station present if it was absent and an event moved it. Then puts its first tick and
+    /// its first sends, if none of them waits. Returns whether the station came. The sink has no
+    /// note of that yet.
     #[inline(always)]
     fn admit(&mut self, event: &Event, entry: &Entry) -> Result<bool, AirFault>
         requires moment { event.now.moment ≤ 2 ^ 63 + 10000 }
@@ -564,7 +565,7 @@ impl<'a> Run<'a> {
         Ok(true)
     }
 
-    /// Hands a sink the note that the station of an event came with it.
+    /// Passes a sink the note that the station of an event came.
     pub(crate) fn note_coming<S: EventSink>(
         &self,
         event: &Event,
@@ -577,7 +578,7 @@ impl<'a> Run<'a> {
         Ok(())
     }
 
-    /// Whether the station of an event comes with it: it is absent, and the event moved it.
+    /// Whether the station of an event comes: it is absent, and the event moved it.
     #[inline(always)]
     fn is_coming(&self, event: &Event, entry: &Entry) -> bool
         ensures { (after : WorldModel) → IsAnswered entry.now after →
@@ -586,7 +587,7 @@ impl<'a> Run<'a> {
         is_move(entry) && !is_present(self.present.as_slice(), event.station)
     }
 
-    /// Puts the first tick and the first sends of a station that comes, where none of them waits.
+    /// Puts the first tick and the first sends of a station that comes, if none of them waits.
     fn schedule_coming(&mut self, station: usize, moment: u64) -> Result<(), AirFault>
         requires moment { moment ≤ 2 ^ 63 + 10000 }
         ensures world { SameWorld self.old self.new }
@@ -601,8 +602,8 @@ impl<'a> Run<'a> {
         Ok(())
     }
 
-    /// Puts what follows an event of the air's own: the next tick of a station after one that
-    /// wasn't refused, its next send after one of traffic.
+    /// Puts what follows what the radio model planned: after a tick that was not refused the next
+    /// tick of the station, after a send of traffic the next one.
     fn schedule_next(&mut self, done: &Scheduled, entry: &Entry) -> Result<(), AirFault>
         requires moment { done.now.moment ≤ 2 ^ 63 + 10000 }
         ensures world { SameWorld self.old self.new }
@@ -625,7 +626,7 @@ impl<'a> Run<'a> {
         }
     }
 
-    /// Puts the next tick of a station after one that wasn't refused.
+    /// Puts the next tick of a station, if the last one was not refused.
     fn schedule_next_tick(&mut self, tick: &Scheduled, entry: &Entry) -> Result<(), AirFault>
         ensures world { SameWorld self.old self.new }
         ensures present { self.new.present ≡ self.old.present }
@@ -653,7 +654,7 @@ impl<'a> Run<'a> {
     }
 }
 
-/// Where a station stands, by its number.
+/// Returns the position of a station, by its number.
 #[inline(always)]
 pub(crate) fn place_of(world: &World, number: usize) -> Option<Place>
     ensures { result ≡ option_map (λ st. st.vector.place) (slice_get world.now.stations number) }
@@ -664,7 +665,7 @@ pub(crate) fn place_of(world: &World, number: usize) -> Option<Place>
     }
 }
 
-/// Whether a station stood at this place.
+/// Whether the place where a station stood is this one.
 #[inline(always)]
 fn stood_at(stood: &Option<Place>, place: Place) -> bool
     ensures { IsTrue result → stood.now ≡ Some place }
@@ -675,7 +676,7 @@ fn stood_at(stood: &Option<Place>, place: Place) -> bool
     }
 }
 
-/// Notes that a station is present, or that it is absent. It changes nothing where there is none.
+/// Notes whether a station is present. Changes nothing if there is no such station.
 fn set_present(present: &mut Vec<bool>, station: usize, is_present: bool)
     ensures { present.new.items ≡ slice_set present.old.items station is_present }
 {
@@ -684,33 +685,33 @@ fn set_present(present: &mut Vec<bool>, station: usize, is_present: bool)
     }
 }
 
-/// Leaves those of these stations that are present, in order.
+/// Keeps those of these stations that are present, in order.
 fn keep_present(stations: &mut Vec<usize>, present: &[bool])
     ensures { stations.new.items ≡ filter (is_present present.now) stations.old.items }
 {
     stations.retain(|station| is_present(present, *station));
 }
 
-/// Whether an entry is that of a move that wasn't refused.
+/// Whether an entry is that of a move that was not refused.
 fn is_move(entry: &Entry) -> bool
     ensures { (answer : Answer ℕ) → TellsEntry entry.now answer → result ≡ is_moved answer }
 {
     matches!(entry, Entry::Moved)
 }
 
-/// A frame that was just given.
+/// A frame that was just sent.
 #[derive(Clone, Copy, Debug)]
 struct GivenFrame {
     /// Its number.
     frame: usize,
-    /// The moment when it was given.
+    /// The time when it was sent.
     moment: u64,
-    /// The moment of its deliveries.
+    /// The time of its deliveries.
     heard_at: u64,
 }
 
-/// Puts a delivery of a frame to each of these stations that doesn't lose it, and hands a sink a
-/// note of each loss, in order. A sink that uses them has a note of each delivery too.
+/// Puts a delivery of a frame to each of these stations that doesn't lose it, and passes a sink a
+/// note of each loss, in order. A sink that uses them also gets a note of each delivery.
 #[inline(always)]
 fn schedule_deliveries<S: EventSink>(
     queue: &mut Queue,
@@ -735,7 +736,8 @@ fn schedule_deliveries<S: EventSink>(
     Ok(())
 }
 
-/// Puts a delivery of a frame to a station, unless a draw loses it. Gives the note of it.
+/// Puts a delivery of a frame to a station, unless a random number loses it. Returns the note of
+/// it.
 #[inline(always)]
 fn schedule_delivery(
     queue: &mut Queue,

@@ -10,11 +10,11 @@ use sim_scenario::{Scenario, Timeline};
 use sim_simulation::{EventSink, simulate_into};
 use std::alloc::Global;
 
-/// Runs a scenario of at most 65535 stations by its timeline, and hands each event to a sink as it
+/// Runs a scenario of at most 65535 stations by its timeline, and passes each event to a sink as it
 /// is done. Returns the world that the last one left.
 ///
-/// `NoRows` if its stations move by the rows of a file: `run_moves` runs such a scenario. If an
-/// allocation or the sink failed, the sink has the events before.
+/// The error is `NoRows` if its stations move by the rows of a file. `run_moves` runs such a
+/// scenario. If an allocation or the sink failed, the sink has the events before.
 #[tactic(auto, using(crate::proofs::Ranges::all_in_range, crate::proofs::Ranges::all_moments))]
 pub fn run_scenario<S: EventSink>(
     alloc: Global,

@@ -1,4 +1,4 @@
-//! What comes to a run from outside is done, and what is the air's own.
+//! How a run does what comes from outside, and what the radio model planned.
 
 ghost use Rattle.std.specs.Prelude.{[], ℕ, IsTrue, ◌≡◌, ◌≤◌, ◌<◌, ◌+◌, ◌^◌, ◌∷◌, All, length};
 ghost use Rattle.std.specs.Prelude.{IfOk, OnOk, ◌⊎◌, true, false, map};
@@ -46,7 +46,7 @@ pub(crate) fn do_at<S: EventSink>(
     do_filed(run, &filed, sink)
 }
 
-/// Does what the scenario has, of a station that is there.
+/// Does an event or departure of the scenario, if its station exists.
 pub(crate) fn do_filed<S: EventSink>(
     run: &mut Run<'_>,
     filed: &FileEvent,
@@ -66,8 +66,8 @@ pub(crate) fn do_filed<S: EventSink>(
     }
 }
 
-/// Whether the station is there of what the scenario has, and the frame that it delivers, if it
-/// does, is kept. Where stations move by rows a scenario delivers none.
+/// Whether the station exists, and the frame that is delivered, if any, is kept. A scenario with
+/// rows of moves delivers no frame.
 fn is_there(run: &Run<'_>, filed: &FileEvent) -> bool
     ensures there { IsTrue result → station_in filed.now < length run.now.world.stations }
     ensures kept { IsTrue result → All (λ event. IsKept run.now.world.released event.what)
@@ -111,8 +111,8 @@ pub(crate) fn take_own<S: EventSink>(
     Ok(true)
 }
 
-/// Does one of the air's own, where its station is there, and the frame that it delivers, if it
-/// does, is kept. Both always are so.
+/// Does what the radio model planned, if its station exists and the frame that it delivers, if any,
+/// is kept. Both are always so.
 #[inline(always)]
 fn do_own<S: EventSink>(
     run: &mut Run<'_>,
@@ -132,7 +132,7 @@ fn do_own<S: EventSink>(
     let AirAction::Deliver(frame) = waiting.own else {
         return run.do_own(waiting, sink);
     };
-    // Most are deliveries: of these no event of any kind is copied.
+    // Most are deliveries, and `deliver` copies no event of another kind.
     let delivery = Delivery {
         moment: waiting.moment,
         place: waiting.place,
@@ -142,8 +142,7 @@ fn do_own<S: EventSink>(
     run.deliver(&delivery, sink)
 }
 
-/// Whether the station is there of one of the air's own, and the frame is kept that it delivers, if
-/// it does.
+/// Whether the station exists, and the frame that is delivered, if any, is kept.
 #[inline(always)]
 fn can_do(run: &Run<'_>, waiting: &Scheduled) -> bool
     ensures there { IsTrue result → waiting.now.station < length run.now.world.stations }
@@ -154,7 +153,7 @@ fn can_do(run: &Run<'_>, waiting: &Scheduled) -> bool
     run.has_station(waiting.station) && run.keeps_own(&waiting.own)
 }
 
-/// Does a move, opens these ports at its station, and has the station come where it was absent.
+/// Does a move, opens these ports at its station, and has the station come if it was absent.
 pub(crate) fn move_in<S: EventSink>(
     run: &mut Run<'_>,
     event: &Event,
@@ -179,7 +178,7 @@ pub(crate) fn move_in<S: EventSink>(
     Ok(())
 }
 
-/// Opens these ports at the station of an event, at its moment.
+/// Opens these ports at the station of an event, at the time of the event.
 fn open_ports<S: EventSink>(
     run: &mut Run<'_>,
     event: &Event,

@@ -1,4 +1,4 @@
-//! The stations that rows make: which number each id has, and how each begins.
+//! The stations that rows make: the number of each id, and how each station begins.
 
 ghost use Rattle.std.specs.Prelude.{IfSome};
 ghost use Rattle.its_world.specs.Events.{IsConfig};
@@ -12,13 +12,13 @@ use std::collections::HashMap;
 /// The first 16 bits of the address of a station of type 5, a passenger car, before its MID.
 const PASSENGER_CAR: u64 = 0x1400 << 48;
 
-/// One above the greatest MID.
+/// The greatest MID and 1.
 const MIDS: u64 = 1 << 48;
 
 /// A station that a row made.
 #[derive(Clone, Copy, Debug)]
 struct Made {
-    /// Where its id begins among all, and where it ends.
+    /// Where its id begins and ends in the octets of all ids.
     begin: usize,
     end: usize,
     /// Its number.
@@ -30,20 +30,20 @@ struct Made {
 pub(crate) struct Vehicles<'a> {
     /// How they begin.
     moves: &'a Moves,
-    /// The place of each among those that were made, by its id.
+    /// The index of each in `made`, by its id.
     places: HashMap<String, usize>,
     /// Those that were made, in order.
     made: Vec<Made>,
-    /// The octets of their ids, side by side: those of ids that follow one another are near.
+    /// The octets of their ids, in order, so that ids of stations that were made in turn are close.
     ids: Vec<u8>,
-    /// The place behind that of the last row's station.
+    /// The index after that of the last row's station.
     next: usize,
     /// The MIDs of the other stations.
     taken: HashMap<Mac, usize>,
 }
 
 impl<'a> Vehicles<'a> {
-    /// None yet, beside these stations.
+    /// No station yet, in addition to these.
     pub(crate) fn beside(
         alloc: Global,
         stations: &[Config],
@@ -63,14 +63,15 @@ impl<'a> Vehicles<'a> {
         })
     }
 
-    /// The number of the station of an id, where a row made one.
+    /// Returns the number of the station of an id, if a row made it.
     pub(crate) fn number(&self, id: &str) -> Option<usize> {
         let place = self.places.get(id).copied()?;
         self.number_at(place)
     }
 
-    /// The same for the id of the next row. Those of a moment mostly come in the order of those of
-    /// the moment before, so the id behind the last row's is compared first.
+    /// Returns the number of the station of the next row's id, if a row made it. Rows of one time
+    /// mostly come in the order of the time before, so the id after the last row's is compared
+    /// first.
     pub(crate) fn number_of_row(&mut self, id: &str) -> Option<usize> {
         let place = if self.has_id(self.next, id) {
             self.next
@@ -81,7 +82,7 @@ impl<'a> Vehicles<'a> {
         self.number_at(place)
     }
 
-    /// The number of the one at a place.
+    /// Returns the number of the station at an index.
     fn number_at(&self, place: usize) -> Option<usize> {
         match self.made.get(place) {
             Some(made) => Some(made.number),
@@ -89,7 +90,7 @@ impl<'a> Vehicles<'a> {
         }
     }
 
-    /// Whether the one at a place has this id.
+    /// Whether the station at an index has this id.
     fn has_id(&self, place: usize, id: &str) -> bool {
         match self.made.get(place) {
             Some(made) => self.id_of(*made) == id.as_bytes(),
@@ -97,7 +98,7 @@ impl<'a> Vehicles<'a> {
         }
     }
 
-    /// The octets of the id of one of these.
+    /// Returns the octets of the id of a station.
     fn id_of(&self, made: Made) -> &[u8] {
         let ids = self.ids.as_slice();
         let end = made.end.min(ids.len());
@@ -105,8 +106,8 @@ impl<'a> Vehicles<'a> {
         &ids[begin..end]
     }
 
-    /// How the next one begins, at this place: its MID is the first one's, greater by as many as
-    /// there are. `None` where that is no MID of one station, or another station's.
+    /// Returns how the next station begins, at this place. Its MID is the MID of the first one plus
+    /// their number. `None` if that isn't the MID of a single station, or is another station's.
     pub(crate) fn next_config(&self, place: Place) -> Option<Config>
         ensures { IfSome result IsConfig }
     {
@@ -126,7 +127,7 @@ impl<'a> Vehicles<'a> {
         })
     }
 
-    /// The station of this id has this number.
+    /// Notes that the station of this id has this number.
     pub(crate) fn add(&mut self, alloc: Global, id: &str, number: usize) -> Result<(), AllocError> {
         let place = self.made.len();
         let begin = self.ids.len();
@@ -138,7 +139,7 @@ impl<'a> Vehicles<'a> {
     }
 }
 
-/// A MID as a number of 48 bits.
+/// Returns a MID as a number of 48 bits.
 fn mid_number(mid: Mac) -> u64 {
     let [a, b, c, d, e, f] = mid.octets();
     u64::from_be_bytes([0, 0, a, b, c, d, e, f])

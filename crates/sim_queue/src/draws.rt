@@ -1,4 +1,4 @@
-//! The draws of an air: what is lost, by how much a beacon is put off, and when traffic begins.
+//! The random numbers of a radio model: losses, jitters of beacons, and when traffic begins.
 
 ghost use Rattle.std.specs.Prelude.{◌≡◌, ◌≤◌, ◌<◌, ◌%◌, ℕ, List, IsTrue, ◌↔◌};
 ghost use Rattle.rand_core.specs.Stream.{next_u64};
@@ -11,7 +11,7 @@ use std::marker::Model;
 /// How many jitters there are: 0 to 750 ms.
 const JITTERS: u64 = 751;
 
-/// A generator of draws. Contracts see its words, which say all that it will draw.
+/// A generator of random numbers. Contracts see its state as words, which fix all later numbers.
 #[derive(Debug, Drop)]
 pub struct Draws(Xoshiro256PlusPlus);
 
@@ -22,14 +22,14 @@ impl Model for Draws {
 }
 
 impl Draws {
-    /// The draws of a seed: `next_u64` of `Xoshiro256PlusPlus::seed_from_u64`.
+    /// The random numbers of a seed: `next_u64` of `Xoshiro256PlusPlus::seed_from_u64`.
     pub fn of_seed(seed: u64) -> Draws
         ensures { draws_at result ≡ draws_of seed }
     {
         Draws(Xoshiro256PlusPlus::seed_from_u64(seed))
     }
 
-    /// Whether a delivery is lost where so many of a hundred are: one draw.
+    /// Whether a delivery is lost, with this probability in percent. Uses one random number.
     #[inline(always)]
     pub fn is_lost(&mut self, loss: u8) -> bool
         ensures lost { IsTrue result ↔ ((next_u64 (draws_at self.old)).0 % 100 < loss) }
@@ -38,7 +38,7 @@ impl Draws {
         self.0.next_u64() % 100 < u64::from(loss)
     }
 
-    /// A jitter in milliseconds, 0 to 750: one draw.
+    /// A jitter in milliseconds, 0 to 750. Uses one random number.
     pub fn jitter(&mut self) -> u16
         ensures value { result ≡ (next_u64 (draws_at self.old)).0 % 751 }
         ensures rest { draws_at self.new ≡ (next_u64 (draws_at self.old)).1 }
@@ -46,7 +46,7 @@ impl Draws {
         (self.0.next_u64() % JITTERS) as u16
     }
 
-    /// A moment in milliseconds, before the end of a period: one draw.
+    /// A random time in milliseconds below a period. Uses one random number.
     pub fn within(&mut self, period: u32) -> u64
         requires { 1 ≤ period }
         ensures value { result ≡ (next_u64 (draws_at self.old)).0 % period }

@@ -1,9 +1,9 @@
-//! Why one of an air's own events wasn't put.
+//! Why an event can't be put into a queue.
 
 use std::alloc::{AllocError, AllocFailed};
 use thiserror::Error;
 
-/// Why one of an air's own events wasn't put.
+/// Why an event can't be put into a queue.
 #[derive(Clone, Copy, Debug, PartialEq, Eq, Error)]
 pub enum QueueFault {
     /// An allocation failed.

@@ -1,4 +1,4 @@
-//! How many of the air's own events wait: of each kind, at each station.
+//! How many events of each kind wait at each station.
 
 ghost use Rattle.std.specs.Prelude.{◌≡◌, ◌<◌, ◌+◌, ◌^◌, [], ◌∷◌, List, length, count_by};
 ghost use Rattle.std.specs.Prelude.{IfSome, IfNone, OnOk, OnErr};
@@ -10,7 +10,7 @@ use crate::fault::QueueFault;
 use crate::scheduled::Scheduled;
 use std::alloc::{AllocError, Global};
 
-/// A kind of what each station does again and again.
+/// A kind of event that a station repeats.
 #[derive(Clone, Copy, Debug)]
 pub(crate) enum Kind {
     /// A tick.
@@ -20,8 +20,8 @@ pub(crate) enum Kind {
 }
 
 impl Kind {
-    /// Its number, if it has one: ticks are of the first kind, sends of the one behind the number
-    /// of their traffic.
+    /// Returns the number of the kind, if it has one. Ticks have number 0, the sends of a traffic
+    /// have one more than the number of the traffic.
     pub(crate) fn number(self) -> Option<usize>
         ensures { IfSome result (λ number. number ≡ number_of self) }
     {
@@ -32,19 +32,18 @@ impl Kind {
     }
 }
 
-/// How many of the air's own events wait: of each station those of each kind, side by side. Of the
-/// first kind are the ticks, of those behind it the sends of each traffic. So none of these has to
-/// be looked for among all that wait.
+/// How many events of each kind wait at each station. The counts of one station are side by side:
+/// ticks first, then the sends of each traffic. So no search among the events is needed.
 #[derive(Debug, Drop)]
 pub(crate) struct Counts {
     /// How many kinds are counted.
     kinds: usize,
-    /// The counts; those behind the last are 0.
+    /// The counts. All further ones are 0.
     each: Vec<usize>,
 }
 
 impl Counts {
-    /// Where nothing waits.
+    /// Counts of 0, for this number of kinds.
     pub(crate) fn new(alloc: Global, kinds: usize) -> Counts
         ensures { AreCounted result.kinds result.each.items [] }
     {
@@ -54,7 +53,7 @@ impl Counts {
         }
     }
 
-    /// How many of a kind wait at a station, if these are counted.
+    /// Returns how many of a kind wait at a station, if they are counted.
     pub(crate) fn get(&self, kind: usize, station: usize) -> Option<usize>
         ensures { (own : List Scheduled) → AreCounted self.now.kinds self.now.each.items own →
             IfSome result (λ count. count ≡ count_by (is_kind_at kind station) own) }
@@ -67,7 +66,7 @@ impl Counts {
         }
     }
 
-    /// Counts one that is put.
+    /// Counts an event that is put.
     pub(crate) fn add(&mut self, waiting: &Scheduled) -> Result<(), QueueFault>
         ensures added { (own new : List Scheduled) →
             AreCounted self.old.kinds self.old.each.items own →
@@ -88,7 +87,7 @@ impl Counts {
         Ok(())
     }
 
-    /// Counts one no more, which is taken.
+    /// Removes an event that is taken from the counts.
     pub(crate) fn remove(&mut self, waiting: &Scheduled)
         ensures { (own new : List Scheduled) →
             AreCounted self.old.kinds self.old.each.items own →
@@ -103,7 +102,7 @@ impl Counts {
         }
     }
 
-    /// Lengthens the counts up to a place.
+    /// Lengthens the counts, so that they have this index.
     fn grow(&mut self, at: usize) -> Result<(), AllocError>
         requires { at + 1 < 2 ^ 64 }
         ensures kinds { self.new.kinds ≡ self.old.kinds }
@@ -117,7 +116,7 @@ impl Counts {
         Ok(())
     }
 
-    /// Where one is counted, if it is.
+    /// Returns the index of the count of an event, if it is counted.
     fn place_of(&self, waiting: &Scheduled) -> Option<usize>
         ensures counted { IfSome result (IsCountedAt self.now.kinds waiting.now) }
         ensures uncounted { IfNone result (IsUncounted self.now.kinds waiting.now) }
@@ -126,7 +125,7 @@ impl Counts {
         self.place(kind, waiting.station)
     }
 
-    /// Where those of a kind at a station are counted, if they are.
+    /// Returns the index of the count of a kind at a station, if it is counted.
     fn place(&self, kind: usize, station: usize) -> Option<usize>
         ensures place { IfSome result (IsPlaceOf self.now.kinds kind station) }
         ensures none { IfNone result (HasNoPlace self.now.kinds kind station) }

@@ -1,4 +1,4 @@
-//! Where the stations of a world stand, and which of them hear what one of them gives.
+//! The positions of the stations of a world, and which of them receive what one of them sends.
 
 mod place_index;
 mod reach;

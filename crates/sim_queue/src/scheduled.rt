@@ -1,4 +1,4 @@
-//! What an air does by itself, and when.
+//! What a radio model does by itself, and when.
 
 ghost use Rattle.std.specs.Prelude.{◌≡◌, ◌≤◌, ◌^◌, ℕ, Some, IfOk, IfSome, IfNone};
 ghost use Rattle.std.specs.BinaryHeap.{lt_by_cmp};
@@ -20,7 +20,7 @@ use sim_settings::Traffic;
 use std::alloc::{AllocError, Global};
 use std::cmp::Ordering;
 
-/// What an air does by itself.
+/// What a radio model does by itself.
 #[derive(Clone, Copy, Debug)]
 pub enum AirAction {
     /// A tick with this jitter.
@@ -39,7 +39,7 @@ impl AirAction {
         matches!(self, AirAction::Deliver(_))
     }
 
-    /// Whether it is of a kind.
+    /// Whether it is of this kind.
     pub(crate) fn is_of(&self, kind: Kind) -> bool
         ensures { result ≡ is_of_kind kind self.now }
     {
@@ -49,7 +49,7 @@ impl AirAction {
         }
     }
 
-    /// Whether it is a send of the traffic of a number.
+    /// Whether it is a send of the traffic of this number.
     fn is_send_of(&self, number: usize) -> bool
         ensures { result ≡ is_numbered number (traffic_in self.now) }
     {
@@ -59,8 +59,8 @@ impl AirAction {
         }
     }
 
-    /// Of what kind it is, by number, if it is of one that is counted: a tick is of the first, a
-    /// send of the one behind the number of its traffic.
+    /// Returns the number of its kind, if the kind is counted: 0 for a tick, one more than the
+    /// number of the traffic for a send.
     pub(crate) fn kind(&self) -> Option<usize>
         ensures kind { IfSome result (λ kind. kind_in self.now ≡ Some kind) }
         ensures none { IfNone result ((kind : ℕ) → kind_in self.now ≡ Some kind → 2 ^ 64 ≤ kind) }
@@ -72,7 +72,7 @@ impl AirAction {
         }
     }
 
-    /// What happens in the world.
+    /// Returns what happens in the world.
     fn what(&self, alloc: Global) -> Result<What, AllocError>
         ensures what { IfOk result (λ what. what_of what ≡ own_of self.now) }
         ensures range { IfOk result IsInRange }
@@ -90,13 +90,13 @@ impl AirAction {
     }
 }
 
-/// An event of the air's own. The one that comes first is the greatest: of two the one of the
-/// lesser moment, of one moment the one that was put first.
+/// An event that a radio model planned. The first one is the greatest: the one with the earlier
+/// time, and at one time the one that was put earlier.
 #[derive(Clone, Copy, Debug)]
 pub struct Scheduled {
-    /// The moment, in milliseconds.
+    /// The time, in milliseconds.
     pub moment: u64,
-    /// How many were put before it.
+    /// How many events were put before it.
     pub place: u64,
     /// The station.
     pub station: usize,
@@ -149,7 +149,7 @@ impl PartialOrd for Scheduled {
 }
 
 impl Scheduled {
-    /// The event of the world.
+    /// Returns the event of the world.
     pub fn event(&self, alloc: Global) -> Result<Event, AllocError>
         ensures event { IfOk result (λ event. event_of event ≡ happening_of self.now) }
         ensures range { IfOk result (λ event. IsInRange event.what) }
@@ -162,22 +162,21 @@ impl Scheduled {
     }
 }
 
-/// A delivery that stands in line.
+/// A delivery that is in the line.
 #[derive(Clone, Copy, Debug)]
 pub struct Delivery {
-    /// The moment, in milliseconds.
+    /// The time, in milliseconds.
     pub moment: u64,
-    /// How many of the air's own were put before it.
+    /// How many events were put before it.
     pub place: u64,
-    /// The station that hears the frame.
+    /// The station that receives the frame.
     pub station: usize,
     /// The number of the frame.
     pub frame: usize,
 }
 
 impl Delivery {
-    /// Whether it is taken before one of the air's own that waits for this moment, and before which
-    /// so many were put.
+    /// Whether it is taken before an event with this time, before which `place` events were put.
     pub(crate) fn is_before(&self, moment: u64, place: u64) -> bool
         ensures { (w : Scheduled) → w.moment ≡ moment → w.place ≡ place →
             result ≡ lt_by_cmp waiting_cmp w (delivery_of self.now) }
@@ -189,7 +188,7 @@ impl Delivery {
         }
     }
 
-    /// The same among ticks and sends.
+    /// Returns the delivery in the form in which ticks and sends wait.
     pub(crate) fn scheduled(&self) -> Scheduled
         ensures { result ≡ delivery_of self.now }
     {
@@ -201,7 +200,7 @@ impl Delivery {
         }
     }
 
-    /// The event of the world.
+    /// Returns the event of the world.
     pub fn event(&self) -> Event
         ensures event { event_of result ≡ happening_of (delivery_of self.now) }
         ensures range { IsInRange result.what }

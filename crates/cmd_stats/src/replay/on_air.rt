@@ -1,19 +1,22 @@
 //! The octets of a record that were on the air, for a station to hear.
 
-ghost use Rattle.std.specs.Prelude.{◌≡◌, IfOk};
-ghost use Rattle.cmd_stats.specs.OnAir.{AnswersChoice, IsOf, IsOnAir, IsUnfilled};
+ghost use Rattle.std.specs.Prelude.{◌≡◌, IfErr, IfOk};
+ghost use Rattle.its_linkframe.specs.FrameFaults.{IsFrameFault};
+ghost use Rattle.its_linkframe.specs.Frames.{EncodesFrame, transmission_of};
+ghost use Rattle.cmd_stats.specs.OnAir.{AnswersChoice, IsOf, IsOnAir};
 
+use crate::replay::air_octets::AirOctets;
 use crate::replay::secured_octets::SecuredOctets;
-use cap_pcap::{LinkLayer, RecordHeader, frame_start, without_padding};
-use cap_records::{Choice, RecordFault, reads_secured, traits_of};
-use its_linkframe::read_frame;
+use cap_pcap::{RecordHeader, frame_start};
+use cap_records::{Choice, RecordFault, read_from, reads_secured, traits_of};
+use its_linkframe::Unpadded;
 use std::alloc::{AllocError, Global};
 
 /// What there is of a record for a station to hear.
 #[derive(Drop)]
 pub(crate) enum OnAir {
     /// These octets, whether they are a frame or not.
-    Octets(Vec<u8>),
+    Octets(AirOctets),
     /// A secured frame, which is received by its plain part.
     Secured(SecuredOctets),
     /// Nothing: its link layer has no frame.
@@ -22,8 +25,8 @@ pub(crate) enum OnAir {
 
 impl OnAir {
     /// What there is of a record with this head and these octets, without what Ethernet filled a
-    /// short frame up with. `signed` says that secured frames are read by their plain part. What the
-    /// buffer has afterwards isn't said.
+    /// short frame up with. `signed` says that secured frames are read by their plain part. What
+    /// the buffer has afterwards isn't said.
     pub(crate) fn of(
         alloc: Global,
         head: &RecordHeader,
@@ -37,20 +40,26 @@ impl OnAir {
             Err(fault) => return Ok(OnAir::Nothing(RecordFault::Record(fault))),
         };
         match frame_start(layer, octets) {
-            Ok(start) => OnAir::heard(alloc, unfilled(layer, &octets.as_slice()[start..]), signed),
+            Ok(start) => {
+                let read = read_from(layer, &octets.as_slice()[start..]);
+                OnAir::heard(alloc, read, signed)
+            }
             Err(fault) => Ok(OnAir::Nothing(RecordFault::Link(fault))),
         }
     }
 
-    /// These octets, as a station hears them.
-    fn heard(alloc: Global, octets: &[u8], signed: bool) -> Result<OnAir, AllocError>
-        ensures { IfOk result (IsOf signed octets.now) }
+    /// Octets that were read, as a station receives them.
+    fn heard(alloc: Global, read: Unpadded<'_>, signed: bool) -> Result<OnAir, AllocError>
+        requires found { IfOk read.frame (λ v. EncodesFrame (transmission_of v) read.octets.now) }
+        requires fault { IfErr read.frame (IsFrameFault read.octets.now) }
+        ensures { IfOk result (IsOf signed read.entry.octets.now) }
     {
+        let Unpadded { octets, frame } = read;
         let heard = copied(alloc, octets)?;
         if reads_secured(signed, octets) {
             return Ok(OnAir::Secured(SecuredOctets::of(heard)));
         }
-        Ok(OnAir::Octets(heard))
+        Ok(OnAir::Octets(AirOctets::new(heard, frame.err())))
     }
 
     /// Whether the record is chosen: one whose octets are no frame has nothing that frames are
@@ -59,26 +68,14 @@ impl OnAir {
         ensures { AnswersChoice self.now choice.now moment result }
     {
         let traits = match self {
-            OnAir::Octets(octets) => match read_frame(octets.as_slice()) {
-                Ok(frame) => Some(traits_of(&frame)),
-                Err(_) => None,
+            OnAir::Octets(octets) => match octets.frame() {
+                Some(frame) => Some(traits_of(&frame)),
+                None => None,
             },
             OnAir::Secured(secured) => secured.traits(),
             OnAir::Nothing(_) => None,
         };
         choice.is_chosen(moment, traits)
-    }
-}
-
-/// The frame without what Ethernet fills short ones up with.
-fn unfilled(layer: LinkLayer, frame: &[u8]) -> &[u8]
-    ensures { IsUnfilled layer frame.now result.now }
-{
-    match layer {
-        LinkLayer::Ethernet => without_padding(frame),
-        LinkLayer::Sll => without_padding(frame),
-        LinkLayer::Sll2 => without_padding(frame),
-        LinkLayer::Bare | LinkLayer::Ieee80211 | LinkLayer::Radiotap => frame,
     }
 }
 

@@ -6,8 +6,9 @@ ghost use Rattle.its_station.specs.State.{RepresentsStation};
 ghost use Rattle.cmd_stats.specs.declared.replay.heard.Heard.{Heard as ToldRecord};
 ghost use Rattle.cmd_stats.specs.Replays.{IsReplayedWhole, IsGone, IsHeard, TellsOctets};
 ghost use Rattle.cmd_stats.specs.Replays.{TellsOnAir};
-ghost use Rattle.cmd_stats.specs.Replays.{IsReceive, counts_after, is_end};
+ghost use Rattle.cmd_stats.specs.Replays.{counts_after, is_end};
 
+use crate::replay::air_octets::AirOctets;
 use crate::replay::heard::{Heard, HeardSink};
 use crate::replay::on_air::OnAir;
 use cap_pcap::{LONGEST_RECORD, RecordHeader, RecordSource, SourceFault, Step};
@@ -15,7 +16,7 @@ use cap_records::Selection;
 use cmd_reporting::Fault;
 use its_gnvalue::NoMemory;
 use its_loctable::SortedTable;
-use its_station::{Call, Station};
+use its_station::Station;
 use std::alloc::Global;
 
 /// How far a file was replayed.
@@ -178,37 +179,26 @@ fn receive(
         IfOk result (λ heard. TellsOnAir on_air moment s heard station.new) }
 {
     match on_air {
-        OnAir::Octets(octets) => receive_octets(station, moment, octets),
+        OnAir::Octets(octets) => receive_octets(alloc, station, moment, octets),
         OnAir::Secured(secured) => secured.receive(alloc, station, moment),
         OnAir::Nothing(fault) => Ok(Heard::Nothing { moment, fault }),
     }
 }
 
-/// Gives octets to the station at a moment.
+/// Has the station receive octets at a moment.
 fn receive_octets(
+    alloc: Global,
     station: &mut Station<SortedTable>,
     moment: u64,
-    octets: Vec<u8>,
+    octets: AirOctets,
 ) -> Result<Heard, NoMemory>
     ensures { (s : StationModel) → RepresentsStation station.old s →
         IfOk result (λ heard. TellsOctets octets.items moment s heard station.new) }
 {
-    let call = Call::Receive(octets);
-    let reply = station.answer(moment, &call)?;
+    let reply = octets.receive(alloc, station, moment)?;
     Ok(Heard::Received {
         moment,
-        frame: octets_of(call),
+        frame: octets.into_octets(),
         reply,
     })
-}
-
-/// The octets of a frame that was received.
-fn octets_of(call: Call) -> Vec<u8>
-    requires { IsReceive call }
-    ensures { call ≡ Call.Receive result }
-{
-    match call {
-        Call::Receive(octets) => octets,
-        _ => unreachable!(),
-    }
 }

@@ -1,5 +1,5 @@
-//! Where the stations of a world stand, in rows of latitudes and in each row by their longitudes:
-//! who hears a frame is among those of short stretches of a few rows.
+//! An index of the positions of a world's stations: rows of latitude, and in each row the order of
+//! longitude. The receivers of a frame are in short stretches of a few rows.
 
 ghost use Rattle.std.specs.Prelude.{◌≡◌, ◌≤◌, ◌<◌, ◌+◌, ◌-◌, ◌*◌, ◌/◌, ℕ, OnOk, IfOk, IfSome, List};
 ghost use Rattle.std.specs.Prelude.{◌==◌, ◌++◌, IfNone, HoldsAt, filter, map, slice_get, length};
@@ -20,16 +20,16 @@ use its_loctable::SortedTable;
 use its_station::Station;
 use std::alloc::{AllocError, Global};
 
-/// Where a station stands.
+/// The position of a station.
 #[derive(Clone, Copy)]
 pub struct Standing {
-    /// Its place.
+    /// The position.
     pub place: Place,
-    /// Its number in the world, from 0.
+    /// The number of the station in the world, from 0.
     pub number: usize,
 }
 
-/// How far north of the south pole a place is, in tenths of a microdegree: 0 to 1800000000.
+/// Returns how far north of the south pole a place is, in tenths of a microdegree: 0 to 1800000000.
 fn northing(place: Place) -> u32
     ensures value { result ≡ northing place }
     ensures range { result ≤ 1800000000 }
@@ -37,7 +37,8 @@ fn northing(place: Place) -> u32
     (place.lat() + 900_000_000).unsigned_abs()
 }
 
-/// How far east of the antimeridian a place is, in tenths of a microdegree: 0 to 3600000000.
+/// Returns how far east of the antimeridian a place is, in tenths of a microdegree: 0 to
+/// 3600000000.
 fn easting(place: Place) -> u64
     ensures value { result ≡ easting place }
     ensures range { result ≤ 3600000000 }
@@ -46,8 +47,9 @@ fn easting(place: Place) -> u64
     (place.lon() as i64 + 1_800_000_000).unsigned_abs()
 }
 
-/// How many rows are south of this northing: a row is as high as a range in centimetres, and one
-/// more, in tenths of a microdegree, each of which is longer than a centimetre.
+/// Returns how many rows are south of this northing. The height of a row, in tenths of a
+/// microdegree, is one more than the range in centimetres: a tenth of a microdegree is longer than
+/// a centimetre.
 fn row_at(range: u16, northing: u32) -> u64
     ensures value { result ≡ northing / (100 * range + 1) }
     ensures bound { result ≤ northing }
@@ -55,7 +57,7 @@ fn row_at(range: u16, northing: u32) -> u64
     u64::from(northing / (100 * u32::from(range) + 1))
 }
 
-/// Where what is in a row, this far east, comes in the order of rows and of longitudes.
+/// Returns the key of a row and an easting in the order of rows and then of longitude.
 fn key_at(row: u64, easting: u64) -> u64
     requires row { row ≤ 4000000000 }
     requires easting { easting ≤ 3600000000 }
@@ -64,7 +66,7 @@ fn key_at(row: u64, easting: u64) -> u64
     row * 4_294_967_296 + easting
 }
 
-/// Where a place comes in that order.
+/// Returns the key of a place in that order.
 fn row_key(range: u16, place: Place) -> u64
     ensures value { result ≡ row_key range place }
     ensures longitude { unsigned_abs place.longitude ≤ 1800000000 }
@@ -72,14 +74,14 @@ fn row_key(range: u16, place: Place) -> u64
     key_at(row_at(range, northing(place)), easting(place))
 }
 
-/// Longitudes, as far east of the antimeridian, from one to another.
+/// A range of longitudes, each as its distance east of the antimeridian.
 #[derive(Clone, Copy)]
 struct Stretch {
     west: u64,
     east: u64,
 }
 
-/// Longitudes beside a place between which all places in range of it lie, if they were found.
+/// Finds longitudes between which all places in range of a place are, if there are such.
 fn find_stretch(range: u16, place: Place) -> Option<Stretch>
     ensures covers { IfSome result (λ stretch. Covers range place stretch.west stretch.east) }
     ensures bound { IfSome result (λ stretch.
@@ -96,8 +98,8 @@ fn find_stretch(range: u16, place: Place) -> Option<Stretch>
     None
 }
 
-/// The longitudes that are no farther off than this, where no place in range is. None where one may
-/// be, or where they cross the antimeridian.
+/// Returns the longitudes at most this far away, if no place in range is farther away. `None` if
+/// one may be, or if they cross the antimeridian.
 fn stretch_of(range: u16, centre: &Centre, place: Place, width: u32) -> Option<Stretch>
     requires centre { centre.now.place ≡ place }
     requires width { width ≤ 60000000 }
@@ -116,7 +118,7 @@ fn stretch_of(range: u16, centre: &Centre, place: Place, width: u32) -> Option<S
     })
 }
 
-/// The place so far to the west, if it isn't past the antimeridian.
+/// Returns the place this far to the west, if that isn't past the antimeridian.
 fn place_west(place: Place, width: u32) -> Option<Place>
     requires { width ≤ 60000000 }
     ensures place { IfSome result (λ west. (west.latitude ≡ place.latitude)
@@ -126,7 +128,7 @@ fn place_west(place: Place, width: u32) -> Option<Place>
     Place::new(place.lat(), place.lon() - width as i32).ok()
 }
 
-/// The place so far to the east, if it isn't past the antimeridian.
+/// Returns the place this far to the east, if that isn't past the antimeridian.
 fn place_east(place: Place, width: u32) -> Option<Place>
     requires { width ≤ 60000000 }
     ensures { IfSome result (λ east. (east.latitude ≡ place.latitude)
@@ -135,22 +137,22 @@ fn place_east(place: Place, width: u32) -> Option<Place>
     Place::new(place.lat(), place.lon() + width as i32).ok()
 }
 
-/// Where all stations of a world stand, in the order of rows, and in a row of longitudes.
+/// The positions of all stations of a world, in the order of rows and then of longitude.
 #[derive(Drop)]
 pub struct PlaceIndex {
-    /// How high a row is.
+    /// The range that sets the height of a row, in metres.
     range: u16,
     order: Vec<Standing>,
-    /// Where each stood in that order when it was last put there, by its number. It may have been
-    /// shifted since: it is looked for there first.
+    /// The index that each station had when it was last put there, by its number. It may have
+    /// changed since. The search for the station begins there.
     hints: Vec<usize>,
     ghost rising: { IsNonDecreasingBy (λ s. row_key range s.place) order.items },
     ghost longitudes: { count_by is_off order.items ≡ 0 },
 }
 
 impl PlaceIndex {
-    /// Where these stations stand, by their numbers. The rows are as high as this range, in metres,
-    /// at which few of them are to be looked at for it. It takes memory for all stations.
+    /// Returns the index of these stations. `range`, in metres, sets the height of a row: a search
+    /// with this range looks at few rows. Allocates memory for all stations.
     pub fn of(
         alloc: Global,
         range: u16,
@@ -173,7 +175,7 @@ impl PlaceIndex {
         })
     }
 
-    /// Those between two that come in the order, with both.
+    /// Returns the entries whose keys are from `low` to `high`.
     fn between(&self, low: u64, high: u64) -> &[Standing]
         ensures { result.now ≡ filter (is_between self.now.range low high) self.now.order.items }
     {
@@ -186,8 +188,8 @@ impl PlaceIndex {
         above.split_at(within).0
     }
 
-    /// As `find_hearers`, of the stations that stand so: where few are near the giver, they alone
-    /// are looked at.
+    /// Finds the stations that receive what one of them sends, as the function `find_hearers` does.
+    /// If few are near the sender, it looks only at these.
     pub fn find_hearers(
         &self,
         range: u16,
@@ -210,8 +212,8 @@ impl PlaceIndex {
         Ok(())
     }
 
-    /// Those that hear what a station gives at this place, by their numbers, in no order: of each
-    /// row that is in range only those on this stretch are looked at.
+    /// Adds the numbers of the stations that receive what a station sends at this place, in no
+    /// order. Looks only at this stretch of each row in range.
     fn gather_rows(
         &self,
         range: u16,
@@ -239,7 +241,7 @@ impl PlaceIndex {
         Ok(())
     }
 
-    /// One station more, of this number, stands at this place.
+    /// Adds the station of this number at this place.
     pub fn add_station(&mut self, number: usize, place: Place) -> Result<(), AllocError>
         ensures { (stations new : List StationState) →
             AreStandingsOf stations self.old.order.items →
@@ -259,8 +261,8 @@ impl PlaceIndex {
         Ok(())
     }
 
-    /// The station of this number, which there is, stands at a new place from now on. Where it is
-    /// known at which place it stood, it is looked for there first.
+    /// Moves the station of this number, which has to be in the index, to a new place. The search
+    /// begins at the place where it stood, if that is known.
     pub fn move_station(&mut self, number: usize, stood: Option<Place>, place: Place)
         ensures { (stations new : List StationState) →
             AreStandingsOf stations self.old.order.items →
@@ -273,7 +275,7 @@ impl PlaceIndex {
             return;
         };
         let end = end_for(range, &self.order, from, row_key(range, place));
-        // Where it stood before this end, the end is nearer by one without it.
+        // Without the station the end is one lower, if the station was before it.
         let to = if from < end { end - 1 } else { end };
         replace_at(&mut self.order, from, to, Standing { place, number });
         let past = from.max(to).saturating_add(1);
@@ -281,7 +283,7 @@ impl PlaceIndex {
     }
 }
 
-/// The standing of a station, of which it is noted that its longitude is in range.
+/// Returns the entry of a station. Its longitude is in range.
 fn stand(number: usize, place: Place) -> Standing
     ensures standing { result ≡ record { place = place; number = number } }
     ensures longitude { unsigned_abs place.longitude ≤ 1800000000 }
@@ -291,7 +293,7 @@ fn stand(number: usize, place: Place) -> Standing
     Standing { place, number }
 }
 
-/// Notes where those stand that are at these indexes.
+/// Writes down the indexes of the entries of this range of indexes.
 fn note_places(order: &[Standing], hints: &mut Vec<usize>, first: usize, past: usize) {
     for at in first..past {
         if let Some(standing) = order.get(at) {
@@ -302,9 +304,9 @@ fn note_places(order: &[Standing], hints: &mut Vec<usize>, first: usize, past: u
     }
 }
 
-/// An index that parts these by a key: those before it come no later in the order, those from there
-/// on no sooner. It is looked for from another one on, and is near where a station that stands
-/// there moves a little.
+/// Returns an index that splits the entries by a key: those before it come no later than the key,
+/// those from it on no earlier. The search begins at another index, and is short if a station there
+/// moves a little.
 fn end_for(range: u16, order: &[Standing], from: usize, key: u64) -> usize
     requires rising { IsNonDecreasingBy (λ s. row_key range s.place) order.now }
     requires from { from < length order.now }
@@ -320,7 +322,7 @@ fn end_for(range: u16, order: &[Standing], from: usize, key: u64) -> usize
     }
 }
 
-/// The first index, from this one on, at which none comes sooner than a key.
+/// Returns the first index, from this one on, at which the entry comes no earlier than a key.
 fn end_behind(range: u16, order: &[Standing], from: usize, key: u64) -> usize
     requires from { from < length order.now }
     ensures bound { (from ≤ result) × (result ≤ length order.now) }
@@ -336,7 +338,7 @@ fn end_behind(range: u16, order: &[Standing], from: usize, key: u64) -> usize
     order.len()
 }
 
-/// The last index, up to this one, before which none comes later than a key.
+/// Returns the last index, up to this one, before which the entry comes no later than a key.
 fn end_before(range: u16, order: &[Standing], from: usize, key: u64) -> usize
     requires from { from < length order.now }
     ensures bound { result ≤ from }
@@ -353,8 +355,8 @@ fn end_before(range: u16, order: &[Standing], from: usize, key: u64) -> usize
     0
 }
 
-/// Takes the standing at one index out, and puts this one in at an index of those that are left:
-/// only those between the two move, by one, and no memory is taken.
+/// Removes the entry at one index, and inserts this one at an index of those that are left. Only
+/// the entries between the two move, by one. Allocates nothing.
 fn replace_at(order: &mut Vec<Standing>, from: usize, to: usize, standing: Standing)
     requires from { from < length order.old.items }
     requires to { to < length order.old.items }
@@ -368,8 +370,9 @@ fn replace_at(order: &mut Vec<Standing>, from: usize, to: usize, standing: Stand
     order[to] = standing;
 }
 
-/// An index at which the station of a number stands in these. It is looked for where its hint says
-/// and then, where its place is known, from the first on that comes no sooner: there, or near.
+/// Returns an index of the entry of a station, by its number. Looks first at the index that its
+/// hint has and then, if its place is known, at the first entry that comes no earlier than that
+/// place, and after it.
 fn find_station(
     range: u16,
     order: &[Standing],
@@ -394,7 +397,7 @@ fn find_station(
     place_in(order, number)
 }
 
-/// The index at which the hint of a number says that it stands, if it does.
+/// Returns the index that the hint of a number has, if the entry of the number is there.
 fn find_hinted(order: &[Standing], hints: &[usize], number: usize) -> Option<usize>
     ensures bound { IfSome result (λ at. at < length order.now) }
     ensures found { IfSome result (HoldsAt (λ s. s.number ≡ number) order.now) }
@@ -407,8 +410,8 @@ fn find_hinted(order: &[Standing], hints: &[usize], number: usize) -> Option<usi
     }
 }
 
-/// An index at which the station of a number stands, looked for from the first on that comes no
-/// sooner than a place.
+/// Returns an index of the entry of a station, by its number. Looks from the first entry on that
+/// comes no earlier than a place.
 fn find_from(range: u16, order: &[Standing], number: usize, place: Place) -> Option<usize>
     ensures bound { IfSome result (λ at. at < length order.now) }
     ensures found { IfSome result (HoldsAt (λ s. s.number ≡ number) order.now) }
@@ -420,18 +423,18 @@ fn find_from(range: u16, order: &[Standing], number: usize, place: Place) -> Opt
     Some(sooner + at)
 }
 
-/// Where the station of a number stands in these.
+/// Returns the index of the entry of a station, by its number.
 fn place_in(order: &[Standing], number: usize) -> Option<usize>
     ensures { result ≡ position (λ s. s.number == number) order.now }
 {
     order.iter().position(|standing| standing.number == number)
 }
 
-/// One station in so many is few, and worth putting in order.
+/// At most one station in this many counts as few: sorting these is cheaper than looking at all.
 const FEW: usize = 2;
 
-/// Adds those of these standings that hear what a station gives at this centre, by their numbers,
-/// in the order in which they stand here.
+/// Adds the numbers of those entries whose stations receive what a station sends at this centre, in
+/// the order of the entries.
 fn gather(
     range: u16,
     near: &[Standing],

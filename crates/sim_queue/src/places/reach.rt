@@ -1,4 +1,4 @@
-//! Which stations hear a frame.
+//! Which stations receive a frame.
 
 ghost use Rattle.std.specs.Prelude.{◌≡◌, ◌+◌, ◌*◌, ◌≤◌, OnOk, [], IsTrue};
 ghost use Rattle.sim_air_model.specs.Range.{is_within};
@@ -10,9 +10,8 @@ use its_loctable::SortedTable;
 use its_station::Station;
 use std::alloc::AllocError;
 
-/// The stations that hear what one of them gives, by their numbers, in order: all others at most so
-/// many metres from its place, where each stands as it was last handed in. They take the place of
-/// what was found before.
+/// Finds the stations that receive what one of them sends: the numbers of all others at most
+/// `range` metres from it, in order, by their last known positions. They replace what `found` had.
 pub fn find_hearers(
     range: u16,
     stations: &[Station<SortedTable>],
@@ -32,7 +31,7 @@ pub fn find_hearers(
     Ok(())
 }
 
-/// Whether a station, by its number, hears what another one gives at this centre.
+/// Whether the station of this number receives what another one sends at this centre.
 fn hears(
     range: u16,
     centre: &Centre,
@@ -45,7 +44,7 @@ fn hears(
     number != giver && is_within(range, centre, station.vector().place())
 }
 
-/// Whether a place is at most so many metres from a centre.
+/// Whether a place is at most `range` metres from a centre.
 pub fn is_within(range: u16, centre: &Centre, place: Place) -> bool
     ensures { result ≡ is_within range centre.now.place place }
 {
