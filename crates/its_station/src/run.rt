@@ -224,6 +224,25 @@ impl<S: LocationStore> Station<S> {
         let alloc = self.alloc();
         Reply::of_received(alloc, self.receive(moment, frame), room)
     }
+
+    /// `receive_in` of octets in which `read_frame` found no fault, without a second check.
+    pub fn receive_checked_in(
+        &mut self,
+        moment: u64,
+        frame: &[u8],
+        room: &mut Vec<u8>,
+    ) -> Result<Reply, NoMemory>
+        requires { IsFrame frame.now }
+        ensures step { IfOk result (λ reply. (c : ModelCall) × IsFrameCall frame.now c
+            × ((s : StationModel) → RepresentsStation self.old s →
+            IsReplyTo reply self.new (station_step s moment c))) }
+        ensures answered { IfOk result (λ reply. reply ≢ Reply.Done) }
+        ensures unchanged { OnErr result (self.new ≡ self.old) }
+    {
+        make_room(room, frame)?;
+        let alloc = self.alloc();
+        Reply::of_received(alloc, self.receive_checked(moment, frame), room)
+    }
 }
 
 impl Reply {
