@@ -1,6 +1,6 @@
 //! Many events, one after the other.
 
-ghost use Rattle.std.specs.Prelude.{◌≡◌, ◌<◌, ◌≤◌, [], List, All, map, take, length, IsTrue, IsFalse};
+ghost use Rattle.std.specs.Prelude.{◌≡◌, ◌<◌, ◌≤◌, List, All, map, take, length, IsTrue, IsFalse};
 ghost use Rattle.its_model.specs.World.{WorldModel, Config, Event as Happening, opening, world_run};
 ghost use Rattle.its_world.specs.State.{RepresentsWorld};
 ghost use Rattle.its_world.specs.Events.{IsInRange, event_of, what_of};
@@ -75,7 +75,7 @@ impl World {
     {
         // Laws, for the proof alone.
         runs_go_on();
-        let mut log = log_of(self.alloc(), events.len());
+        let mut log = Vec::new(self.alloc());
         for event in events {
             if log.reserve(1).is_err() {
                 return stopped(log);
@@ -98,16 +98,6 @@ impl World {
     fn alloc(&self) -> Global {
         self.alloc
     }
-}
-
-/// An empty log. It has memory for this many entries, so that they do not move while it grows. If
-/// there is not enough, the log takes memory as it grows.
-fn log_of(alloc: Global, entries: usize) -> Vec<Entry>
-    ensures { result.items ≡ [] }
-{
-    let mut log = Vec::new(alloc);
-    let _ = log.reserve(entries);
-    log
 }
 
 /// Returns the result of the events that were done before memory ran out.
