@@ -126,7 +126,9 @@ impl<S: LocationStore> Station<S> {
     pub fn expect(&mut self, now: u64, index: usize)
         ensures { self.new ≡ self.old }
     {
-        self.store.expect(now, index);
+        if self.clock <= now {
+            self.store.expect(now, index);
+        }
     }
 
     /// Takes a secured frame that came, and the plain part that a security entity verified of its
