@@ -438,7 +438,11 @@ fn receive<'a>(
 {
     match check {
         FrameCheck::Done => station.receive_checked(moment, frame),
-        FrameCheck::Due => station.receive(moment, frame),
+        FrameCheck::Due => {
+            // In a place of its own, so that an answer of the other arm stays in registers.
+            let answer = station.receive(moment, frame);
+            answer
+        }
     }
 }
 

@@ -325,19 +325,19 @@ impl<'a> Run<'a> {
         if self.announced > 0 {
             self.announced -= 1;
         } else {
-            self.announce_receivers(delivery);
+            self.announce_receivers(*delivery);
         }
     }
 
     /// Has the next receivers of a frame look up its source together.
     #[inline(never)]
-    fn announce_receivers(&mut self, delivery: &Delivery)
+    fn announce_receivers(&mut self, delivery: Delivery)
         ensures world { SameWorld self.old self.new }
         ensures present { self.new.present ≡ self.old.present }
         ensures queue { self.new.queue ≡ self.old.queue }
         ensures draws { self.new.draws ≡ self.old.draws }
     {
-        let receivers = self.queue.receivers(delivery);
+        let receivers = self.queue.receivers(&delivery);
         let stations = receivers.as_slice();
         self.announced = stations.len().saturating_sub(1);
         self.world.expect(delivery.moment, delivery.frame, stations);

@@ -12,14 +12,14 @@ ghost use Rattle.sim_air.specs.Moving.{LeavesOwn, TakesOwn};
 ghost use Rattle.sim_air.specs.Outside.{Delivers, opening_at, station_of_filed};
 ghost use Rattle.sim_air.specs.FileEvents.{IsFiledInRange, filed_of};
 ghost use Rattle.sim_air.specs.Runs.{AreIndexed};
-ghost use Rattle.sim_queue.specs.Waiting.{own_of};
+ghost use Rattle.sim_queue.specs.Waiting.{delivery_of, own_of};
 ghost use Rattle.sim_air_model.specs.Timetable.Filed.{Happens};
 
 use crate::fault::AirFault;
 use crate::frames::{FrameCount, release_delivered};
 use crate::run::{Run, place_of};
 use its_world::{Event, What};
-use sim_queue::{AirAction, Delivery, Scheduled};
+use sim_queue::{Delivery, Scheduled};
 use sim_scenario::events::{AddressedEvent, FileEvent};
 use sim_simulation::EventSink;
 use std::alloc::Global;
@@ -84,7 +84,38 @@ fn is_there(run: &Run<'_>, filed: &FileEvent) -> bool
 
 /// Takes the first of the radio model's own, if its time is before a limit, and does it. Returns
 /// whether it did. First it releases frames whose deliveries are done, but none from the `lowest` on.
+#[inline(always)]
 pub(crate) fn take_own<S: EventSink>(
+    run: &mut Run<'_>,
+    count: &mut FrameCount,
+    lowest: usize,
+    limit: u64,
+    sink: &mut S,
+) -> Result<bool, AirFault>
+    requires limit { limit ≤ 2 ^ 63 + 10001 }
+    requires standings { AreIndexed run.old }
+    ensures standings { OnOk result (AreIndexed run.new) }
+    ensures kept { OnOk result (run.old.world.released ≤ lowest →
+        run.new.world.released ≤ lowest) }
+    ensures taken { IfOk result (λ taken. taken ≡ true →
+        TakesOwn limit count.old run.old (S.Took sink.old) count.new run.new
+        (S.Took sink.new)) }
+    ensures left { IfOk result (λ taken. taken ≡ false →
+        LeavesOwn limit count.old run.old (S.Took sink.old) count.new run.new
+        (S.Took sink.new)) }
+{
+    // Most are deliveries in the line, and `deliver` copies no event of another kind.
+    if let Some(delivery) = run.queue.pop_delivery_before(limit) {
+        release_delivered(run, count, lowest, delivery.moment);
+        deliver(run, &delivery, sink)?;
+        return Ok(true);
+    }
+    take_planned(run, count, lowest, limit, sink)
+}
+
+/// Takes the first of the radio model's own and does it, as `take_own` does.
+#[inline(never)]
+fn take_planned<S: EventSink>(
     run: &mut Run<'_>,
     count: &mut FrameCount,
     lowest: usize,
@@ -111,9 +142,39 @@ pub(crate) fn take_own<S: EventSink>(
     Ok(true)
 }
 
+/// Does a delivery, if its station exists and its frame is kept. Both are always so.
+#[inline(always)]
+fn deliver<S: EventSink>(
+    run: &mut Run<'_>,
+    delivery: &Delivery,
+    sink: &mut S,
+) -> Result<(), AirFault>
+    requires moment { delivery.now.moment ≤ 2 ^ 63 + 10000 }
+    requires standings { AreIndexed run.old }
+    ensures standings { OnOk result (AreIndexed run.new) }
+    ensures released { run.new.world.released ≡ run.old.world.released }
+    ensures moving { OnOk result (DoesTaken (delivery_of delivery.now) run.old (S.Took sink.old)
+        run.new (S.Took sink.new)) }
+{
+    if can_deliver(run, delivery) {
+        run.deliver(delivery, sink)
+    } else {
+        Ok(())
+    }
+}
+
+/// Whether the station of a delivery exists, and its frame is kept.
+#[inline(always)]
+fn can_deliver(run: &Run<'_>, delivery: &Delivery) -> bool
+    ensures kept { IsTrue result → run.now.world.released ≤ delivery.now.frame }
+    ensures can { delivery.now.station < length run.now.world.stations →
+        run.now.world.released ≤ delivery.now.frame → IsTrue result }
+{
+    run.has_station(delivery.station) && run.world.released() <= delivery.frame
+}
+
 /// Does what the radio model planned, if its station exists and the frame that it delivers, if any,
 /// is kept. Both are always so.
-#[inline(always)]
 fn do_own<S: EventSink>(
     run: &mut Run<'_>,
     waiting: &Scheduled,
@@ -126,24 +187,14 @@ fn do_own<S: EventSink>(
     ensures moving { OnOk result (DoesTaken waiting.now run.old (S.Took sink.old) run.new
         (S.Took sink.new)) }
 {
-    if !can_do(run, waiting) {
-        return Ok(());
+    if can_do(run, waiting) {
+        run.do_own(waiting, sink)
+    } else {
+        Ok(())
     }
-    let AirAction::Deliver(frame) = waiting.own else {
-        return run.do_own(waiting, sink);
-    };
-    // Most are deliveries, and `deliver` copies no event of another kind.
-    let delivery = Delivery {
-        moment: waiting.moment,
-        place: waiting.place,
-        station: waiting.station,
-        frame,
-    };
-    run.deliver(&delivery, sink)
 }
 
 /// Whether the station exists, and the frame that is delivered, if any, is kept.
-#[inline(always)]
 fn can_do(run: &Run<'_>, waiting: &Scheduled) -> bool
     ensures there { IsTrue result → waiting.now.station < length run.now.world.stations }
     ensures kept { IsTrue result → IsKept run.now.world.released (own_of waiting.now.own) }

@@ -118,8 +118,24 @@ impl OwnEvents {
         receivers
     }
 
-    /// Takes the first event, if its time is before this one.
+    /// Takes the first event if it is a delivery in the line, and its time is before this one.
     #[inline(always)]
+    pub fn pop_delivery_before(&mut self, moment: u64) -> Option<Delivery>
+        ensures before { IfSome result (λ delivery. delivery.moment < moment) }
+        ensures first { IfSome result (λ delivery.
+            IsUpperBound waiting_cmp (delivery_of delivery) self.new) }
+        ensures left { IfSome result (λ delivery.
+            IsPermutation self.old (delivery_of delivery ∷ self.new)) }
+        ensures none { IfNone result (self.new ≡ self.old) }
+    {
+        if is_line_first(&self.heap, &self.line) {
+            pop_line(&mut self.line, moment)
+        } else {
+            None
+        }
+    }
+
+    /// Takes the first event, if its time is before this one.
     pub fn pop_before(&mut self, moment: u64) -> Option<Scheduled>
         ensures before { IfSome result (λ event. event.moment < moment) }
         ensures first { IfSome result (λ event. IsUpperBound waiting_cmp event self.new) }

@@ -101,8 +101,22 @@ impl Queue {
         self.own.has_no_send(number, station)
     }
 
-    /// Takes the first, if its time is before this one.
+    /// Takes the first if it is a delivery in the line, and its time is before this one. `pop_before`
+    /// takes any other.
     #[inline(always)]
+    pub fn pop_delivery_before(&mut self, moment: u64) -> Option<Delivery>
+        ensures put { self.new.pushed ≡ self.old.pushed }
+        ensures before { IfSome result (λ delivery. delivery.moment < moment) }
+        ensures first { IfSome result (λ delivery.
+            IsUpperBound waiting_cmp (delivery_of delivery) self.new.own) }
+        ensures left { IfSome result (λ delivery.
+            IsPermutation self.old.own (delivery_of delivery ∷ self.new.own)) }
+        ensures none { IfNone result (self.new.own ≡ self.old.own) }
+    {
+        self.own.pop_delivery_before(moment)
+    }
+
+    /// Takes the first, if its time is before this one.
     pub fn pop_before(&mut self, moment: u64) -> Option<Scheduled>
         ensures put { self.new.pushed ≡ self.old.pushed }
         ensures before { IfSome result (λ waiting. waiting.moment < moment) }

@@ -117,6 +117,9 @@ impl Tally {
         ensures carried { self.new.carried.items
             ≡ drop (self.new.released - self.old.released) self.old.carried.items }
     {
+        if world.released() <= self.released {
+            return;
+        }
         let given = self.released.saturating_add(self.carried.len());
         let end = world.released().min(given);
         for _gone in 0..end.saturating_sub(self.released) {
