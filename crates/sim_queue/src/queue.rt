@@ -111,7 +111,7 @@ impl Queue {
             IsUpperBound waiting_cmp (delivery_of delivery) self.new.own) }
         ensures left { IfSome result (λ delivery.
             IsPermutation self.old.own (delivery_of delivery ∷ self.new.own)) }
-        ensures none { IfNone result (self.new.own ≡ self.old.own) }
+        ensures none { IfNone result (self.new ≡ self.old) }
     {
         self.own.pop_delivery_before(moment)
     }
