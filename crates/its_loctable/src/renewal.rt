@@ -17,14 +17,13 @@ pub fn end_after(now: u64) -> u64
     now + ENTRY_LIFE
 }
 
-/// The new vector where its timestamp is newer, else the old one.
-pub fn fresher(new: LongPv, old: LongPv) -> LongPv
-    ensures { result ≡ fresher new (Some old) }
+/// Puts the new vector in the place of the old one if its timestamp is newer.
+#[inline(always)]
+pub fn refresh(vector: &mut LongPv, new: LongPv)
+    ensures { vector.new ≡ fresher new (Some vector.old) }
 {
-    if newer(new.tst(), old.tst()) {
-        new
-    } else {
-        old
+    if newer(new.tst(), vector.tst()) {
+        *vector = new;
     }
 }
 

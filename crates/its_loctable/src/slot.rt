@@ -5,7 +5,7 @@ ghost use Rattle.its_model.specs.History.{entry_life, renewed};
 ghost use Rattle.its_loctable.specs.Heard.{reception, shown, has_number};
 
 use crate::heard::{Heard, Known};
-use crate::renewal::{end_after, fresher, note};
+use crate::renewal::{end_after, note, refresh};
 use its_duplicates::Recent;
 use its_gnvalue::LongPv;
 
@@ -56,7 +56,7 @@ impl Slot {
         ensures until { self.new.until ≡ now + entry_life }
         ensures limit { self.new.recent.limit ≡ self.old.recent.limit }
     {
-        self.vector = fresher(heard.vector(), self.vector);
+        refresh(&mut self.vector, heard.vector());
         self.neighbour = heard.neighbour() || self.neighbour;
         note(&mut self.recent, heard.number());
         self.until = end_after(now);

@@ -9,7 +9,7 @@ ghost use Rattle.its_loctable.specs.Sorted.{known_by, live_part_by, bare_known};
 
 use super::rows::{insert_first, start_of};
 use crate::heard::{Heard, Known};
-use crate::renewal::{end_after, fresher};
+use crate::renewal::{end_after, refresh};
 use its_gnvalue::{GnAddress, LongPv};
 
 /// What is kept of a source.
@@ -102,7 +102,7 @@ impl SortedSlot {
             numbers.new.items }
         ensures len { vec_len numbers.new ≡ vec_len numbers.old }
     {
-        self.vector = fresher(heard.vector(), self.vector);
+        refresh(&mut self.vector, heard.vector());
         self.neighbour = heard.neighbour() || self.neighbour;
         self.until = end_after(now);
         self.note(numbers, remembered, heard.number());
