@@ -361,29 +361,16 @@ impl Delivery {
     {
         match handed {
             Some(handed) => {
-                let taken = mem::replace(room, Vec::new(alloc));
-                Some(Delivery::new(handed, taken))
+                let Ok(()) = room.extend_from_slice(handed.payload) else {
+                    unreachable!()
+                };
+                Some(Delivery {
+                    port: handed.port,
+                    info: handed.info,
+                    payload: mem::replace(room, Vec::new(alloc)),
+                })
             }
             None => None,
-        }
-    }
-
-    /// What was delivered, with its payload in this buffer, which is empty and large enough.
-    #[inline(always)]
-    fn new(handed: Handed<'_>, room: Vec<u8>) -> Delivery
-        requires empty { room.items ≡ [] }
-        requires size { vec_len room ≡ 0 }
-        requires room { length handed.payload.now ≤ vec_capacity room }
-        ensures { delivered result ≡ said_by handed.entry }
-    {
-        let mut payload = room;
-        let Ok(()) = payload.extend_from_slice(handed.payload) else {
-            unreachable!()
-        };
-        Delivery {
-            port: handed.port,
-            info: handed.info,
-            payload,
         }
     }
 }
