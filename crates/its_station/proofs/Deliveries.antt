@@ -17,7 +17,7 @@ use Rattle.its_station.specs.declared.refused.Refused.{Refused}
 use Rattle.its_station.specs.Receiving.{HandsOutEndOf, DeliversEndOf}
 
 -- what ends with these octets
-abbrev EndsWith : List ℕ → List ℕ → Type 0
+abbrev pub EndsWith : List ℕ → List ℕ → Type 0
 EndsWith w end = (front : List ℕ) × (w ≡ front ++ end)
 
 both : (front end : List ℕ) → EndsWith (front ++ end) end
@@ -44,7 +44,8 @@ behind front w end ends = (
 )
 
 -- a frame ends with its packet's payload
-frame_end : (t : Transmission) (w : List ℕ) → EncodesFrame t w → EndsWith w (payload_of t.pdu.body)
+pub frame_end : (t : Transmission) (w : List ℕ) → EncodesFrame t w
+    → EndsWith w (payload_of t.pdu.body)
 frame_end t w enc =
     let payload = payload_of t.pdu.body in
     let extended = extended_header t.pdu.vector t.pdu.body in

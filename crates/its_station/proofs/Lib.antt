@@ -8,3 +8,4 @@ pub mod Runs
 pub mod Beacons
 pub mod Sizes
 pub mod Beside
+pub mod FramesRead

@@ -6,3 +6,4 @@ pub mod Runs
 pub mod Walks
 pub mod Counting
 pub mod Beside
+pub mod Known

@@ -66,6 +66,7 @@
 #![tactic(auto)]
 
 mod counts;
+mod known;
 pub mod laws;
 mod neighbours;
 mod outcome;
@@ -81,6 +82,7 @@ mod sending;
 mod station;
 
 pub use counts::{Counts, IgnoredCounts, RefusedCounts, SentCounts};
+pub use known::{FrameContents, KnownFrame};
 pub use neighbours::Neighbours;
 pub use outcome::{Handed, Outcome, Why};
 pub use received::ReceivedFrame;

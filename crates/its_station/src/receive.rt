@@ -27,6 +27,7 @@ ghost use Rattle.its_station.specs.Receiving.{SendsAtMost, VerifiedCall, IsVerif
 ghost use Rattle.its_station.specs.Receiving.{EncodesSealed, verified_step, sealed_by, secured_step_by};
 ghost use Rattle.its_station.specs.Runs.{Fits, HandingFits};
 
+use crate::known::KnownFrame;
 use crate::outcome::{Handed, Outcome, Why};
 use crate::received::ReceivedFrame;
 use crate::refused::Refused;
@@ -105,6 +106,28 @@ impl<S: LocationStore> Station<S> {
             × TakesMemory s now (transmission_of frame.now) }
         ensures unchanged { OnErr result (self.new ≡ self.old) }
         ensures payload { IfOk result (DeliversEndOf (payload_of frame.now.packet.pdu.body)) }
+        ensures short { IfOk result (Fits 1394) }
+        ensures short_frame { IfOk result (SendsAtMost 1468) }
+    {
+        self.check_moment(now)?;
+        self.hear(now, frame)
+    }
+
+    /// Takes a frame that was read once for many receivers, as `receive` takes its octets. Refused as
+    /// there, but for `Frame` (S3).
+    #[inline(always)]
+    pub fn receive_known<'a>(
+        &mut self,
+        now: u64,
+        frame: &KnownFrame<'a, '_>,
+    ) -> Result<Outcome<'a>, Refused>
+        ensures step { (s : StationModel) → RepresentsStation self.old s →
+            IsStepOf Tells result self.new (station_step s now (Receive frame.now)) }
+        ensures memory { (s : StationModel) → RepresentsStation self.old s →
+            result ≡ Err Refused.NoMemory →
+            (verdict s now frame.now ≡ station.Verdict.Accept) × TakesMemory s now frame.now }
+        ensures unchanged { OnErr result (self.new ≡ self.old) }
+        ensures payload { IfOk result (DeliversEndOf (payload_of frame.now.pdu.body)) }
         ensures short { IfOk result (Fits 1394) }
         ensures short_frame { IfOk result (SendsAtMost 1468) }
     {

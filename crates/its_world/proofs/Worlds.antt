@@ -4,6 +4,7 @@ use Rattle.std.proofs.Common.{length, set, drop, Option, Some, None, Bool, true,
 use Rattle.std.proofs.Common.{sym, ap, subst, ◌∙◌, arith, tests, length-drop, IfSome}
 use Rattle.std.proofs.lemmas.List.{drop-append-le, drop-drop, length-append, length-set}
 use Rattle.std.specs.Prelude.{slice_get, nat_le, Vec}
+use Rattle.std.specs.Option.{option_map}
 use Rattle.std.specs.declared.alloc.Global.{Global}
 use Rattle.its_model.specs.Packet.{Transmission}
 use Rattle.its_model.specs.Station.{StationModel}
@@ -12,7 +13,11 @@ use Rattle.its_model.specs.World.What.{Calls, Deliver}
 use Rattle.its_linkframe.specs.Frames.{EncodesFrame}
 use Rattle.its_station.specs.State.{StationState, RepresentsStation}
 use Rattle.its_model.specs.World.{with_one_more}
-use Rattle.its_world.specs.Frames.{AreFrames, IsFaultless, frame_in}
+use Rattle.its_world.specs.Frames.{AreFrames, frame_in}
+use Rattle.its_station.specs.declared.known.FrameContents.{FrameContents}
+use Rattle.its_station.specs.Known.{AreContentsOf}
+use Rattle.its_world.specs.Read.{IsReadFrom}
+use Rattle.its_world.specs.declared.world.ReadFrame.{ReadFrame}
 use Rattle.its_world.specs.State.{RepresentStations}
 use Rattle.its_world.specs.Steps.{AreSameBut, IsKept}
 
@@ -175,38 +180,92 @@ pub none_gone : (released : ℕ) (what : What) → released ≡ 0 → IsKept rel
 none_gone released (Calls call) e = tt
 none_gone released (Deliver k) e = omega (arith, e)
 
--- ---- a frame that was checked
+-- ---- a frame that was read
 left_part : {X : Type 0} (xs : List X) (x : X) (i : ℕ) → i < length xs
     → slice_get (xs ++ x ∷ []) i ≡ slice_get xs i
 left_part [] x i lt = absurd (omega (arith, lt))
 left_part (y ∷ xs) x zero lt = refl
 left_part (y ∷ xs) x (suc i) lt = left_part xs x i (omega (arith, lt))
 
--- it stays faultless if one more is sent
-faultless_more : (released : ℕ) (frames : List (Vec ℕ Global)) (sent : Option (Vec ℕ Global))
-    (k : ℕ) → IsFaultless released frames k
-    → IsFaultless released (with_one_more frames sent) k
-faultless_more released frames None k h = h
-faultless_more released frames (Some x) k h = (
+-- its contents are known also if one more is sent
+read_more : (released : ℕ) (frames : List (Vec ℕ Global)) (sent : Option (Vec ℕ Global))
+    (r : ReadFrame) → IsReadFrom released frames r
+    → IsReadFrom released (with_one_more frames sent) r
+read_more released frames None r h = h
+read_more released frames (Some x) r h = (
   omega (arith, h.0, length-append frames (x ∷ [])),
-  λ w e. h.1 w (same (nat_le released k) refl ∙ e),
+  λ w e. h.1 w (same (nat_le released r.number) refl ∙ e),
 )
   where
-    same : (b : Bool) → nat_le released k ≡ b → cond b (slice_get frames (k - released)) None
-        ≡ cond b (slice_get (frames ++ x ∷ []) (k - released)) None
+    same : (b : Bool) → nat_le released r.number ≡ b
+        → cond b (slice_get frames (r.number - released)) None
+        ≡ cond b (slice_get (frames ++ x ∷ []) (r.number - released)) None
     same false e = refl
     same true e =
-        let within : k - released < length frames = grind (arith, tests, e, h.0) in
-        sym (left_part frames x (k - released) within)
+        let within : r.number - released < length frames = grind (arith, tests, e, h.0) in
+        sym (left_part frames x (r.number - released) within)
 
-pub checked_on : (checked : Option ℕ) (released now : ℕ) (frames after : List (Vec ℕ Global))
+pub read_on : (read : Option ReadFrame) (released now : ℕ) (frames after : List (Vec ℕ Global))
     (sent : Option (Vec ℕ Global)) → now ≡ released → after ≡ with_one_more frames sent
-    → IfSome checked (IsFaultless released frames) → IfSome checked (IsFaultless now after)
-checked_on None released now frames after sent is e h = tt
-checked_on (Some k) released now frames after sent is e h =
-    subst (λ n. IsFaultless n after k) (sym is)
-    (subst (λ (xs : List (Vec ℕ Global)). IsFaultless released xs k) (sym e)
-    (faultless_more released frames sent k h))
+    → IfSome read (IsReadFrom released frames) → IfSome read (IsReadFrom now after)
+read_on None released now frames after sent is e h = tt
+read_on (Some r) released now frames after sent is e h =
+    subst (λ n. IsReadFrom n after r) (sym is)
+    (subst (λ (xs : List (Vec ℕ Global)). IsReadFrom released xs r) (sym e)
+    (read_more released frames sent r h))
+
+get_within : {X : Type 0} (xs : List X) (i : ℕ) (x : X) → slice_get xs i ≡ Some x → i < length xs
+get_within [] i x e = absurd cc
+get_within (y ∷ xs) zero x e = omega arith
+get_within (y ∷ xs) (suc i) x e = omega (arith, get_within xs i x e)
+
+-- a frame that is kept was sent
+kept_within : (released : ℕ) (frames : List (Vec ℕ Global)) (k : ℕ) (w : Vec ℕ Global)
+    → frame_in released frames k ≡ Some w → k < released + length frames
+kept_within released frames k w e = by (nat_le released k) refl e
+  where
+    by : (b : Bool) → nat_le released k ≡ b
+        → cond b (slice_get frames (k - released)) None ≡ Some w → k < released + length frames
+    by false is e = absurd cc
+    by true is e = grind (arith, tests, is, get_within frames (k - released) w e)
+
+-- a kept frame has the octets that were found
+kept_octets : (released : ℕ) (frames : List (Vec ℕ Global)) (k : ℕ) (octets : List ℕ)
+    → option_map (λ (w : Vec ℕ Global). w.items) (frame_in released frames k) ≡ Some octets
+    → (w : Vec ℕ Global) × (frame_in released frames k ≡ Some w) × (w.items ≡ octets)
+kept_octets released frames k octets is = by (frame_in released frames k) refl is
+  where
+    by : (o : Option (Vec ℕ Global)) → frame_in released frames k ≡ o
+        → option_map (λ (w : Vec ℕ Global). w.items) o ≡ Some octets
+        → (w : Vec ℕ Global) × (frame_in released frames k ≡ Some w) × (w.items ≡ octets)
+    by None e is = absurd cc
+    by (Some w) e is = (w, e, let same : w.items ≡ octets = cc in same)
+
+-- the contents that were read of a frame that is kept
+pub read_there : (released : ℕ) (frames : List (Vec ℕ Global)) (k : ℕ) (octets : List ℕ)
+    (c : FrameContents)
+    → option_map (λ (w : Vec ℕ Global). w.items) (frame_in released frames k) ≡ Some octets
+    → AreContentsOf octets c → IsReadFrom released frames (record { number = k; contents = c })
+read_there released frames k octets c is has =
+    let kept = kept_octets released frames k octets is in (
+      kept_within released frames k kept.0 kept.1,
+      λ w e.
+          let same : octets ≡ w.items = cc in
+          subst (λ (x : List ℕ). AreContentsOf x c) same has,
+    )
+
+-- the contents that are known of the frame that is delivered
+pub known_there : {X : Type 0} (contents : X → FrameContents) (o : Option X)
+    (read : Option ReadFrame) (released : ℕ) (frames : List (Vec ℕ Global)) (k : ℕ)
+    (octets : List ℕ) → IfSome read (IsReadFrom released frames)
+    → option_map (λ (w : Vec ℕ Global). w.items) (frame_in released frames k) ≡ Some octets
+    → IfSome o (λ x. read ≡ Some (record { number = k; contents = contents x }))
+    → IfSome o (λ x. AreContentsOf octets (contents x))
+known_there contents None read released frames k octets known is same = tt
+known_there contents (Some x) read released frames k octets known is same =
+    let kept = kept_octets released frames k octets is in
+    let r = subst (λ (m : Option ReadFrame). IfSome m (IsReadFrom released frames)) same known in
+    subst (λ (w : List ℕ). AreContentsOf w (contents x)) kept.2 (r.1 kept.0 kept.1)
 
 -- ---- one station of many is another
 set_apart : {X : Type 0} (xs : List X) (i n : ℕ) (y : X) → n ≢ i

@@ -1,9 +1,9 @@
 -- The frames of a world, in octets.
-use Rattle.std.specs.Prelude.{◌≡◌, ℕ, ◌+◌, ◌-◌, ◌<◌, List, [], ◌∷◌, Vec, Option, Some, None}
-use Rattle.std.specs.Prelude.{cond, nat_le, slice_get, length}
+use Rattle.std.specs.Prelude.{ℕ, ◌-◌, List, [], ◌∷◌, Vec, Option, None}
+use Rattle.std.specs.Prelude.{cond, nat_le, slice_get}
 use Rattle.std.specs.declared.alloc.Global.{Global}
 use Rattle.its_model.specs.Packet.{Transmission}
-use Rattle.its_linkframe.specs.Frames.{EncodesFrame, IsFrame}
+use Rattle.its_linkframe.specs.Frames.{EncodesFrame}
 
 -- these octets are these frames, one for one
 abbrev pub AreFrames : List (Vec ℕ Global) → List Transmission → Type 0
@@ -16,8 +16,3 @@ AreFrames (w ∷ frames) (t ∷ air) = EncodesFrame t w.items × AreFrames frame
 -- was let go, or there is no such frame
 abbrev pub frame_in : ℕ → List (Vec ℕ Global) → ℕ → Option (Vec ℕ Global)
 frame_in released frames k = cond (nat_le released k) (slice_get frames (k - released)) None
-
--- a frame of this number was sent, and its octets are a frame if they are kept
-abbrev pub IsFaultless : ℕ → List (Vec ℕ Global) → ℕ → Type 0
-IsFaultless released frames k = (k < released + length frames)
-    × ((w : Vec ℕ Global) → frame_in released frames k ≡ Some w → IsFrame w.items)

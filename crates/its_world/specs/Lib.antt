@@ -1,5 +1,6 @@
 pub mod State
 pub mod Frames
+pub mod Read
 pub mod Entries
 pub mod Events
 pub mod Mids

@@ -2,7 +2,7 @@
 
 ghost use Rattle.std.specs.Prelude.{◌≡◌, ◌<◌, ◌≤◌, ◌+◌, ◌-◌, ◌++◌, ◌∷◌, [], ℕ, List, All, map, length};
 ghost use Rattle.std.specs.Prelude.{IfOk, IfErr, OnOk, OnErr, Some, slice_get, drop, min, max};
-ghost use Rattle.std.specs.Prelude.{IsSome, IsTrue};
+ghost use Rattle.std.specs.Prelude.{IfSome, IsTrue};
 ghost use Rattle.std.specs.Option.{option_map};
 ghost use Rattle.its_model.specs.Calls.{Answer, Call};
 ghost use Rattle.its_model.specs.Station.{StationModel, station_step};
@@ -10,7 +10,7 @@ ghost use Rattle.its_model.specs.World.{WorldModel, opening, world_step, entries
 ghost use Rattle.its_model.specs.World.What.{Deliver};
 ghost use Rattle.its_model.specs.Reach.{HasOwnAddress};
 ghost use Rattle.its_headers.specs.Encoding.{IsBytes};
-ghost use Rattle.its_linkframe.specs.Frames.{IsFrame};
+ghost use Rattle.its_station.specs.Known.{AreContentsOf};
 ghost use Rattle.its_station.specs.Receiving.{DeliversEndOf, IsFrameCall, Tells};
 ghost use Rattle.its_station.specs.Runs.{IsReplyTo, IsThisWhereDone};
 ghost use Rattle.its_station.specs.State.{StationState, RepresentsStation};
@@ -32,10 +32,11 @@ use crate::outcome::{CallOutcome, number_of, refusal};
 use crate::stations::{begin_station, stations_of};
 use its_gnvalue::{GnAddress, NoMemory};
 use its_linkframe::laws::{one_frame, one_frame_fault};
-use its_linkframe::read_frame;
 use its_loctable::{HALVINGS, SIDE_BY_SIDE, SortedTable, narrow};
 use its_model::laws::addresses_are_own;
-use its_station::{Delivery, Outcome, Refused, Reply, Station, make_room};
+use its_station::{
+    Delivery, FrameContents, KnownFrame, Outcome, Refused, Reply, Station, make_room,
+};
 use std::alloc::Global;
 use std::array;
 use std::marker::Model;
@@ -50,13 +51,13 @@ pub struct World {
     air: Air,
     /// Room for the payload of the next delivery: that of the last one, where nothing was delivered.
     room: Vec<u8>,
-    /// The number of a frame in which `read_frame` found no fault: the last one that was expected.
-    checked: Option<usize>,
+    /// The frame that was read last, if it may still be delivered: the last one that was expected.
+    read: Option<ReadFrame>,
 }
 
 impl Model for World {
     ghost use Rattle.std.specs.Prelude.{IfSome};
-    ghost use Rattle.its_world.specs.Frames.{IsFaultless};
+    ghost use Rattle.its_world.specs.Read.{IsReadFrom};
     ghost use Rattle.its_world.specs.State.{WorldState};
 
     ghost Value = { WorldState };
@@ -67,8 +68,7 @@ impl Model for World {
       frames = w.air.kept.items;
     } };
 
-    ghost invariant = { λ w.
-        IfSome w.checked (IsFaultless w.air.released w.air.kept.items) };
+    ghost invariant = { λ w. IfSome w.read (IsReadFrom w.air.released w.air.kept.items) };
 }
 
 impl World {
@@ -106,7 +106,7 @@ impl World {
             stations: stations_of(alloc, configs)?,
             air: Air::new(alloc),
             room: Vec::new(alloc),
-            checked: None,
+            read: None,
         })
     }
 
@@ -175,7 +175,7 @@ impl World {
         ensures count { self.new.released + length self.new.frames
             ≡ self.old.released + length self.old.frames }
     {
-        self.checked = None;
+        self.read = None;
         self.air.release(before);
     }
 
@@ -259,8 +259,8 @@ impl World {
         one_frame();
         one_frame_fault();
         make_room(&mut self.room, frame)?;
-        let check = check_of(number, self.checked);
-        let answer = receive(&mut self.stations[station], moment, frame, check);
+        let contents = contents_of(number, &self.read);
+        let answer = receive(&mut self.stations[station], moment, frame, contents);
         match answer {
             Ok(Outcome::Ignored(why)) => Ok(Entry::Ignored(why)),
             Ok(Outcome::Accepted { handed, sent }) => {
@@ -307,7 +307,7 @@ impl World {
     pub fn expect(&mut self, now: u64, frame: usize, stations: &[usize])
         ensures { self.new ≡ self.old }
     {
-        let Some(source) = self.check_frame(frame) else {
+        let Some(source) = self.read_frame(frame) else {
             return;
         };
         for part in stations.chunks(SIDE_BY_SIDE) {
@@ -327,14 +327,15 @@ impl World {
         }
     }
 
-    /// Reads a frame, so that its deliveries need not check it again: the source of its packet, if the
-    /// frame is kept.
-    fn check_frame(&mut self, frame: usize) -> Option<GnAddress>
+    /// Reads a frame once, for all its deliveries. Returns the source of its packet. `None` if the
+    /// frame isn't kept.
+    fn read_frame(&mut self, number: usize) -> Option<GnAddress>
         ensures { self.new ≡ self.old }
     {
-        let octets = self.air.get(frame)?;
-        let source = source_of(octets)?;
-        self.checked = Some(frame);
+        let octets = self.air.get(number)?;
+        let contents = contents_in(octets)?;
+        let source = contents.vector.address();
+        self.read = Some(ReadFrame { number, contents });
         Some(source)
     }
 
@@ -388,47 +389,44 @@ impl World {
     }
 }
 
-/// The source of the packet in the octets of a frame. `None` if they have a fault.
-fn source_of(octets: &[u8]) -> Option<GnAddress>
-    ensures { IsSome result → IsFrame octets.now }
+/// A frame that was read: its number and its contents.
+#[derive(Clone, Copy, Debug)]
+struct ReadFrame {
+    number: usize,
+    contents: FrameContents,
+}
+
+/// Returns the contents of a frame, `None` if its octets have a fault.
+fn contents_in(octets: &[u8]) -> Option<FrameContents>
+    ensures { IfSome result (AreContentsOf octets.now) }
 {
-    match read_frame(octets) {
-        Ok(view) => Some(view.packet.vector().address()),
+    match FrameContents::read(octets) {
+        Ok(contents) => Some(contents),
         Err(_) => None,
     }
 }
 
-/// Whether the octets that a station receives were checked.
-#[derive(Clone, Copy, Debug)]
-enum FrameCheck {
-    /// `read_frame` found no fault in them.
-    Done,
-    /// They are checked when they are received.
-    Due,
-}
-
-/// Whether the octets of the frame of a number were checked. `checked` is the number of the frame whose
-/// octets were, if there is one.
+/// Returns the contents of the frame of a number, if it is the frame that was read.
 #[inline(always)]
-fn check_of(number: usize, checked: Option<usize>) -> FrameCheck
-    ensures { result ≡ FrameCheck.Done → checked ≡ Some number }
+fn contents_of(number: usize, read: &Option<ReadFrame>) -> Option<&FrameContents>
+    ensures { IfSome result (λ contents.
+        read.now ≡ Some (record { number = number; contents = contents.now })) }
 {
-    if checked == Some(number) {
-        FrameCheck::Done
-    } else {
-        FrameCheck::Due
+    match read {
+        Some(read) if read.number == number => Some(&read.contents),
+        Some(_) | None => None,
     }
 }
 
-/// Has a station receive a frame. Octets that were checked are not checked again.
+/// Has a station receive a frame. If its contents are known, they are not read again.
 #[inline(always)]
 fn receive<'a>(
     station: &mut Station<SortedTable>,
     moment: u64,
     frame: &'a [u8],
-    check: FrameCheck,
+    contents: Option<&FrameContents>,
 ) -> Result<Outcome<'a>, Refused>
-    requires check { check ≡ FrameCheck.Done → IsFrame frame.now }
+    requires contents { IfSome contents (λ contents. AreContentsOf frame.now contents.now) }
     ensures step { (call : Call) × IsFrameCall frame.now call
         × ((s : StationModel) → RepresentsStation station.old s →
         IsStepOf Tells result station.new (station_step s moment call)) }
@@ -436,9 +434,9 @@ fn receive<'a>(
     ensures payload { IfOk result (DeliversEndOf frame.now) }
     ensures bytes { IsBytes frame.now }
 {
-    match check {
-        FrameCheck::Done => station.receive_checked(moment, frame),
-        FrameCheck::Due => {
+    match contents {
+        Some(contents) => station.receive_known(moment, &KnownFrame::new(frame, contents)),
+        None => {
             // In a place of its own, so that an answer of the other arm stays in registers.
             let answer = station.receive(moment, frame);
             answer

@@ -6,7 +6,7 @@ use crate::vectors::{GEOBROADCAST, beacon_of};
 use its_gnvalue::{GnAddress, Place};
 use its_linkframe::{FrameView, read_frame};
 use its_loctable::{LocationStore, OrderedTable, SortedTable};
-use its_station::{GbcRequest, Outcome, Station};
+use its_station::{FrameContents, GbcRequest, KnownFrame, Outcome, Station};
 use std::alloc::Global;
 use std::test::Fail;
 use test_support::{FIRST, PORT, SECOND};
@@ -36,6 +36,52 @@ fn a_frame_is_read_once(rt: HostRuntime) -> Result<(), Fail> {
     assert!(rt; frame.packet.vector().address().as_u64() == FIRST);
     assert!(rt; is_delivered(&mut station, 1000, &frame));
     assert!(rt; is_refused(&mut station, 999, &frame) && station.clock() == 1000);
+    Ok(())
+}
+
+/// Whether a frame whose contents were read before is delivered and relayed in the same way.
+fn is_known_delivered<S: LocationStore>(
+    station: &mut Station<S>,
+    now: u64,
+    frame: &KnownFrame<'_, '_>,
+) -> bool {
+    match station.receive_known(now, frame) {
+        Ok(
+            Outcome::Accepted {
+                handed: Some(handed),
+                sent: Some(sent),
+            },
+        ) => handed.port == PORT && handed.payload == b"hi".as_slice() && sent.len() == 76,
+        Ok(Outcome::Accepted { .. } | Outcome::Ignored(_)) | Err(_) => false,
+    }
+}
+
+fn is_known_refused<S: LocationStore>(
+    station: &mut Station<S>,
+    now: u64,
+    frame: &KnownFrame<'_, '_>,
+) -> bool {
+    station.receive_known(now, frame).is_err()
+}
+
+/// Whether two stations receive a frame that is read once, and one refuses it at a time of the past.
+fn are_served(sorted: &mut Station<SortedTable>, ordered: &mut Station<OrderedTable>) -> bool {
+    let octets = GEOBROADCAST.as_slice();
+    let Ok(contents) = FrameContents::read(octets) else {
+        return false;
+    };
+    let frame = KnownFrame::new(octets, &contents);
+    contents.vector.address().as_u64() == FIRST
+        && is_known_delivered(sorted, 1000, &frame)
+        && is_known_delivered(ordered, 2000, &frame)
+        && is_known_refused(sorted, 999, &frame)
+}
+
+#[test]
+fn a_frame_is_read_once_for_two_stations(rt: HostRuntime) -> Result<(), Fail> {
+    let mut sorted = receiver(rt.alloc())?;
+    let mut ordered = receiver(rt.alloc())?;
+    assert!(rt; are_served(&mut sorted, &mut ordered));
     Ok(())
 }
 

@@ -1,4 +1,4 @@
-use Rattle.std.proofs.Common.{◌≡◌, ℕ, ◌+◌, ◌<◌, List, [], length, set, refl, sym, ap, subst, ◌∙◌}
+use Rattle.std.proofs.Common.{ℕ, ◌<◌, List, [], length, set, refl, sym, ap, subst, ◌∙◌}
 use Rattle.std.proofs.Common.{arith}
 use Rattle.std.specs.Prelude.{Vec}
 use Rattle.std.specs.declared.alloc.Global.{Global}
@@ -11,15 +11,15 @@ use Rattle.its_world.specs.Entries.{TellsEntry}
 use Rattle.its_world.specs.Events.{event_of, what_of}
 use Rattle.its_world.specs.Steps.{AreSameBut}
 use Rattle.its_world.proofs.Done.{done_by, with_room}
-use Rattle.its_world.proofs.Giving.{IsToldOf, delivered_own, done_told}
-use Rattle.its_world.proofs.Worlds.{checked_on, same_but_set}
+use Rattle.its_world.proofs.Giving.{delivered_own, done_told}
+use Rattle.its_world.proofs.Worlds.{read_on, same_but_set}
 use Rattle.its_world.proofs.Logs.{get_or_is}
 use Rattle.its_world.proofs.world.World.call.Goals as goal
 
 pub invariant_of-self-2 : goal.invariant_of-self-2
 invariant_of-self-2 c =
     let inside = c.self.inside in
-    checked_on inside.checked inside.air.released c.number.new.self.released inside.air.kept.items
+    read_on inside.read inside.air.released c.number.new.self.released inside.air.kept.items
     c.number.new.self.kept.items c.of_reply-outcome.result.frame
     (c.number.ensures.released ∙ c.make_room.ensures.released)
     (c.number.ensures.given ∙ ap (λ (xs : List (Vec ℕ Global)).

@@ -1,6 +1,6 @@
-use Rattle.std.proofs.Common.{◌≡◌, ◌<◌, ◌+◌, ℕ, List, Option, Some, None, Ok, length, set, refl, sym, ap}
+use Rattle.std.proofs.Common.{◌<◌, ◌+◌, ℕ, List, None, Ok, length, set, refl, sym, ap}
 use Rattle.std.proofs.Common.{subst, ◌∙◌}
-use Rattle.std.specs.Prelude.{Vec, Result, slice_get}
+use Rattle.std.specs.Prelude.{Vec, Result}
 use Rattle.std.specs.Option.{option_map}
 use Rattle.std.specs.declared.alloc.Global.{Global}
 use Rattle.its_model.specs.Calls as model
@@ -17,7 +17,7 @@ use Rattle.its_world.specs.State.{WorldState}
 use Rattle.its_world.specs.Steps.{AreSameBut, IsDelivered, IsDoneBy, IsKept}
 use Rattle.its_world.proofs.Done.{done_by, with_room}
 use Rattle.its_world.proofs.Giving.{IsToldOf, accepted_told, ignored_told, refused_entry, refused_told}
-use Rattle.its_world.proofs.Worlds.{checked_on, same_but_set}
+use Rattle.its_world.proofs.Worlds.{known_there, read_on, same_but_set}
 use Rattle.its_world.proofs.Logs.{get_or_is, station_at, undelivered}
 use Rattle.its_world.proofs.world.World.deliver.Goals as goal
 
@@ -58,10 +58,24 @@ returns-in_default-clause-step c = λ w h kept. (
     let told = undelivered st w e at.2 here at.3 kept_here none in
     (told.stands, model.Answer.Refused model.Refusal.NoSuchFrame, refl, told.last))
 
+pub receive-answer-requires : goal.receive-answer-requires
+receive-answer-requires c =
+    let inside = c.self.inside in
+    let room = c.make_room.new.self in
+    record {
+      contents = known_there (λ contents. contents.now) c.contents_of-contents.result inside.read
+          room.released room.kept.items c.args.number c.in-Some.frame.now
+          (read_on inside.read inside.air.released room.released inside.air.kept.items
+          room.kept.items None c.make_room.ensures.released c.make_room.ensures.kept
+          c.self.invariant)
+          (sym (ap (option_map (λ octets. octets.now)) (sym c.in-Some.is) ∙ c.get.ensures))
+          c.contents_of-contents.ensures;
+    }
+
 pub invariant_of-self-in-Ok-Accepted : goal.invariant_of-self-in-Ok-Accepted
 invariant_of-self-in-Ok-Accepted c =
     let inside = c.self.inside in
-    checked_on inside.checked inside.air.released c.number.new.self.released inside.air.kept.items
+    read_on inside.read inside.air.released c.number.new.self.released inside.air.kept.items
     c.number.new.self.kept.items c.in-Ok-Accepted.sent
     (c.number.ensures.released ∙ c.make_room.ensures.released)
     (c.number.ensures.given ∙ ap (λ (xs : List (Vec ℕ Global)).

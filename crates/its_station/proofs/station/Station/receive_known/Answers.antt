@@ -1,0 +1,27 @@
+use Rattle.std.proofs.Common.{◌≡◌}
+use Rattle.its_model.specs.Calls.{Receive}
+use Rattle.its_model.specs.Station as station
+use Rattle.its_model.specs.Station.{StationModel, verdict}
+use Rattle.its_linkframe.specs.Frames.{EncodesFrame}
+use Rattle.its_station.specs.Receiving.{Tells, TakesMemory}
+use Rattle.its_station.proofs.Stations.{at_model}
+use Rattle.its_station.proofs.Hearing.{moment_exit, heard}
+use Rattle.its_station.proofs.station.Station.receive_known.Goals as goal
+
+pub returns-in_err-check_moment-clause-step : goal.returns-in_err-check_moment-clause-step
+returns-in_err-check_moment-clause-step g c =
+    moment_exit Tells c.args.self.now c.args.now (Receive c.args.frame.now) _
+    c.from_residual.result c.from_residual.ensures.1 c.in_err-check_moment.ensures.refusal
+
+pub returns-clause-step : goal.returns-clause-step
+returns-clause-step g c =
+    heard EncodesFrame c.hear.result c.args.self.now c.hear.new.self c.args.now
+    c.args.frame.now c.hear.ensures.step
+
+pub returns-clause-memory : goal.returns-clause-memory
+returns-clause-memory g c = λ s rep e.
+    let t = c.args.frame.now in
+    at_model c.args.self.now
+    (λ (m : StationModel). (verdict m c.args.now t ≡ station.Verdict.Accept)
+    × TakesMemory m c.args.now t)
+    (λ ports history past. c.hear.ensures.memory ports history past e) s rep
