@@ -746,8 +746,8 @@ fn junction(vehicles: u64, rate: u64) -> Traffic {
     }
 }
 
-/// As many messages at the same times, of as many live sources. None of them is new: `vehicles` stay
-/// for good, and half as many others send a message in 15 seconds, so that they stay live.
+/// As many messages at the same times, from as many live sources. None of them is new: `vehicles`
+/// stay for good. Half as many others send one message per 15 seconds, so that they stay live.
 fn junction_of_known(vehicles: u64, rate: u64) -> Traffic {
     let mut traffic = junction(vehicles, rate);
     let (others, pause) = (vehicles * ENTRY_LIFE / STAY, 15 * rate * STAY / ENTRY_LIFE);
@@ -800,9 +800,8 @@ fn junction_row(name: &str, traffic: &Traffic, capacity: u16) {
 }
 
 fn junction_rows() {
-    for (vehicles, rate, capacity) in
-        [(300, 10, 1024), (300, 10, 4096), (300, 1, 1024), (1200, 1, 4096)]
-    {
+    let crowd = [(300, 10, 1024), (300, 10, 4096), (300, 4, 1024), (300, 1, 1024), (1200, 1, 4096)];
+    for (vehicles, rate, capacity) in crowd {
         let name = format!("accept, junction of {vehicles}, {rate}/s, up to {capacity}");
         junction_row(&name, &junction(vehicles, rate), capacity);
         let name = format!("{name}, none new");
