@@ -30,6 +30,15 @@ unsafe extern "C" {
     fn bench_nearest(a: *const u8, n: usize, p: *const u8, m: usize, r: u64) -> u64;
     fn bench_accept(p: *const u64, n: usize, r: u32, direct: bool) -> u64;
     fn bench_turnover(p: *const u64, n: usize, live: u32, r: u32) -> u64;
+    fn bench_junction(
+        p: *const u64,
+        n: usize,
+        b: *const u64,
+        l: usize,
+        q: *const u64,
+        m: usize,
+        capacity: u16,
+    ) -> u64;
     fn bench_fill(p: *const u64, n: usize, r: u32) -> u64;
     fn bench_lookup(p: *const u64, n: usize, r: u32) -> u64;
     fn bench_remembers(p: *const u64, n: usize, r: u32) -> u64;
@@ -685,6 +694,121 @@ fn table_rows(count: usize) {
     }
 }
 
+// ---- the location table at a busy junction
+
+/// How long a vehicle is in range, in milliseconds: 600 m at 15 m/s.
+const STAY: u64 = 40_000;
+/// How long an entry is live after the last message of its source, in milliseconds.
+const ENTRY_LIFE: u64 = 20_000;
+/// From this time on, as many entries expire as are made.
+const STEADY: u64 = STAY + ENTRY_LIFE;
+
+/// Single-hop messages, in the order of their times. The upper half of each is its time in
+/// milliseconds, the lower half is the index of its source.
+struct Traffic {
+    sources: Vec<u64>,
+    /// The messages of the 20 s before, which make the entries that are live at first.
+    before: Vec<u64>,
+    messages: Vec<u64>,
+}
+
+/// A time and a source as one message.
+fn message(time: u64, source: u64) -> u64 {
+    time << 32 | source
+}
+
+/// Addresses that are random in 40 bits.
+fn random_sources(count: usize, random: &mut Random) -> Vec<u64> {
+    (0..count).map(|_| 0x1400_0200_0000_0000 | random.next() & 0xff_ffff_ffff).collect()
+}
+
+/// Vehicles come and go, so that `vehicles` are in range at any time. Each stays for `STAY` and
+/// sends `rate` messages per second, each at a random time of its period. Each is a new source.
+fn junction(vehicles: u64, rate: u64) -> Traffic {
+    let (count, period) = (120_000, 1000 / rate);
+    let end = STEADY + count * 1000 / (vehicles * rate);
+    let arrivals = end * vehicles / STAY;
+    let mut random = Random(21);
+    let mut all = Vec::new();
+    for vehicle in 0..arrivals {
+        let arrival = vehicle * STAY / vehicles + random.below(1000);
+        for start in (arrival..arrival + STAY).step_by(period as usize) {
+            all.push(message(start + random.below(period), vehicle));
+        }
+    }
+    all.sort();
+    let [first, from, to] = [STEADY - ENTRY_LIFE, STEADY, end]
+        .map(|time| all.partition_point(|one| *one < message(time, 0)));
+    Traffic {
+        sources: random_sources(arrivals as usize, &mut random),
+        before: all[first..from].to_vec(),
+        messages: all[from..to].to_vec(),
+    }
+}
+
+/// As many messages at the same times, from as many live sources. None of them is new: `vehicles`
+/// stay for good. Half as many others send one message per 15 seconds, so that they stay live.
+fn junction_of_known(vehicles: u64, rate: u64) -> Traffic {
+    let mut traffic = junction(vehicles, rate);
+    let (others, pause) = (vehicles * ENTRY_LIFE / STAY, 15 * rate * STAY / ENTRY_LIFE);
+    let mut count = 0;
+    for one in traffic.before.iter_mut().chain(&mut traffic.messages) {
+        let (time, vehicle) = (*one >> 32, *one & 0xffff_ffff);
+        count += 1;
+        *one = message(time, vehicle % vehicles);
+        if count % pause == 0 {
+            *one = message(time, vehicles + count / pause % others);
+        }
+    }
+    traffic.sources.truncate((vehicles + others) as usize);
+    traffic
+}
+
+fn accept_messages(table: &mut Table, vectors: &[LongPv], messages: &[u64]) -> u64 {
+    let mut sum = 0;
+    for message in messages {
+        let (now, source) = (*message >> 32, *message & 0xffff_ffff);
+        if let Some(vector) = vectors.get(source as usize) {
+            sum += verdict_code(table.accept(now, &heard(vector, now as u32, None)));
+        }
+    }
+    sum
+}
+
+#[inline(never)]
+fn twin_junction(sources: &[u64], before: &[u64], messages: &[u64], capacity: usize) -> u64 {
+    let vectors = vectors_of(sources);
+    let mut table = Table::new(capacity, 8);
+    let sum = accept_messages(&mut table, &vectors, before);
+    sum + accept_messages(&mut table, &vectors, messages)
+}
+
+fn junction_row(name: &str, traffic: &Traffic, capacity: u16) {
+    let Traffic { sources, before, messages } = traffic;
+    let (p, n) = (sources.as_ptr(), sources.len());
+    let (b, l) = (before.as_ptr(), before.len());
+    let (q, m) = (messages.as_ptr(), messages.len());
+    row!(
+        name,
+        m,
+        150,
+        1,
+        true,
+        |r| bench_junction(p, n, b, l, q, m * r as usize, capacity),
+        twin_junction(sources, before, &messages[..m * r as usize], capacity as usize)
+    );
+}
+
+fn junction_rows() {
+    let crowd = [(300, 10, 1024), (300, 10, 4096), (300, 4, 1024), (300, 1, 1024), (1200, 1, 4096)];
+    for (vehicles, rate, capacity) in crowd {
+        let name = format!("accept, junction of {vehicles}, {rate}/s, up to {capacity}");
+        junction_row(&name, &junction(vehicles, rate), capacity);
+        let name = format!("{name}, none new");
+        junction_row(&name, &junction_of_known(vehicles, rate), capacity);
+    }
+}
+
 // ---- forwarding
 
 #[inline(never)]
@@ -898,6 +1022,7 @@ fn main() {
     for count in [64, 1024, 4096] {
         table_rows(count);
     }
+    junction_rows();
     for count in [64, 1024, 4096] {
         choose_rows(count);
         receive_rows(count);
