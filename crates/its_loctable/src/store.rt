@@ -231,9 +231,9 @@ pub trait LocationStore: Sized + Drop {
         NearestSearch::Unknown
     }
 
-    /// The live neighbour that is nearest to a place, which is the centre of an area. Of equally
-    /// near ones it is the one of least address. A store that can't do better than a walk by
-    /// `next_neighbours` returns `Unknown`.
+    /// The live neighbour that is nearest to a place, which is the centre of an area. If several
+    /// are equally near, it is the one with the least address. A store that can't do better than a
+    /// walk by `next_neighbours` returns `Unknown`.
     fn nearest(&self, now: u64, centre: Place) -> NearestSearch
         requires { now ≤ 2 ^ 62 }
         ensures { (history : List Reception) →

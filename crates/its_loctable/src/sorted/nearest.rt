@@ -8,9 +8,9 @@ use crate::heard::NearestNeighbour;
 use its_geometry::Centre;
 use its_gnvalue::Place;
 
-/// The nearest neighbour to a place among the slots of a table, or that there is none. It is a
-/// bound: no other neighbour among them comes before it, by distance and then by address. This
-/// still holds after it has moved away or left the table.
+/// The nearest neighbour to a place among the slots of a table, if they have one. It is a bound: no
+/// other neighbour among them comes before it, by distance and then by address. This still holds
+/// after it has moved away or left the table.
 #[derive(Clone, Copy)]
 pub struct Nearest {
     /// The place from which distances are measured.
