@@ -28,7 +28,6 @@ pub use cap_linklayers::{LONGEST_RECORD, LinkFault, LinkLayer, frame_start, link
 pub use fault::SourceFault;
 pub use format::{Format, format_of};
 pub use info::{InterfaceHead, InterfaceInfo};
-pub use its_linkframe::without_padding;
 pub use name::{InterfaceName, LONGEST_NAME};
 pub use octets::Endianness;
 pub use pcap::{FileHeader, LONGEST_CAPTURED, Magic, PcapReader, Unit};

@@ -7,12 +7,13 @@ ghost use Rattle.its_model.specs.Stations.{stations_at};
 ghost use Rattle.its_geometry.specs.Offsets.{squared_distance};
 ghost use Rattle.its_model.specs.Decision.{decision, is_sender_inside, next_hop, toward};
 ghost use Rattle.its_loctable.specs.Content.{Represents};
+ghost use Rattle.its_loctable.specs.Nearest.{IsNearest};
 ghost use Rattle.its_forwarding.specs.Chosen.{chosen, IsByRules};
 
 use crate::nearest::find_next_hop;
 use its_geometry::{Area, contains};
 use its_gnvalue::{Mac, Place};
-use its_loctable::LocationStore;
+use its_loctable::{LocationStore, NearestSearch};
 
 /// To whom a packet goes.
 #[derive(Clone, Copy, Debug, PartialEq, Eq)]
@@ -46,7 +47,10 @@ pub fn choose<S: LocationStore>(
 {
     match choice_of_rules(store, now, own, area, sender) {
         Some(choice) => choice,
-        None => greedy(store, now, own, area),
+        None => {
+            let nearest = store.nearest(now, area.centre());
+            greedy(store, now, own, area, nearest)
+        }
     }
 }
 
@@ -71,8 +75,8 @@ pub fn choose_and_keep<S: LocationStore>(
     match choice_of_rules(store, now, own, area, sender) {
         Some(choice) => choice,
         None => {
-            store.keep_nearest(now, area.centre());
-            greedy(store, now, own, area)
+            let nearest = store.keep_nearest(now, area.centre());
+            greedy(store, now, own, area, nearest)
         }
     }
 }
@@ -100,15 +104,24 @@ fn choice_of_rules<S: LocationStore>(
 }
 
 /// The choice of greedy forwarding: the neighbour that is nearest to the area's centre, if one is
-/// nearer than the own place, or all.
-fn greedy<S: LocationStore>(store: &S, now: u64, own: Place, area: &Area) -> Choice
-    requires { now ≤ 2 ^ 62 }
+/// nearer than the own place, or all. The store was asked for the nearest one.
+fn greedy<S: LocationStore>(
+    store: &S,
+    now: u64,
+    own: Place,
+    area: &Area,
+    nearest: NearestSearch,
+) -> Choice
+    requires moment { now ≤ 2 ^ 62 }
+    requires nearest { (history : List Reception) →
+        Represents (S.remember store.now) (S.content store.now) history now →
+        IsNearest area.now.centre (stations_at (S.remember store.now) now history) nearest }
     ensures { (history : List Reception) →
         Represents (S.remember store.now) (S.content store.now) history now →
         chosen result ≡ toward (next_hop area.now.centre (squared_distance area.now.centre own)
         (stations_at (S.remember store.now) now history)) }
 {
-    match find_next_hop(store, now, area.centre(), own) {
+    match find_next_hop(store, now, area.centre(), own, nearest) {
         Some(address) => Choice::To(address.mid()),
         None => Choice::Broadcast,
     }

@@ -1,7 +1,8 @@
 -- Reading an inner packet behind its Basic Header.
-use Rattle.std.proofs.Common.{◌≡◌, ℕ, ◌<◌, ◌≤◌, ◌-◌, ◌+◌, List, [], ◌∷◌, ◌++◌, length, take, Result, Ok}
+use Rattle.std.proofs.Common.{◌≡◌, ℕ, ◌<◌, ◌≤◌, ◌-◌, ◌+◌, List, [], ◌∷◌, ◌++◌, length, take}
+use Rattle.std.proofs.Common.{Result, Ok}
 use Rattle.std.proofs.Common.{Err, refl, sym, ap, subst, ◌∙◌, arith, zero, suc, length-take, drop}
-use Rattle.std.specs.Prelude.{slice_index, IfOk, IfErr, IsOkAnd}
+use Rattle.std.specs.Prelude.{IfOk, IfErr, IsOkAnd}
 use Rattle.its_faults.specs.declared.packet.Fault.{Fault}
 use Rattle.its_faults.specs.declared.packet.FaultKind.TheVariants.{Truncated}
 use Rattle.its_model.specs.Packet.{Pdu}
@@ -34,8 +35,8 @@ inner_walk b plain fl some fleft =
     let x : ℕ × ℕ = (b.lifetime, b.left) in
     walk_after basic_format plain_format 0 w
     ∙ ap (λ (r : Result ((ℕ × ℕ) × ℕ) Fault). r >>= λ y. walk (plain_format y.0) y.1 w)
-    (again basic_format x 0 w (17 ∷ 0 ∷ x.0 ∷ x.1 ∷ []) plain (spells_basic 1 x (omega arith) refl fl some fleft) refl
-    (omega arith))
+    (again basic_format x 0 w (17 ∷ 0 ∷ x.0 ∷ x.1 ∷ []) plain
+    (spells_basic 1 x (omega arith) refl fl some fleft) refl (omega arith))
 
 -- what the plain part's walk ends with, the inner packet's does
 pub inner_end : (b : Basic) (plain : List ℕ) (left : ℕ) (r : Result ℕ Fault) → left ≡ b.left

@@ -873,7 +873,8 @@ spells_packet p left fits =
     (spells_basic 1 (
       p.lifetime,
       left,
-    ) (omega arith) refl fits.lifetime fits.some_left (omega (arith, fits.left_below, fits.max_hops))) two in
+    ) (omega arith) refl fits.lifetime fits.some_left
+    (omega (arith, fits.left_below, fits.max_hops))) two in
     let text : basic_header p left
     ++ (common_octets common ++ (extended_header p.vector p.body ++ [])) ≡ encoding p left =
     ap (λ (t : List ℕ). basic_header p left ++ (common_octets common ++ t))

@@ -11,8 +11,8 @@ pub record Basic : Type 0 where
 abbrev pub inner_octets : Basic → List ℕ → List ℕ
 inner_octets b plain = 17 ∷ 0 ∷ b.lifetime ∷ b.left ∷ plain
 
--- the Basic Header of a secured packet: version 1 and next header 2, a reserved octet, lifetime, hops
--- left
+-- the Basic Header of a secured packet: version 1 and next header 2, a reserved octet, lifetime,
+-- hops left
 abbrev pub secured_header : Basic → List ℕ
 secured_header b = 18 ∷ 0 ∷ b.lifetime ∷ b.left ∷ []
 

@@ -47,8 +47,8 @@ impl<'a> Octets for InnerOctets<'a> {
     }
 }
 
-/// An inner packet in the pieces that it was read from: by its type, they are an encoding. Contracts
-/// see the packet and the hops that it has left.
+/// An inner packet in the pieces that it was read from: by its type, they are an encoding.
+/// Contracts see the packet and the hops that it has left.
 #[derive(Debug, Drop)]
 pub struct InnerPacketView<'a> {
     octets: InnerOctets<'a>,
@@ -155,8 +155,8 @@ impl<'a> InnerPacketView<'a> {
         shape_of(self.octets.plain[TYPE - BASIC_END] % 16)
     }
 
-    /// The payload, a slice of the plain part: a BTP-B header and what is sent to the port. A beacon
-    /// has none.
+    /// The payload, a slice of the plain part: a BTP-B header and what is sent to the port. A
+    /// beacon has none.
     pub fn payload(&self) -> &'a [u8]
         ensures octets { result.now ≡ payload_of self.now.pdu.body }
         ensures message { SaysMessage self.now.pdu.body result.now }

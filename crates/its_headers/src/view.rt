@@ -1,6 +1,6 @@
 //! A packet read in place.
 
-ghost use Rattle.std.specs.Prelude.{◌≡◌, ◌≤◌, ◌<◌, ◌++◌, ℕ, List, length, take, IfOk, IfErr};
+ghost use Rattle.std.specs.Prelude.{◌≡◌, ◌≤◌, ◌++◌, ℕ, List, length, take, IfOk, IfErr};
 ghost use Rattle.std.specs.Prelude.{IsOkAnd, OnErr};
 ghost use Rattle.its_model.specs.Packet.{Pdu, number_in};
 ghost use Rattle.its_headers.specs.Encoding.{Encodes, payload_of};

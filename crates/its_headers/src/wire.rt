@@ -90,7 +90,8 @@ fn area_packet_end<O: Octets>(octets: &O, shape: Shape, size: u16) -> Result<usi
     requires { O.start octets.now ≤ 4 }
     ensures gbc { result
         ≡ end_of (walk (area_packet_format geobroadcast shape size) 12 (O.octets octets.now)) }
-    ensures gac { result ≡ end_of (walk (area_packet_format geoanycast shape size) 12 (O.octets octets.now)) }
+    ensures gac { result
+        ≡ end_of (walk (area_packet_format geoanycast shape size) 12 (O.octets octets.now)) }
 {
     pass_number(octets, NUMBER, 2)?;
     if u16_at(octets, NUMBER_RESERVED)? != 0 {

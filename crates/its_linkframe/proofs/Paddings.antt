@@ -95,8 +95,10 @@ addresses_in_front w n t le enc =
 -- a whole frame, as the frame that octets begin with
 pub whole_frame : (t : Transmission) (w : List ℕ) → EncodesFrame t w
     → (length w ≤ 1468) × EncodesFrame t (take (length w) w)
-whole_frame t w enc =
-    ((frame_bounds t w enc).1, subst (EncodesFrame t) (sym (take_all (length w) w (omega arith))) enc)
+whole_frame t w enc = (
+  (frame_bounds t w enc).1,
+  subst (EncodesFrame t) (sym (take_all (length w) w (omega arith))) enc,
+)
 
 -- a frame is not filled up, or by nothing
 pub unpadded_frame : (w : List ℕ) (t : Transmission) → EncodesFrame t w → IsUnpadded w w

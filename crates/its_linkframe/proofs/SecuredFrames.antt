@@ -21,7 +21,8 @@ pub EncodesSecured-parts : (w : List ℕ) (b : Basic) (m : List ℕ) (to from : 
     → EncodesSecured
     (record { link_target = to; link_source = from; basic = b; message = m }) w
 unfolding link_header
-EncodesSecured-parts w b m to from some short fits e12 e13 text is range is_to to_octets is_from from_octets =
+EncodesSecured-parts w b m to from some short fits e12 e13 text is range is_to to_octets is_from
+    from_octets =
     let le : 14 ≤ length w = omega arith in
     let size = ap length is in
     record {

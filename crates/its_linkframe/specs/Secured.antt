@@ -1,6 +1,7 @@
 -- Secured frames (profile): target, source, the type 0x8947 of GeoNetworking, a Basic Header whose
 -- next header is a secured packet, and a message, which a security entity reads.
-use Rattle.std.specs.Prelude.{◌≡◌, ◌≢◌, ℕ, ◌^◌, ◌<◌, ◌≤◌, ◌+◌, ◌⊎◌, List, [], ◌∷◌, ◌++◌, length, drop, Err}
+use Rattle.std.specs.Prelude.{◌≡◌, ◌≢◌, ℕ, ◌^◌, ◌<◌, ◌≤◌, ◌+◌, ◌⊎◌, List, [], ◌∷◌, ◌++◌}
+use Rattle.std.specs.Prelude.{length, drop, Err}
 use Rattle.its_model.specs.Packet.{Transmission}
 use Rattle.its_faults.specs.declared.secured.SecuredFault.{SecuredFault}
 use Rattle.its_faults.specs.declared.secured.SecuredFault.TheVariants as faults
@@ -89,7 +90,8 @@ pub record EncodesVerified (v : Verified) (w plain : List ℕ) : Type 0 where
   pub secured : EncodesSecured (sealed v.frame v.message) w
   pub packet : Encodes v.frame.pdu v.frame.hops_left (inner_octets (basic_on_air v.frame) plain)
 
--- the first fault of octets that came with a plain part: of the secured frame, else of the plain part
+-- the first fault of octets that came with a plain part: of the secured frame, or else of the plain
+-- part
 abbrev pub IsVerifiedFault : List ℕ → List ℕ → SecuredFault → Type 0
 IsVerifiedFault w plain f =
     IsSecuredFault w f

@@ -1,6 +1,7 @@
 //! Frames read in place.
 
-ghost use Rattle.std.specs.Prelude.{◌≡◌, ◌≤◌, ◌<◌, ◌+◌, ℕ, length, take, drop, IfOk, IfErr, IsOkAnd};
+ghost use Rattle.std.specs.Prelude.{◌≡◌, ◌≤◌, ◌<◌, ◌+◌, ℕ, length, take, drop};
+ghost use Rattle.std.specs.Prelude.{IfOk, IfErr, IsOkAnd};
 ghost use Rattle.byteorder.specs.Endian.{big_bytes, big_number};
 ghost use Rattle.its_model.specs.Packet.{Transmission};
 ghost use Rattle.its_linkframe.specs.Frames.{EncodesFrame, IsFrame, transmission_of};
@@ -79,8 +80,8 @@ pub(crate) fn read_beginning(octets: &[u8]) -> Result<(FrameView<'_>, usize), Fr
 }
 
 impl<'a> FrameView<'a> {
-    /// The frame that octets are in which `read_frame` found no fault: nothing is checked again. For
-    /// a frame that many stations receive.
+    /// The frame that octets are in which `read_frame` found no fault: nothing is checked again.
+    /// For a frame that many stations receive.
     #[inline(always)]
     pub fn of_frame(octets: &'a [u8]) -> FrameView<'a>
         requires { IsFrame octets.now }

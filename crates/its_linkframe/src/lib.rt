@@ -22,7 +22,7 @@ pub use counted::Counted;
 pub use fields::PACKET;
 pub use frame::{FrameView, read_frame};
 pub use its_faults::{FrameCode, FrameFault, SecuredCode, SecuredFault};
-pub use padding::{Unpadded, frame_length, read_unpadded, without_padding};
+pub use padding::{Unpadded, frame_length, read_unpadded};
 pub use reader::CaptureReader;
 pub use record::{CaptureFault, LONGEST_FRAME, Record};
 pub use sealing::{plain_part, relay_verified, retarget_secured, seal_frame};

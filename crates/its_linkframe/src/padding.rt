@@ -14,18 +14,19 @@ use its_faults::FrameFault;
 /// The most octets of a frame that Ethernet fills up.
 const SHORTEST: usize = 60;
 
-/// Octets that came over Ethernet, which fills a short frame up with octets of 0, and the frame that
-/// they are without these.
+/// Octets that came over Ethernet, which fills a short frame up with octets of 0, and the frame
+/// that they are without these.
 #[derive(Debug, Drop)]
 pub struct Unpadded<'a> {
-    /// The octets, without the zeros that fill a frame of at most 60 octets up. All of them, if they
-    /// are no such frame.
+    /// The octets, without the zeros that fill a frame of at most 60 octets up. All of them, if
+    /// they are no such frame.
     pub octets: &'a [u8],
     /// The frame that these octets are, or their first fault.
     pub frame: Result<FrameView<'a>, FrameFault>,
 }
 
-/// Reads octets that came over Ethernet, once: the frame in them, without the zeros that fill it up.
+/// Reads octets that came over Ethernet, once: the frame in them, without the zeros that fill it
+/// up.
 pub fn read_unpadded(octets: &[u8]) -> Unpadded<'_>
     ensures octets { IsUnpadded octets.now result.octets.now }
     ensures found { IfOk result.frame (λ v.
@@ -59,18 +60,6 @@ pub fn read_unpadded(octets: &[u8]) -> Unpadded<'_>
         octets,
         frame: Err(FrameFault::Trailing),
     }
-}
-
-/// Octets that came over Ethernet, without the zeros that fill a frame of at most 60 octets up, as
-/// `read_unpadded` returns them. All of them, if they are no such frame.
-pub fn without_padding(octets: &[u8]) -> &[u8]
-    ensures { IsUnpadded octets.now result.now }
-{
-    if octets.len() > SHORTEST {
-        return octets;
-    }
-    let Unpadded { octets, .. } = read_unpadded(octets);
-    octets
 }
 
 /// The length of the frame that the octets begin with (there is one at most), and otherwise 0. What

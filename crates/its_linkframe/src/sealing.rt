@@ -1,13 +1,14 @@
 //! Secured frames of one's own, and secured frames sent on: the message of a security entity in
 //! place of the plain part.
 
-ghost use Rattle.std.specs.Prelude.{◌≡◌, ◌≢◌, ◌≤◌, ◌<◌, ◌+◌, ◌⊎◌, [], length, IfOk, OnErr};
+ghost use Rattle.std.specs.Prelude.{◌≡◌, ◌≤◌, ◌<◌, ◌+◌, ◌⊎◌, [], length, IfOk, OnErr};
 ghost use Rattle.std.specs.Prelude.{MatchOption, vec_capacity};
-ghost use Rattle.its_model.specs.Packet.{Transmission, relay};
+ghost use Rattle.its_model.specs.Packet.{relay};
 ghost use Rattle.its_headers.specs.Encoding.{Encodes};
 ghost use Rattle.its_headers.specs.Inner.{inner_octets};
 ghost use Rattle.its_linkframe.specs.Frames.{transmission_of};
-ghost use Rattle.its_linkframe.specs.Secured.{EncodesSecured, IsSecuredFrame, Secured, sealed, basic_on_air};
+ghost use Rattle.its_linkframe.specs.Secured.{EncodesSecured, IsSecuredFrame, Secured, sealed};
+ghost use Rattle.its_linkframe.specs.Secured.{basic_on_air};
 
 use crate::building::link_header;
 use crate::fields::{MESSAGE, SOURCE};
@@ -18,7 +19,8 @@ use its_gnvalue::{Mac, NoMemory};
 use its_headers::BasicHeader;
 use std::alloc::Global;
 
-/// The plain part of a frame's packet: what follows its Basic Header, for a security entity to sign.
+/// The plain part of a frame's packet: what follows its Basic Header, for a security entity to
+/// sign.
 pub fn plain_part<'a>(frame: &FrameView<'a>) -> &'a [u8]
     ensures { Encodes frame.now.packet.pdu frame.now.packet.left
         (inner_octets (basic_on_air (transmission_of frame.now)) result.now) }

@@ -10,8 +10,8 @@ use its_gnvalue::{Lifetime, Mac};
 use its_headers::BasicHeader;
 use std::marker::Model;
 
-/// The longest secured frame, in octets: the longest unit of IEEE 802.11 (2304) without the 8 octets
-/// of LLC and SNAP, and 14 octets of addresses and type (profile).
+/// The longest secured frame, in octets: the longest unit of IEEE 802.11 (2304) without the 8
+/// octets of LLC and SNAP, and 14 octets of addresses and type (profile).
 pub const LONGEST_SECURED_FRAME: usize = 2310;
 
 /// A secured frame in the octets that it was read from. Contracts see what it says.

@@ -9,8 +9,8 @@ use crate::sink::Sink;
 use crate::source::Source;
 
 /// Reads until the buffer is full or the input ends, and returns how many octets came. `None` is a
-/// failed call, after which no other is made. The count of the source's failed calls has to be below
-/// 2^64 - 1.
+/// failed call, after which no other is made. The count of the source's failed calls has to be
+/// below 2^64 - 1.
 pub fn fill<S: Source>(source: &mut S, buf: &mut [u8]) -> Option<usize>
     requires { S.failed source.old < 2 ^ 64 - 1 }
     ensures bound { IfSome result (λ n. n ≤ length buf.new) }

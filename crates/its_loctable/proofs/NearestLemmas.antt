@@ -1,10 +1,11 @@
 -- The nearest neighbour, by a bound of all neighbours that one of them reaches.
 use Rattle.std.proofs.Common.{◌≡◌, ◌⊎◌, ℕ, suc, ◌<◌, ◌≤◌, ◌^◌, Bool, true, false, cond, not}
-use Rattle.std.proofs.Common.{◌&&◌, ◌||◌, List, [], ◌∷◌, All, IfSome, Option, Some, None, inl, inr}
+use Rattle.std.proofs.Common.{◌&&◌, ◌||◌, List, [], ◌∷◌, All, Option, Some, None, inl, inr}
 use Rattle.std.proofs.Common.{is_some, unwrap_or}
 use Rattle.std.proofs.Common.{refl, sym, ap, subst, ◌∙◌, eqb, ltb, leb, true≢false, arith}
 use Rattle.std.specs.Option.{option_map}
-use Rattle.std.proofs.lemmas.Bool.{ltb-true, ltb-false, leb-true, eqb-true, and_parts, or_cases}
+use Rattle.std.proofs.lemmas.Bool.{ltb-true, ltb-false, leb-true, lt-leb, eqb-true, and_parts}
+use Rattle.std.proofs.lemmas.Bool.{or_cases}
 use Rattle.its_gnvalue.specs.Values.{Position}
 use Rattle.its_geometry.specs.Offsets.{squared_distance}
 use Rattle.its_model.specs.History.{Reception, Known, known}
@@ -12,43 +13,46 @@ use Rattle.its_model.specs.Stations.{stations_at}
 use Rattle.its_model.specs.Decision.{distance_of, next_hop, Precedes}
 use Rattle.its_model.proofs.Nearest.{nearest_found, nearest_least, nearest_none}
 use Rattle.its_model.proofs.StationLemmas.{addr, address-known}
-use Rattle.its_loctable.specs.declared.heard.NearestNeighbour.{NearestNeighbour}
+use Rattle.its_loctable.specs.declared.heard.NearestSearch.{NearestSearch}
+use Rattle.its_loctable.specs.declared.heard.NearestSearch.TheVariants.{Unknown, NoNeighbour, Found}
 use Rattle.its_loctable.specs.declared.sorted.nearest.Nearest.{Nearest}
 use Rattle.its_loctable.specs.declared.sorted.slot.SortedSlot.{SortedSlot}
 use Rattle.its_loctable.specs.Content.{Represents, entry_at}
 use Rattle.its_loctable.specs.Sorted.{known_by, held}
-use Rattle.its_loctable.specs.Bound.{precedes, is_not_below, is_neighbour_at}
+use Rattle.its_loctable.specs.Bound.{precedes, is_first, is_not_below, is_neighbour_at, IsReached}
 use Rattle.its_loctable.specs.Nearest.{IsNearest}
 use Rattle.its_loctable.proofs.SortedLemmas.{key}
 
 -- what is found among slots that are not below a bound isn't below it
 found-not_below : (of : SortedSlot → List ℕ) (n : Nearest) (xs : List SortedSlot) (a t : ℕ)
-    (k : Known) → All (λ (s : SortedSlot). is_not_below n s ≡ true) xs
+    (k : Known) → n.since ≤ t → All (λ (s : SortedSlot). is_not_below n s ≡ true) xs
     → entry_at (held of xs) a t ≡ Some k → k.neighbour ≡ true
-    → precedes n.distance n.address (distance_of n.place k) (addr k) ≡ true
-found-not_below of n [] a t k all is neighbour = absurd (true≢false (sym (ap is_some is)))
-found-not_below of n (x ∷ xs) a t k all is neighbour =
-    by (eqb a (key x)) (ltb t x.until) is
-    (λ rest. found-not_below of n xs a t k (λ i d within. all (suc i) d (omega arith)) rest
+    → is_first n.neighbour (distance_of n.place k) (addr k) ≡ true
+found-not_below of n [] a t k from all is neighbour = absurd (true≢false (sym (ap is_some is)))
+found-not_below of n (x ∷ xs) a t k from all is neighbour =
+    by (eqb a (key x)) (ltb t x.until) refl is
+    (λ rest. found-not_below of n xs a t k from (λ i d within. all (suc i) d (omega arith)) rest
     neighbour)
   where
-    here : known_by of x ≡ k → precedes n.distance n.address (distance_of n.place k) (addr k) ≡ true
-    here same =
+    here : ltb t x.until ≡ true → known_by of x ≡ k
+        → is_first n.neighbour (distance_of n.place k) (addr k) ≡ true
+    here live same =
         let near : x.neighbour ≡ true = ap (λ (j : Known). j.neighbour) same ∙ neighbour in
-        subst (λ (j : Known). precedes n.distance n.address (distance_of n.place j) (addr j) ≡ true)
-        same
-        (sym (ap (λ b. not b
-        || precedes n.distance n.address (squared_distance n.place x.vector.place) (key x)) near)
+        let late : leb x.until n.since ≡ false =
+        lt-leb _ _ (omega (arith, from, ltb-true t x.until live)) in
+        subst (λ (j : Known). is_first n.neighbour (distance_of n.place j) (addr j) ≡ true) same
+        (sym (λ i. late i || (not (near i)
+        || is_first n.neighbour (squared_distance n.place x.vector.place) (key x)))
         ∙ all 0 x (omega arith))
 
-    by : (b d : Bool)
+    by : (b d : Bool) → ltb t x.until ≡ d
         → cond b (cond d (Some (known_by of x)) None) (entry_at (held of xs) a t) ≡ Some k
         → (entry_at (held of xs) a t ≡ Some k
-        → precedes n.distance n.address (distance_of n.place k) (addr k) ≡ true)
-        → precedes n.distance n.address (distance_of n.place k) (addr k) ≡ true
-    by false d e rest = rest e
-    by true false e rest = absurd (true≢false (sym (ap is_some e)))
-    by true true e rest = here (ap (λ o. unwrap_or o k) e)
+        → is_first n.neighbour (distance_of n.place k) (addr k) ≡ true)
+        → is_first n.neighbour (distance_of n.place k) (addr k) ≡ true
+    by false d live e rest = rest e
+    by true false live e rest = absurd (true≢false (sym (ap is_some e)))
+    by true true live e rest = here live (ap (λ o. unwrap_or o k) e)
 
 precedes-cases : (n a d b : ℕ) → precedes n a d b ≡ true → (n < d) ⊎ ((n ≡ d) × (a ≤ b))
 precedes-cases n a d b h = elim (or_cases (ltb n d) (eqb n d && leb a b) h) [
@@ -126,28 +130,46 @@ module _ (remember now : ℕ) (history : List Reception) (place : Position) (dis
             no_nearer distance address (distance_of place j) (addr j) below,
           ))
 
--- so it is with a neighbour among slots that are not below it
+-- without a neighbour there is no next hop
+no-next_hop : (remember now : ℕ) (history : List Reception) (place : Position)
+    → ((s : ℕ) (j : Known) → known remember s now history ≡ Some j → j.neighbour ≡ true → ⊥)
+    → (limit : ℕ) → next_hop place limit (stations_at remember now history) ≡ None
+no-next_hop remember now history place absent limit =
+    by (next_hop place limit (stations_at remember now history)) refl
+  where
+    by : (o : Option Known) → next_hop place limit (stations_at remember now history) ≡ o
+        → o ≡ None
+    by None is = refl
+    by (Some j) is =
+        let found = nearest_found remember now history place limit j is in
+        absurd (absent (addr j) j found.0 found.1)
+
+-- so it is with what a bound of slots says, from its moment on
 pub nearest-is : (of : SortedSlot → List ℕ) (remember : ℕ) (n : Nearest) (xs : List SortedSlot)
-    (history : List Reception) (now : ℕ) (r : Option NearestNeighbour) → now ≤ 2 ^ 62
+    (history : List Reception) (now : ℕ) (r : NearestSearch) → n.since ≤ now → now ≤ 2 ^ 62
     → All (λ (s : SortedSlot). is_not_below n s ≡ true) xs
     → Represents remember (held of xs) history now
-    → IfSome r (λ (m : NearestNeighbour). (m.address ≡ n.address) × (m.distance ≡ n.distance)
-    × (is_neighbour_at n.place n.distance (entry_at (held of xs) n.address now) ≡ true))
+    → IsReached (λ a. entry_at (held of xs) a now) n r
     → IsNearest n.place (stations_at remember now history) r
-nearest-is of remember n xs history now None small all rep still = tt
-nearest-is of remember n xs history now (Some m) small all rep still = λ limit.
-    by limit (entry_at (held of xs) n.address now) refl still.2
-    ∙ sym (λ i. cond (ltb (still.1 i) limit) (Some (still.0 i)) None)
+nearest-is of remember n xs history now Unknown from small all rep still = tt
+nearest-is of remember n xs history now NoNeighbour from small all rep still =
+    no-next_hop remember now history n.place
+    (λ s j is near. true≢false (sym
+    (sym (ap (λ o. is_first o (distance_of n.place j) (addr j)) still)
+    ∙ found-not_below of n xs s now j from all (rep.live now s (omega arith) small ∙ is) near)))
+nearest-is of remember n xs history now (Found m) from small all rep still = λ limit.
+    by limit (entry_at (held of xs) m.address now) refl still.1
   where
-    by : (limit : ℕ) (o : Option Known) → entry_at (held of xs) n.address now ≡ o
-        → is_neighbour_at n.place n.distance o ≡ true
+    by : (limit : ℕ) (o : Option Known) → entry_at (held of xs) m.address now ≡ o
+        → is_neighbour_at n.place m.distance o ≡ true
         → option_map addr (next_hop n.place limit (stations_at remember now history))
-        ≡ cond (ltb n.distance limit) (Some n.address) None
+        ≡ cond (ltb m.distance limit) (Some m.address) None
     by limit None found h = absurd (true≢false (sym h))
     by limit (Some k) found h =
-        let parts = neighbour-parts n.place n.distance (Some k) k refl h in
-        nearest-next_hop remember now history n.place n.distance n.address k
-        (sym (rep.live now n.address (omega arith) small) ∙ found) parts.0 parts.1
-        (λ s j is near. found-not_below of n xs s now j all
-        (rep.live now s (omega arith) small ∙ is) near)
+        let parts = neighbour-parts n.place m.distance (Some k) k refl h in
+        nearest-next_hop remember now history n.place m.distance m.address k
+        (sym (rep.live now m.address (omega arith) small) ∙ found) parts.0 parts.1
+        (λ s j is near.
+        sym (ap (λ o. is_first o (distance_of n.place j) (addr j)) still.0)
+        ∙ found-not_below of n xs s now j from all (rep.live now s (omega arith) small ∙ is) near)
         limit

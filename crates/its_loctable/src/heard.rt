@@ -78,3 +78,14 @@ pub struct NearestNeighbour {
     /// The square of its distance from the place, in square centimetres.
     pub distance: u64,
 }
+
+/// What a location table finds when it is asked for the live neighbour that is nearest to a place.
+#[derive(Clone, Copy, Debug, PartialEq, Eq)]
+pub enum NearestSearch {
+    /// The table doesn't know. A walk over its neighbours finds the nearest one, if there is one.
+    Unknown,
+    /// The table has no live neighbour.
+    NoNeighbour,
+    /// This neighbour is the nearest.
+    Found(NearestNeighbour),
+}

@@ -2,7 +2,6 @@
 //! and places of up to 32 of them.
 
 ghost use Rattle.std.specs.Prelude.{◌≡◌, ◌<◌, ◌∷◌, ◌++◌, [], length};
-ghost use Rattle.std.specs.Prelude.{slice_get, Some};
 ghost use Rattle.std.specs.Prelude.{map, take, drop, filter, nat_lt, ◌&&◌, ◌≤◌};
 ghost use Rattle.its_loctable.specs.Pieces.{IsLast, first_piece};
 ghost use Rattle.its_loctable.specs.Sorted.{bare_known};

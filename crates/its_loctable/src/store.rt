@@ -13,7 +13,7 @@ ghost use Rattle.its_loctable.specs.Pieces.{first_piece, neighbours_above, AreAl
 ghost use Rattle.its_loctable.specs.Nearest.{IsNearest};
 
 use crate::found::{EntryIndex, Found};
-use crate::heard::{Heard, Known, NearestNeighbour};
+use crate::heard::{Heard, Known, NearestSearch};
 use crate::piece::Piece;
 use crate::refused::StoreRefused;
 use its_gnvalue::{GnAddress, LongPv, Mac, NoMemory, Place};
@@ -216,28 +216,32 @@ pub trait LocationStore: Sized + Drop {
         }
     }
 
-    /// Has the store keep the nearest neighbour to a place, which is the centre of an area, for
-    /// `nearest`. It is kept while packets are accepted, until another place is asked for. A store
-    /// may keep nothing.
-    fn keep_nearest(&mut self, now: u64, centre: Place)
+    /// Returns what `nearest` does, and has the store keep it. It is kept while packets are
+    /// accepted, until another place is asked for. A store may keep nothing.
+    fn keep_nearest(&mut self, now: u64, centre: Place) -> NearestSearch
         requires { now ≤ 2 ^ 62 }
+        ensures nearest { (history : List Reception) →
+            Represents (remember self.old) (content self.old) history now →
+            IsNearest centre (stations_at (remember self.old) now history) result }
         ensures unchanged { content self.new ≡ content self.old }
         ensures limit { limit self.new ≡ limit self.old }
         ensures remember { remember self.new ≡ remember self.old }
     {
         let _ = (now, centre);
+        NearestSearch::Unknown
     }
 
-    /// The nearest live neighbour to a place, of equally near ones the one of least address, if the
-    /// store keeps it. `None` says nothing of the neighbours.
-    fn nearest(&self, now: u64, centre: Place) -> Option<NearestNeighbour>
+    /// The live neighbour that is nearest to a place, which is the centre of an area. If several
+    /// are equally near, it is the one with the least address. A store that can't do better than a
+    /// walk by `next_neighbours` returns `Unknown`.
+    fn nearest(&self, now: u64, centre: Place) -> NearestSearch
         requires { now ≤ 2 ^ 62 }
         ensures { (history : List Reception) →
             Represents (remember self.now) (content self.now) history now →
             IsNearest centre (stations_at (remember self.now) now history) result }
     {
         let _ = (now, centre);
-        None
+        NearestSearch::Unknown
     }
 
     /// What is known of the live source of least address that has a MID.

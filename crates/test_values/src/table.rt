@@ -6,6 +6,8 @@ mod fixtures;
 #[cfg(test)]
 mod forwarding;
 #[cfg(test)]
+mod nearest;
+#[cfg(test)]
 mod pieces;
 #[cfg(test)]
 mod ports;

@@ -1,6 +1,6 @@
 //! The area of a geobroadcast and of a geoanycast (EN 302 636-4-1 clause 9, EN 302 931).
 
-ghost use Rattle.std.specs.Prelude.{◌≡◌, ◌≤◌, ◌+◌, length};
+ghost use Rattle.std.specs.Prelude.{◌≡◌, ◌≤◌, length};
 ghost use Rattle.its_headers.specs.Encoding.{area_octets, IsArea};
 ghost use Rattle.its_headers.specs.Format.{Gives, walk};
 ghost use Rattle.its_headers.specs.Layout.{area_format, area_at, is_second, is_angle};

@@ -26,8 +26,8 @@ pub(crate) const NEXT_COMMON: u8 = 1;
 /// The next header: a secured packet.
 const NEXT_SECURED: u8 = 2;
 
-/// What a Basic Header says, but for what follows it: the lifetime (LT) and the hops left (RHL, from
-/// 1).
+/// What a Basic Header says, but for what follows it: the lifetime (LT) and the hops left (RHL,
+/// from 1).
 #[derive(Clone, Copy, Debug, PartialEq, Eq)]
 pub struct BasicHeader {
     lifetime: u8,

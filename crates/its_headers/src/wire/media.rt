@@ -1,6 +1,6 @@
 //! The media-dependent data of a single-hop broadcast (EN 302 636-4-1 clause 9).
 
-ghost use Rattle.std.specs.Prelude.{◌≡◌, ◌≤◌, ◌+◌, length, take, drop};
+ghost use Rattle.std.specs.Prelude.{◌≡◌, ◌≤◌, length, take, drop};
 ghost use Rattle.its_headers.specs.Encoding.{IsMedia};
 ghost use Rattle.its_headers.specs.Puts.{Puts};
 

@@ -1,7 +1,7 @@
 //! The payload of a packet in its octets: a BTP-B header and what is sent to the port (EN 302
 //! 636-5-1).
 
-ghost use Rattle.std.specs.Prelude.{◌≡◌, ◌≤◌, ◌<◌, ◌+◌, length, take, drop};
+ghost use Rattle.std.specs.Prelude.{◌≡◌, ◌≤◌, ◌+◌, length, take, drop};
 ghost use Rattle.its_headers.specs.Encoding.{IsBytes};
 ghost use Rattle.its_headers.specs.Format.{Gives, octets_at};
 ghost use Rattle.its_headers.specs.Puts.{Puts};
@@ -14,7 +14,8 @@ use its_faults::Fault;
 /// Checks that a payload of this length is there.
 pub(crate) fn check_payload<O: Octets>(octets: &O, at: usize, size: u16) -> Result<(), Fault>
     requires { at ≤ 56 }
-    ensures { Gives (λ _. take size (drop at (O.octets octets.now))) result (octets_at size at (O.octets octets.now)) }
+    ensures { Gives (λ _. take size (drop at (O.octets octets.now))) result
+        (octets_at size at (O.octets octets.now)) }
 {
     check_octets(octets, at, size as usize)
 }

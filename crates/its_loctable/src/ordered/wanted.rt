@@ -1,6 +1,6 @@
 //! Which stations are looked for in a table of any order, and the one of least address among them.
 
-ghost use Rattle.std.specs.Prelude.{◌≡◌, Option, Some};
+ghost use Rattle.std.specs.Prelude.{◌≡◌, Option};
 ghost use Rattle.std.specs.Option.{option_map};
 ghost use Rattle.its_model.specs.History.{Known as Kept};
 ghost use Rattle.its_loctable.specs.Heard.{shown};

@@ -4,19 +4,21 @@
 ghost use Rattle.std.specs.Prelude.{◌≡◌, ◌&&◌, All, nat_eq};
 
 use super::slot::SortedSlot;
+use crate::heard::NearestNeighbour;
 use its_geometry::Centre;
-use its_gnvalue::{GnAddress, Place};
+use its_gnvalue::Place;
 
-/// A bound: no neighbour among the slots of a table comes before it, by the distance from a place
-/// and then by address. It is that of a neighbour, until this one moves or leaves the table.
+/// The nearest neighbour to a place among the slots of a table, if they have one. It is a bound: no
+/// other neighbour among them comes before it, by distance and then by address. This still holds
+/// after it has moved away or left the table.
 #[derive(Clone, Copy)]
 pub struct Nearest {
     /// The place from which distances are measured.
     pub place: Place,
     pub centre: Centre,
-    /// The square of the distance, in square centimetres.
-    pub distance: u64,
-    pub address: GnAddress,
+    /// The moment from which the bound holds. Slots that have expired by then don't count.
+    pub since: u64,
+    pub neighbour: Option<NearestNeighbour>,
     ghost same: { centre.place ≡ place },
 }
 
@@ -24,16 +26,17 @@ impl Nearest {
     ghost use Rattle.its_loctable.specs.Bound.{IsNotBelow, IsWithin};
     ghost use Rattle.its_geometry.specs.Offsets.{squared_distance};
 
-    /// The nearest of these to a place.
-    pub fn among(slots: &[SortedSlot], place: Place) -> Nearest
+    /// The nearest to a place of these, from a moment on.
+    pub fn among(slots: &[SortedSlot], since: u64, place: Place) -> Nearest
         ensures bound { All (IsNotBelow result) slots.now }
+        ensures since { result.since ≡ since }
         ensures place { result.place ≡ place }
     {
         let mut nearest = Nearest {
             place,
             centre: Centre::new(place),
-            distance: u64::MAX,
-            address: GnAddress::within(0),
+            since,
+            neighbour: None,
         };
         for i in 0..slots.len() {
             nearest.meet(&slots[i]);
@@ -46,27 +49,31 @@ impl Nearest {
     pub fn meet(&mut self, slot: &SortedSlot)
         ensures within { IsNotBelow self.new slot.now }
         ensures lower { (s : SortedSlot) → IsNotBelow self.old s → IsNotBelow self.new s }
+        ensures since { self.new.since ≡ self.old.since }
         ensures place { self.new.place ≡ self.old.place }
     {
-        if !slot.neighbour {
+        if !slot.neighbour || slot.until <= self.since {
             return;
         }
         let distance = self.centre.squared_distance(slot.vector.place());
         let address = slot.address();
-        if distance < self.distance {
-            self.distance = distance;
-            self.address = address;
-        } else if distance == self.distance && address < self.address {
-            self.address = address;
+        if let Some(first) = self.neighbour {
+            if first.distance < distance {
+                return;
+            }
+            if first.distance == distance && first.address <= address {
+                return;
+            }
         }
+        self.neighbour = Some(NearestNeighbour { address, distance });
     }
 
-    /// Whether a slot is of a neighbour at the distance of this one.
-    pub fn is_as_near(&self, slot: &SortedSlot) -> bool
+    /// Whether a slot is of a neighbour at this distance.
+    pub fn is_at(&self, slot: &SortedSlot, distance: u64) -> bool
         ensures { result ≡ slot.now.neighbour
-            && nat_eq (squared_distance self.now.place slot.now.vector.place) self.now.distance }
+            && nat_eq (squared_distance self.now.place slot.now.vector.place) distance }
     {
-        slot.neighbour && self.centre.squared_distance(slot.vector.place()) == self.distance
+        slot.neighbour && self.centre.squared_distance(slot.vector.place()) == distance
     }
 
     /// Compares a slot that changed with the nearest one, if one is kept.

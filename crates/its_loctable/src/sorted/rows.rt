@@ -1,7 +1,7 @@
 //! The sequence numbers of all sources, in one vector: a row for each source that there is room
 //! for, and in a row the newest number first.
 
-ghost use Rattle.std.specs.Prelude.{◌≡◌, ◌+◌, ◌*◌, ◌<◌, ◌≤◌, [], take, drop, length, vec_len};
+ghost use Rattle.std.specs.Prelude.{◌≡◌, ◌+◌, ◌*◌, ◌<◌, ◌≤◌, [], vec_len};
 ghost use Rattle.std.specs.Prelude.{All, IfOk, vec_capacity};
 ghost use Rattle.its_loctable.specs.Rows.{put_before, AreOwned};
 

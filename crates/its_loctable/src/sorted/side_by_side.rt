@@ -9,8 +9,8 @@ use std::hint::select_unpredictable;
 /// How many columns are searched side by side.
 pub const SIDE_BY_SIDE: usize = 16;
 
-/// By how many addresses the steps of a search go on, in order: they find the last address that is not
-/// above the wanted one, among as many as a location table can have.
+/// By how many addresses the steps of a search go on, in order: they find the last address that is
+/// not above the wanted one, among as many as a location table can have.
 pub const HALVINGS: [usize; 12] = [2048, 1024, 512, 256, 128, 64, 32, 16, 8, 4, 2, 1];
 
 /// One step of a search in a column of ascending addresses, as `LocationStore::column` returns it:

@@ -30,5 +30,5 @@ returns c =
       hops = (c.write_basic.ensures.some_left, c.write_common.ensures.hops.0);
     } in
     rw w.end (shb_written p.header p.media p.payload _ _ _ _ _ heads c.write_vector.ensures.puts
-    c.write_media.ensures.puts w.puts room fits c.write_vector.ensures.fits c.write_media.ensures.fits
-    w.low w.high w.bytes)
+    c.write_media.ensures.puts w.puts room fits c.write_vector.ensures.fits
+    c.write_media.ensures.fits w.low w.high w.bytes)

@@ -1,4 +1,4 @@
-use Rattle.std.proofs.Common.{◌≡◌, ℕ, ◌-◌, List, take, length-take, ap, sym, subst, ◌∙◌, arith}
+use Rattle.std.proofs.Common.{ℕ, ◌-◌, List, take, length-take, ap, sym, subst, ◌∙◌, arith}
 use Rattle.std.proofs.lemmas.Result.{err_from_is_err_and}
 use Rattle.its_headers.specs.Encoding.{Encodes}
 use Rattle.its_headers.specs.Inner.{inner_octets}
@@ -75,7 +75,9 @@ returns-clause-found c =
     let f = read_front _ _ _ fits r.1 in
     let front = inner_take b p c.in_ok-end.end (inner_long _ _ _ _ f.encodes) in (
       omega (arith, f.inside),
-      subst (λ (w : List ℕ). Encodes (seen_of w).pdu (seen_of w).left (take c.in_ok-end.end (inner_octets b p)))
+      subst
+          (λ (w : List ℕ). Encodes (seen_of w).pdu (seen_of w).left
+          (take c.in_ok-end.end (inner_octets b p)))
           front (front_is _ _ _ fits r.1),
     )
 

@@ -1,4 +1,4 @@
-use Rattle.std.proofs.Common.{◌≡◌, List, ℕ, sym, subst}
+use Rattle.std.proofs.Common.{List, ℕ, sym, subst}
 use Rattle.std.proofs.lemmas.List.{take_rest}
 use Rattle.its_headers.specs.Encoding.{Encodes}
 use Rattle.its_headers.specs.Inner.{inner_octets}

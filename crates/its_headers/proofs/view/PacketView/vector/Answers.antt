@@ -12,4 +12,5 @@ vector_in-requires-clause-fits c =
 
 pub returns : goal.returns
 returns c =
-    c.vector_in.ensures ∙ (view_vector _ _ _ c.self.invariant c.self.view_is c.vector_at.ensures.value).is
+    c.vector_in.ensures
+    ∙ (view_vector _ _ _ c.self.invariant c.self.view_is c.vector_at.ensures.value).is

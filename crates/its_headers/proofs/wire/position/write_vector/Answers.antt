@@ -10,6 +10,7 @@ returns-clause-puts c =
     vector_put _ _ _ _ _ _ _ _ _ _ _ _ _ _ c.args.v
     (subst (λ (n : ℕ).
     Puts c.args.out.now c.write_u64.new.out n
-    (big_bytes 8 c.as_u64.result)) first c.write_u64.ensures) c.write_u32.ensures c.write_u32-2.ensures
-    c.write_u32-3.ensures c.write_u16.ensures c.write_u16-2.ensures (search rules) (search rules)
-    (search rules) (search rules) (search rules) (search rules) (omega arith)
+    (big_bytes 8 c.as_u64.result)) first c.write_u64.ensures) c.write_u32.ensures
+    c.write_u32-2.ensures c.write_u32-3.ensures c.write_u16.ensures c.write_u16-2.ensures
+    (search rules) (search rules) (search rules) (search rules) (search rules) (search rules)
+    (omega arith)

@@ -163,8 +163,11 @@ returns-in-Some-clause-answer c =
       c.sweep_for-place.ensures.capacity,
     ) in
     sym (eager_verdict-by table.capacity (held of xs) c.args.now c.args.heard.now false true
-    (is_noted-none _ c.args.heard.now.number (absent-entry_at of xs a c.args.now (absent_of c.args.self.now c.args.heard.now.vector.address c.args.gap c.requires.gap)))
-    (absent-room of xs a c.args.now table.capacity (absent_of c.args.self.now c.args.heard.now.vector.address c.args.gap c.requires.gap) ∙ lt-ltb _ _ few))
+    (is_noted-none _ c.args.heard.now.number (absent-entry_at of xs a c.args.now
+    (absent_of c.args.self.now c.args.heard.now.vector.address c.args.gap c.requires.gap)))
+    (absent-room of xs a c.args.now table.capacity
+    (absent_of c.args.self.now c.args.heard.now.vector.address c.args.gap c.requires.gap)
+    ∙ lt-ltb _ _ few))
 
 pub returns-in-Some-clause-accepted : goal.returns-in-Some-clause-accepted
 returns-in-Some-clause-accepted c = λ _.
@@ -195,7 +198,8 @@ returns-in-Some-clause-accepted c = λ _.
     let known : known_by new_of slot ≡ renewed table.remembered (entry_at es a c.args.now) r =
     c.first-slot.ensures.known ∙ ap (λ n. renewed n None r) c.sweep_for-place.ensures.remembered
     ∙ ap (λ o. renewed table.remembered o r)
-    (sym (absent-entry_at of table.slots.items a c.args.now (absent_of c.args.self.now c.args.heard.now.vector.address c.args.gap c.requires.gap))) in
+    (sym (absent-entry_at of table.slots.items a c.args.now
+    (absent_of c.args.self.now c.args.heard.now.vector.address c.args.gap c.requires.gap))) in
     ap (held new_of) put ∙ held-insert new_of xs slot place gap
     ∙ ap (λ l. upsert l (entry_by new_of slot))
     (held-same swept_of new_of xs same ∙ c.sweep_for-place.ensures.content)
@@ -222,8 +226,11 @@ returns-in-None-clause-answer c =
       c.sweep_for-place.ensures.capacity,
     ) in
     sym (eager_verdict-by table.capacity (held of xs) c.args.now c.args.heard.now false false
-    (is_noted-none _ c.args.heard.now.number (absent-entry_at of xs a c.args.now (absent_of c.args.self.now c.args.heard.now.vector.address c.args.gap c.requires.gap)))
-    (absent-room of xs a c.args.now table.capacity (absent_of c.args.self.now c.args.heard.now.vector.address c.args.gap c.requires.gap) ∙ le-ltb _ _ many))
+    (is_noted-none _ c.args.heard.now.number (absent-entry_at of xs a c.args.now
+    (absent_of c.args.self.now c.args.heard.now.vector.address c.args.gap c.requires.gap)))
+    (absent-room of xs a c.args.now table.capacity
+    (absent_of c.args.self.now c.args.heard.now.vector.address c.args.gap c.requires.gap)
+    ∙ le-ltb _ _ many))
 
 pub returns-in-None-clause-unchanged : goal.returns-in-None-clause-unchanged
 returns-in-None-clause-unchanged c = λ _.

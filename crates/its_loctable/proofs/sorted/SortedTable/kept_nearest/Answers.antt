@@ -28,7 +28,7 @@ returns-in-Some c = λ history rep.
     subst (λ p. IsNearest p stations c.still_nearest.result)
     (same_place kept.place c.args.centre (sym c.eq.ensures ∙ c.if-eq.true))
     (nearest-is (numbers_of table) table.remembered kept table.slots.items history c.args.now
-    c.still_nearest.result c.requires
+    c.still_nearest.result c.if-nearest-now.true c.requires
     (subst (λ o. All (λ (s : SortedSlot). is_within o s ≡ true) table.slots.items)
     c.in-Some.is table.bound)
     rep c.still_nearest.ensures)

@@ -6,7 +6,7 @@ use Rattle.its_loctable.specs.Bound.{is_not_below}
 use Rattle.its_loctable.proofs.sorted.nearest.Nearest.among.Goals as goal
 
 pub loop-i-init : goal.loop-i-init
-loop-i-init c = record { bound = λ k d within. absurd (omega arith); place = refl }
+loop-i-init c = record { bound = λ k d within. absurd (omega arith); since = refl; place = refl }
 
 pub loop-i-preserved : goal.loop-i-preserved
 loop-i-preserved c =
@@ -19,6 +19,7 @@ loop-i-preserved c =
           (take c.loop-i.i c.args.slots.now) c.loop-i.invariant.bound)
           (subst (λ (s : SortedSlot). is_not_below c.meet.new.self s ≡ true) c.index-slots-i.is
           c.meet.ensures.within);
+      since = c.meet.ensures.since ∙ c.loop-i.invariant.since;
       place = c.meet.ensures.place ∙ c.loop-i.invariant.place;
     }
 

@@ -7,5 +7,6 @@ abbrev pub invariant-loop-i : goal.invariant-loop-i
 invariant-loop-i l =
     record {
       bound : All (λ (s : SortedSlot). is_not_below l.nearest s ≡ true) (take l.i l.slots);
+      since : l.nearest.since ≡ l.fn.since;
       place : l.nearest.place ≡ l.fn.place;
     }
