@@ -1,6 +1,7 @@
 //! Why a call is refused.
 
-ghost use Rattle.std.specs.Prelude.{◌≡◌};
+ghost use Rattle.std.specs.Prelude.{◌≡◌, IsSome, MatchResult};
+ghost use Rattle.its_station.specs.Steps.{refusal_of};
 
 use its_btp::PortFault;
 use its_faults::{FrameFault, SecuredFault};
@@ -39,6 +40,27 @@ impl Refused {
         ensures { result ≡ record { 0 = self.now } }
     {
         RefusedCode(*self)
+    }
+
+    /// The reason, for a caller that tells of each refusal but of memory. `NoMemory` if an allocation
+    /// failed.
+    pub fn told(self) -> Result<Refused, NoMemory>
+        ensures { MatchResult result
+            (λ refused. (refused ≡ self) × IsSome (refusal_of refused))
+            (λ _. self ≡ Refused.NoMemory) }
+    {
+        match self {
+            Refused::NoMemory => Err(NoMemory),
+            Refused::MomentEarlier
+            | Refused::MomentTooLate
+            | Refused::JitterRange
+            | Refused::Frame(_)
+            | Refused::Secured(_)
+            | Refused::Port(_)
+            | Refused::PayloadTooLong
+            | Refused::HopLimitZero
+            | Refused::TableFull => Ok(self),
+        }
     }
 }
 

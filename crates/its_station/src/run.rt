@@ -381,16 +381,5 @@ fn refusal(refused: Refused) -> Result<Reply, NoMemory>
         (λ reply. (reply ≡ Reply.Refused refused) × IsSome (refusal_of refused))
         (λ _. refused ≡ Refused.NoMemory) }
 {
-    match refused {
-        Refused::NoMemory => Err(NoMemory),
-        Refused::MomentEarlier
-        | Refused::MomentTooLate
-        | Refused::JitterRange
-        | Refused::Frame(_)
-        | Refused::Secured(_)
-        | Refused::Port(_)
-        | Refused::PayloadTooLong
-        | Refused::HopLimitZero
-        | Refused::TableFull => Ok(Reply::Refused(refused)),
-    }
+    Ok(Reply::Refused(refused.told()?))
 }

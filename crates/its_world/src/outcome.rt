@@ -70,18 +70,7 @@ pub(crate) fn refusal(refused: Refused) -> Result<Entry, NoMemory>
         (λ entry. (entry ≡ Entry.Refused (EntryFault.Station refused)) × IsSome (refusal_of refused))
         (λ _. refused ≡ Refused.NoMemory) }
 {
-    match refused {
-        Refused::NoMemory => Err(NoMemory),
-        Refused::MomentEarlier
-        | Refused::MomentTooLate
-        | Refused::JitterRange
-        | Refused::Frame(_)
-        | Refused::Secured(_)
-        | Refused::Port(_)
-        | Refused::PayloadTooLong
-        | Refused::HopLimitZero
-        | Refused::TableFull => Ok(Entry::Refused(EntryFault::Station(refused))),
-    }
+    Ok(Entry::Refused(EntryFault::Station(refused.told()?)))
 }
 
 /// Returns the number for the frame, if there is a frame.
