@@ -42,8 +42,8 @@ impl Refused {
         RefusedCode(*self)
     }
 
-    /// The reason, for a caller that tells of each refusal but of memory. `NoMemory` if an allocation
-    /// failed.
+    /// Returns the reason if it is for the caller's log, which is each reason but memory. Fails with
+    /// `NoMemory` if an allocation failed.
     pub fn told(self) -> Result<Refused, NoMemory>
         ensures { MatchResult result
             (λ refused. (refused ≡ self) × IsSome (refusal_of refused))
