@@ -42,9 +42,9 @@ impl Refused {
         RefusedCode(*self)
     }
 
-    /// Returns the reason if it is for the caller's log, which is each reason but memory. Fails with
+    /// Returns the reason, if it is not memory. Then it is an answer of the station. Fails with
     /// `NoMemory` if an allocation failed.
-    pub fn told(self) -> Result<Refused, NoMemory>
+    pub fn except_memory(self) -> Result<Refused, NoMemory>
         ensures { MatchResult result
             (λ refused. (refused ≡ self) × IsSome (refusal_of refused))
             (λ _. self ≡ Refused.NoMemory) }

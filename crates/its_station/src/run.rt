@@ -381,5 +381,5 @@ fn refusal(refused: Refused) -> Result<Reply, NoMemory>
         (λ reply. (reply ≡ Reply.Refused refused) × IsSome (refusal_of refused))
         (λ _. refused ≡ Refused.NoMemory) }
 {
-    Ok(Reply::Refused(refused.told()?))
+    Ok(Reply::Refused(refused.except_memory()?))
 }

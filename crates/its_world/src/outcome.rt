@@ -70,7 +70,7 @@ pub(crate) fn refusal(refused: Refused) -> Result<Entry, NoMemory>
         (λ entry. (entry ≡ Entry.Refused (EntryFault.Station refused)) × IsSome (refusal_of refused))
         (λ _. refused ≡ Refused.NoMemory) }
 {
-    Ok(Entry::Refused(EntryFault::Station(refused.told()?)))
+    Ok(Entry::Refused(EntryFault::Station(refused.except_memory()?)))
 }
 
 /// Returns the number for the frame, if there is a frame.
