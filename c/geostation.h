@@ -66,6 +66,17 @@
 #error "geostation needs a 64-bit target: all lengths in its contracts have 64 bits"
 #endif
 
+/** @cond */
+/* A program that ignores the status of a call is warned about it (gcc and clang). */
+#ifndef GEOSTATION_NODISCARD
+#ifdef __GNUC__
+#define GEOSTATION_NODISCARD __attribute__((warn_unused_result))
+#else
+#define GEOSTATION_NODISCARD
+#endif
+#endif
+/** @endcond */
+
 #ifdef __cplusplus
 extern "C" {
 #endif
@@ -394,7 +405,8 @@ const char *geostation_version(void);
  * @return #GEOSTATION_OK, #GEOSTATION_BAD_ARGUMENT or #GEOSTATION_NO_MEMORY
  */
 int geostation_new(geostation_handle **out, uint64_t address, int32_t latitude, int32_t longitude,
-                   uint16_t capacity, uint8_t remember);
+                   uint16_t capacity, uint8_t remember)
+    GEOSTATION_NODISCARD;
 
 /**
  * Fills a struct with the defaults, which are listed at its fields.
@@ -413,7 +425,8 @@ void geostation_config_init(struct geostation_config *config);
  * @return #GEOSTATION_OK, #GEOSTATION_BAD_ARGUMENT (also if `size` is wrong) or
  *         #GEOSTATION_NO_MEMORY
  */
-int geostation_new_from_config(geostation_handle **out, const struct geostation_config *config);
+int geostation_new_from_config(geostation_handle **out, const struct geostation_config *config)
+    GEOSTATION_NODISCARD;
 /** Deprecated: the former name of geostation_new_from_config(). */
 #define geostation_new_with geostation_new_from_config
 
@@ -444,7 +457,8 @@ void geostation_free(geostation_handle *s);
  *         #GEOSTATION_BAD_ARGUMENT
  */
 int geostation_move(geostation_handle *s, uint64_t now, int32_t latitude, int32_t longitude,
-                    uint8_t accurate, int16_t speed, uint16_t heading);
+                    uint8_t accurate, int16_t speed, uint16_t heading)
+    GEOSTATION_NODISCARD;
 
 /**
  * Sets the position of the station, with the time stamp of the fix.
@@ -464,7 +478,8 @@ int geostation_move(geostation_handle *s, uint64_t now, int32_t latitude, int32_
  */
 int geostation_move_at(geostation_handle *s, uint64_t now, uint32_t timestamp,
                        int32_t latitude, int32_t longitude, uint8_t accurate, int16_t speed,
-                       uint16_t heading);
+                       uint16_t heading)
+    GEOSTATION_NODISCARD;
 
 /**
  * Opens a port. Payloads are delivered to open ports only.
@@ -475,7 +490,8 @@ int geostation_move_at(geostation_handle *s, uint64_t now, uint32_t timestamp,
  * @return #GEOSTATION_OK, #GEOSTATION_MOMENT_EARLIER, #GEOSTATION_MOMENT_TOO_LATE,
  *         #GEOSTATION_PORT_ALREADY_OPEN or #GEOSTATION_PORTS_FULL
  */
-int geostation_open_port(geostation_handle *s, uint64_t now, uint16_t port);
+int geostation_open_port(geostation_handle *s, uint64_t now, uint16_t port)
+    GEOSTATION_NODISCARD;
 
 /**
  * Closes a port.
@@ -486,7 +502,8 @@ int geostation_open_port(geostation_handle *s, uint64_t now, uint16_t port);
  * @return #GEOSTATION_OK, #GEOSTATION_MOMENT_EARLIER, #GEOSTATION_MOMENT_TOO_LATE or
  *         #GEOSTATION_PORT_NOT_OPEN
  */
-int geostation_close_port(geostation_handle *s, uint64_t now, uint16_t port);
+int geostation_close_port(geostation_handle *s, uint64_t now, uint16_t port)
+    GEOSTATION_NODISCARD;
 
 /**
  * Restarts the station: empties its location table and closes its ports.
@@ -498,7 +515,8 @@ int geostation_close_port(geostation_handle *s, uint64_t now, uint16_t port);
  * @param number  sequence number of the next packet for an area
  * @return #GEOSTATION_OK, #GEOSTATION_MOMENT_EARLIER or #GEOSTATION_MOMENT_TOO_LATE
  */
-int geostation_restart(geostation_handle *s, uint64_t now, uint16_t number);
+int geostation_restart(geostation_handle *s, uint64_t now, uint16_t number)
+    GEOSTATION_NODISCARD;
 
 /** @} */
 
@@ -526,7 +544,8 @@ int geostation_restart(geostation_handle *s, uint64_t now, uint16_t number);
  *         #GEOSTATION_NO_MEMORY, #GEOSTATION_JITTER_RANGE or #GEOSTATION_NO_ROOM
  */
 int geostation_tick(geostation_handle *s, uint64_t now, uint16_t jitter,
-                    uint8_t *frame, size_t room, size_t *length);
+                    uint8_t *frame, size_t room, size_t *length)
+    GEOSTATION_NODISCARD;
 
 /**
  * Writes the frame of a single-hop broadcast (SHB), for all stations in radio range.
@@ -548,7 +567,8 @@ int geostation_tick(geostation_handle *s, uint64_t now, uint16_t jitter,
 int geostation_send_shb(geostation_handle *s, uint64_t now,
                         const struct geostation_shb_request *request,
                         const uint8_t *payload, size_t payload_length,
-                        uint8_t *frame, size_t room, size_t *length);
+                        uint8_t *frame, size_t room, size_t *length)
+    GEOSTATION_NODISCARD;
 
 /**
  * Writes the frame of a geobroadcast (GBC), for all stations in an area.
@@ -569,7 +589,8 @@ int geostation_send_shb(geostation_handle *s, uint64_t now,
 int geostation_send_gbc(geostation_handle *s, uint64_t now,
                         const struct geostation_area_request *request,
                         const uint8_t *payload, size_t payload_length,
-                        uint8_t *frame, size_t room, size_t *length);
+                        uint8_t *frame, size_t room, size_t *length)
+    GEOSTATION_NODISCARD;
 
 /**
  * Writes the frame of a geoanycast (GAC), for any one station in an area.
@@ -590,7 +611,8 @@ int geostation_send_gbc(geostation_handle *s, uint64_t now,
 int geostation_send_gac(geostation_handle *s, uint64_t now,
                         const struct geostation_area_request *request,
                         const uint8_t *payload, size_t payload_length,
-                        uint8_t *frame, size_t room, size_t *length);
+                        uint8_t *frame, size_t room, size_t *length)
+    GEOSTATION_NODISCARD;
 
 /**
  * Writes the frame of a single-hop broadcast (SHB) with a given lifetime.
@@ -612,7 +634,8 @@ int geostation_send_shb_with_lifetime(geostation_handle *s, uint64_t now,
                                       const struct geostation_shb_request *request,
                                       uint8_t lifetime,
                                       const uint8_t *payload, size_t payload_length,
-                                      uint8_t *frame, size_t room, size_t *length);
+                                      uint8_t *frame, size_t room, size_t *length)
+    GEOSTATION_NODISCARD;
 /** Deprecated: the former name of geostation_send_shb_with_lifetime(). */
 #define geostation_send_shb_for geostation_send_shb_with_lifetime
 
@@ -650,7 +673,8 @@ int geostation_send_shb_with_lifetime(geostation_handle *s, uint64_t now,
  *         #GEOSTATION_NO_ROOM
  */
 int geostation_receive(geostation_handle *s, uint64_t now, const uint8_t *frame, size_t length,
-                       struct geostation_reception *out, uint8_t *relay, size_t room);
+                       struct geostation_reception *out, uint8_t *relay, size_t room)
+    GEOSTATION_NODISCARD;
 
 /**
  * Returns the length of the frame at the start of a buffer. Use it to strip padding.
@@ -672,7 +696,8 @@ size_t geostation_frame_length(const uint8_t *octets, size_t length);
  * @param[out] out  the fields
  * @return #GEOSTATION_OK or #GEOSTATION_BAD_FRAME
  */
-int geostation_read_frame(const uint8_t *frame, size_t length, struct geostation_packet *out);
+int geostation_read_frame(const uint8_t *frame, size_t length, struct geostation_packet *out)
+    GEOSTATION_NODISCARD;
 
 /** @} */
 
@@ -719,7 +744,8 @@ int geostation_read_frame(const uint8_t *frame, size_t length, struct geostation
 int geostation_receive_verified(geostation_handle *s, uint64_t now,
                                 const uint8_t *frame, size_t length,
                                 const uint8_t *plain, size_t plain_length,
-                                struct geostation_reception *out, uint8_t *relay, size_t room);
+                                struct geostation_reception *out, uint8_t *relay, size_t room)
+    GEOSTATION_NODISCARD;
 
 #if defined(__cplusplus) && defined(__GNUC__)
 #pragma GCC diagnostic push
@@ -734,7 +760,8 @@ int geostation_receive_verified(geostation_handle *s, uint64_t now,
  * @param[out] message_length  length of the message, or 0
  * @return #GEOSTATION_OK, or #GEOSTATION_BAD_FRAME if it is not a secured frame
  */
-int geostation_message(const uint8_t *frame, size_t length, size_t *start, size_t *message_length);
+int geostation_message(const uint8_t *frame, size_t length, size_t *start, size_t *message_length)
+    GEOSTATION_NODISCARD;
 #if defined(__cplusplus) && defined(__GNUC__)
 #pragma GCC diagnostic pop
 #endif
@@ -748,7 +775,8 @@ int geostation_message(const uint8_t *frame, size_t length, size_t *start, size_
  * @param[out] plain_length  length of the plain part, or 0
  * @return #GEOSTATION_OK, or #GEOSTATION_BAD_FRAME if it is not a valid unsecured frame
  */
-int geostation_plain_part(const uint8_t *frame, size_t length, size_t *start, size_t *plain_length);
+int geostation_plain_part(const uint8_t *frame, size_t length, size_t *start, size_t *plain_length)
+    GEOSTATION_NODISCARD;
 
 /**
  * Writes the secured frame of an unsecured one: the same link addresses, lifetime and remaining hop
@@ -768,7 +796,8 @@ int geostation_plain_part(const uint8_t *frame, size_t length, size_t *start, si
  */
 int geostation_seal(const uint8_t *frame, size_t length,
                     const uint8_t *message, size_t message_length,
-                    uint8_t *out, size_t room, size_t *out_length);
+                    uint8_t *out, size_t room, size_t *out_length)
+    GEOSTATION_NODISCARD;
 
 /** @} */
 
@@ -844,7 +873,8 @@ uint16_t geostation_next_number(const geostation_handle *s);
  *         station's last call or later than #GEOSTATION_LAST_MOMENT.
  */
 int geostation_neighbour(const geostation_handle *s, uint64_t now, uint64_t after,
-                         struct geostation_vector *out);
+                         struct geostation_vector *out)
+    GEOSTATION_NODISCARD;
 
 /**
  * Finds a live source by address. A source is live for 20 s after its last accepted packet.
@@ -857,7 +887,8 @@ int geostation_neighbour(const geostation_handle *s, uint64_t now, uint64_t afte
  *         than the station's last call or later than #GEOSTATION_LAST_MOMENT.
  */
 int geostation_look_up(const geostation_handle *s, uint64_t now, uint64_t address,
-                       struct geostation_vector *out);
+                       struct geostation_vector *out)
+    GEOSTATION_NODISCARD;
 
 /** @} */
 
@@ -920,7 +951,8 @@ void geostation_counts(const geostation_handle *s, struct geostation_counts *out
 int geostation_handle_json(geostation_handle *s, uint64_t now, uint64_t number,
                            const uint8_t *line, size_t line_length,
                            uint8_t *answer, size_t answer_room, size_t *answer_length,
-                           uint8_t *frame, size_t frame_room, size_t *frame_length);
+                           uint8_t *frame, size_t frame_room, size_t *frame_length)
+    GEOSTATION_NODISCARD;
 /** Deprecated: the former name of geostation_handle_json(). */
 #define geostation_serve geostation_handle_json
 
