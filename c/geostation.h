@@ -200,11 +200,12 @@ enum geostation_why {
     /** The sequence number of a GBC or GAC is in the duplicate packet list of its source. */
     GEOSTATION_DUPLICATE = 4,
     /**
-     * With `deliver_once`: the packet was delivered before. It is neither delivered nor forwarded.
-     * It has the source, the sequence number and the time stamp of one of the last 1024 packets for
-     * an area that were delivered, and the lifetime of that one is not over.
+     * A GBC or GAC that was delivered before (`deliver_once`): its source, its sequence number and
+     * its time stamp are those of one of the last 1024 packets that were delivered, whose lifetime
+     * is not over. It is neither delivered nor forwarded. Its source's entry in the location table
+     * is updated.
      */
-    GEOSTATION_IGNORED_REPEATED = 5
+    GEOSTATION_REPEATED = 5
 };
 
 /** The shape of an area (EN 302 931). */
@@ -287,7 +288,7 @@ struct geostation_config {
     uint32_t own_burst;     /**< own packets sent at once (default 50) */
     /** greatest RHL of a packet of others that is forwarded, 0 to 255; 0: any (default 10) */
     uint32_t hop_cap;
-    /** 0: a packet for an area may be delivered twice (default 1: #GEOSTATION_IGNORED_REPEATED) */
+    /** 0: a packet for an area may be delivered twice (default 1: #GEOSTATION_REPEATED) */
     uint32_t deliver_once;
 };
 
@@ -322,7 +323,7 @@ struct geostation_counts {
         uint64_t geoanycasts;   /**< GAC */
     } sent;
     uint64_t suppressed; /**< frames that were not forwarded because of a limit */
-    uint64_t repeated;   /**< packets that were withheld: #GEOSTATION_IGNORED_REPEATED */
+    uint64_t repeated;   /**< packets that were withheld: #GEOSTATION_REPEATED */
     uint64_t over_rate;  /**< calls that failed with #GEOSTATION_OVER_RATE */
 };
 
@@ -713,7 +714,7 @@ int geostation_send_shb_with_lifetime(geostation_handle *s, uint64_t now,
  *
  * If a limit of the station holds that frame back, `relay_length` is 0, and the payload is
  * delivered all the same. With `deliver_once`, a packet for an area that was delivered before is
- * neither delivered nor forwarded: `ignored` is #GEOSTATION_IGNORED_REPEATED.
+ * neither delivered nor forwarded: `ignored` is #GEOSTATION_REPEATED.
  *
  * In frames of up to 60 bytes, zeros after the packet are ignored: Ethernet pads short frames.
  *

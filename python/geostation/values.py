@@ -38,8 +38,7 @@ class IgnoreReason(IntEnum):
     DUPLICATE = 4
     """The sequence number is in the duplicate packet list of the source."""
     REPEATED = 5
-    """With `Limits.deliver_once`: the packet was delivered before. It is neither delivered nor
-    forwarded."""
+    """The packet was delivered before, within its lifetime: see `deliver_once` of `Limits`."""
 
     def __str__(self) -> str:
         return self.name.lower().replace("_", "-")

@@ -191,8 +191,8 @@ pub enum IgnoreReason {
     SenderMismatch,
     /// The sequence number of a GBC or GAC is in the duplicate packet list of its source.
     Duplicate,
-    /// With [`Limits::deliver_once`]: the packet was delivered before. It is neither delivered nor
-    /// forwarded.
+    /// The packet was delivered before, within its lifetime (`deliver_once`). A copy has the same
+    /// source, sequence number and time stamp. It is neither delivered nor forwarded.
     Repeated,
 }
 
