@@ -1,6 +1,6 @@
-/* A road-side unit over UDP on the loopback interface: one datagram is one frame. It sends beacons
- * and one warning, forwards packets, and prints the payloads that are delivered. It ends after the
- * given number of seconds (default 10).
+/* A road-side unit over UDP on the loopback interface: one datagram is one Ethernet frame. It sends
+ * beacons and one warning, forwards packets, and prints the payloads that are delivered. It ends
+ * after the given number of seconds (default 10).
  *
  *     example PORT PEER_PORT NUMBER [SECONDS]
  *
@@ -19,10 +19,26 @@
 
 static uint8_t frame[GEOSTATION_FRAME_MAX];
 
-static uint64_t now_ms(void) {
+/* 2004-01-01T00:00:00Z in UTC milliseconds since 1970. TAI was 32 s ahead of UTC then. Since 2017
+ * it is 37 s ahead: 5 s more. */
+#define EPOCH_MS INT64_C(1072915200000)
+#define LEAP_MS INT64_C(5000)
+
+static int64_t ms_of(clockid_t clock) {
     struct timespec t;
-    clock_gettime(CLOCK_MONOTONIC, &t);
-    return (uint64_t)t.tv_sec * 1000 + (uint64_t)t.tv_nsec / 1000000;
+    clock_gettime(clock, &t);
+    return (int64_t)t.tv_sec * 1000 + t.tv_nsec / 1000000;
+}
+
+/* The time for all calls: milliseconds of TAI since 2004-01-01, which become the time stamps on the
+ * air. The time of day is read once, in the first call. From then on the time that has passed is
+ * added. So the result never goes back, even if the time of day is set. */
+static uint64_t now_ms(void) {
+    static int64_t at_zero; /* the time at which CLOCK_MONOTONIC was 0 */
+    if (at_zero == 0) {
+        at_zero = ms_of(CLOCK_REALTIME) - EPOCH_MS + LEAP_MS - ms_of(CLOCK_MONOTONIC);
+    }
+    return (uint64_t)(at_zero + ms_of(CLOCK_MONOTONIC));
 }
 
 static struct sockaddr_in loopback(const char *port) {
@@ -116,8 +132,9 @@ int main(int argc, char **argv) {
         return 1;
     }
 
-    /* A road-side unit (station type 15) that does not move. Other stations remember its old
-     * sequence numbers after a restart, so the first one is random. */
+    /* A road-side unit (station type 15) that does not move. The low 48 bits of its address are the
+     * source address of each frame: on a network interface, take the MAC of the interface. Other
+     * stations may remember its old sequence numbers after a restart: the first one is random. */
     struct geostation *s = NULL;
     struct geostation_config config;
     geostation_config_init(&config);
@@ -131,8 +148,9 @@ int main(int argc, char **argv) {
         return fail("new", status);
     }
     uint64_t now = now_ms(), end = now + 1000 * (uint64_t)(argc > 4 ? atoi(argv[4]) : 10);
+    /* lifetime: 10 times 1 s */
     const struct geostation_area_request area = {
-        .port = 2002, .lifetime = 0x29, .max_hops = 3, .shape = GEOSTATION_CIRCLE,
+        .port = 2002, .lifetime = 10 << 2 | 1, .max_hops = 3, .shape = GEOSTATION_CIRCLE,
         .latitude = 514776500, .longitude = -10000, .a = 500,
     };
     const char *warning = "road works";

@@ -13,10 +13,12 @@
  * if (geostation_new(&s, 0x1400020000000001, 514776500, -10000, 64, 8) != GEOSTATION_OK)
  *     return 1;
  * int status = geostation_open_port(s, now, 2002);
+ * if (status != GEOSTATION_OK)
+ *     return 1;
  *
  * // To send a payload to all stations within 200 m of a point:
  * const struct geostation_area_request area = {
- *     .port = 2002, .lifetime = 0x1a, .max_hops = 5, .shape = GEOSTATION_CIRCLE,
+ *     .port = 2002, .lifetime = 6 << 2 | 2, .max_hops = 5, .shape = GEOSTATION_CIRCLE,
  *     .latitude = 514776500, .longitude = -10000, .a = 200,
  * };
  * uint8_t frame[GEOSTATION_FRAME_MAX];
@@ -42,19 +44,32 @@
  *
  * Rules for all functions:
  *
- * - Times (`now`) are in milliseconds and never go back. Coordinates are in 0.1 microdegree.
+ * - Times (`now`) are in milliseconds and never go back. They are sent as time stamps. So on the
+ *   air they count from 2004-01-01 in TAI: Unix time in ms - 1072915200000 + 5000. (TAI was 32 s
+ *   ahead of UTC then, and is 37 s ahead now.) Read CLOCK_REALTIME once, at the start, and from
+ *   then on add the progress of CLOCK_MONOTONIC, as c/example.c does. A simulation may begin at any
+ *   time.
+ * - Coordinates are in 0.1 microdegree.
+ * - A frame is an Ethernet frame without its check sequence: 6 bytes of destination address, 6
+ *   bytes of source address, the EtherType 0x8947, and from byte 14 the packet.
+ * - A GN address has 64 bits. From the top: 1 bit that is 1 if the address was set by hand, 5 bits
+ *   for the station type (5: passenger car, 15: road-side unit), 10 bits that are 0, and 48 bits
+ *   that are the MAC of the network interface. A road-side unit with the MAC 02:00:00:00:00:01 has
+ *   0x3c00020000000001. These 48 bits are the source address of each frame of the station, and
+ *   frames to them are its own.
  * - A function that returns anything but #GEOSTATION_OK leaves the station unchanged.
  * - Pointers must not be NULL unless the function says so. An input buffer (payload, frame, line)
  *   may be NULL if its length is 0.
- * - Buffers and structs that you pass to one call must not overlap. `frame` and `relay` are two
- *   buffers. Only `plain` of geostation_receive_verified() may lie inside `frame`.
+ * - Buffers and structs that you pass to one call must not overlap, not even in parts. Only `plain`
+ *   of geostation_receive_verified() may lie inside `frame`.
  * - A buffer must be as long as you say, and at most `PTRDIFF_MAX` bytes. What a function writes to
  *   must be aligned as its type requires.
  * - A handle comes from geostation_new() or geostation_new_from_config(). Do not use it
  *   after geostation_free(). Do not use it in two calls at once; calls with a const handle count
  *   too.
  *
- * The library cannot check the last four rules.
+ * The library cannot check the last four rules. With gcc and clang, a program that ignores the
+ * status of a call is warned.
  */
 #ifndef GEOSTATION_H
 #define GEOSTATION_H
@@ -65,6 +80,17 @@
 #if defined(SIZE_MAX) && SIZE_MAX < 0xffffffffffffffff
 #error "geostation needs a 64-bit target: all lengths in its contracts have 64 bits"
 #endif
+
+/** @cond */
+/* A program that ignores the status of a call is warned about it (gcc and clang). */
+#ifndef GEOSTATION_NODISCARD
+#ifdef __GNUC__
+#define GEOSTATION_NODISCARD __attribute__((warn_unused_result))
+#else
+#define GEOSTATION_NODISCARD
+#endif
+#endif
+/** @endcond */
 
 #ifdef __cplusplus
 extern "C" {
@@ -103,6 +129,8 @@ extern "C" {
 #define GEOSTATION_ANSWER_MAX 16384
 /** The longest payload that can be sent, in bytes. */
 #define GEOSTATION_PAYLOAD_MAX 1394
+/** The longest code of geostation_code(), with its 0, in bytes. A buffer for it needs this size. */
+#define GEOSTATION_CODE_MAX 42
 /** The greatest jitter of a beacon, in ms. */
 #define GEOSTATION_JITTER_MAX 750
 /** The greatest rate and the greatest burst of a limit, in frames per second and in frames. */
@@ -121,7 +149,14 @@ extern "C" {
 enum geostation_status {
     /** The call succeeded. */
     GEOSTATION_OK = 0,
-    /** (S1) The time `now` is earlier than that of the last call. */
+    /**
+     * (S1) The time `now` is earlier than that of the last call.
+     *
+     * Your clock went back, or two threads took their times in another order than they called.
+     * Repeat the call with the time of the last call, or a later one: nothing was done. If a call
+     * had a time far in the future, the station refuses all calls until then: free it, and create
+     * a new one.
+     */
     GEOSTATION_MOMENT_EARLIER = 1,
     /** (S2) The time `now` is over 2^62 ms, #GEOSTATION_LAST_MOMENT. */
     GEOSTATION_MOMENT_TOO_LATE = 2,
@@ -163,7 +198,14 @@ enum geostation_why {
     /** A BEACON or SHB came from another link address than its source's. */
     GEOSTATION_SENDER_MISMATCH = 3,
     /** The sequence number of a GBC or GAC is in the duplicate packet list of its source. */
-    GEOSTATION_DUPLICATE = 4
+    GEOSTATION_DUPLICATE = 4,
+    /**
+     * A GBC or GAC that was delivered before (`deliver_once`): its source, its sequence number and
+     * its time stamp are those of one of the last 1024 packets that were delivered, whose lifetime
+     * is not over. It is neither delivered nor forwarded. Its source's entry in the location table
+     * is updated.
+     */
+    GEOSTATION_REPEATED = 5
 };
 
 /** The shape of an area (EN 302 931). */
@@ -244,13 +286,16 @@ struct geostation_config {
     uint32_t source_burst;  /**< frames of each source forwarded at once (default 20) */
     uint32_t own_rate;      /**< own packets per second, not beacons (default 50) */
     uint32_t own_burst;     /**< own packets sent at once (default 50) */
-    uint32_t hop_cap;       /**< greatest RHL that is forwarded, 0 to 255; 0: any (default 10) */
-    uint32_t deliver_once;  /**< 0: a packet for an area may be delivered twice (default 1) */
+    /** greatest RHL of a packet of others that is forwarded, 0 to 255; 0: any (default 10) */
+    uint32_t hop_cap;
+    /** 0: a packet for an area may be delivered twice (default 1: #GEOSTATION_REPEATED) */
+    uint32_t deliver_once;
 };
 
 /** Counters of a station since it was created. A counter stops at `UINT64_MAX`. */
 struct geostation_counts {
-    uint64_t received;  /**< frames passed to geostation_receive() */
+    /** frames passed to geostation_receive() and geostation_receive_verified(), or in JSON */
+    uint64_t received;
     uint64_t accepted;  /**< frames whose packet was accepted */
     uint64_t delivered; /**< payloads that were delivered */
     uint64_t relayed;   /**< frames that were written to a relay buffer */
@@ -278,7 +323,7 @@ struct geostation_counts {
         uint64_t geoanycasts;   /**< GAC */
     } sent;
     uint64_t suppressed; /**< frames that were not forwarded because of a limit */
-    uint64_t repeated;   /**< payloads that were not delivered because they were delivered before */
+    uint64_t repeated;   /**< packets that were withheld: #GEOSTATION_REPEATED */
     uint64_t over_rate;  /**< calls that failed with #GEOSTATION_OVER_RATE */
 };
 
@@ -286,16 +331,29 @@ struct geostation_counts {
 struct geostation_shb_request {
     uint16_t port;         /**< destination port (BTP-B) */
     uint16_t info;         /**< destination port info */
-    uint8_t traffic_class; /**< traffic class byte of the packet */
+    uint8_t traffic_class; /**< traffic class byte of the packet: see geostation_area_request */
 };
 
 /** A request for a geobroadcast (GBC) or a geoanycast (GAC). */
 struct geostation_area_request {
     uint16_t port;         /**< destination port (BTP-B) */
     uint16_t info;         /**< destination port info */
-    uint8_t traffic_class; /**< traffic class byte of the packet */
-    uint8_t lifetime;      /**< lifetime byte: 6 bits of multiplier, 2 bits of base; 0x1a is 60 s */
-    uint8_t max_hops;      /**< hop limit, from 1 */
+    /**
+     * traffic class byte of the packet (EN 302 636-4-1, 9.7.5): bit 7 is store-carry-forward (SCF),
+     * bit 6 channel offload, bits 5 to 0 are the traffic class ID. Stations of this library carry
+     * the byte, and do nothing with it.
+     */
+    uint8_t traffic_class;
+    /**
+     * lifetime byte: the upper 6 bits are a multiplier; the lower 2 bits are its base: 0 = 50 ms, 1
+     * = 1 s, 2 = 10 s, 3 = 100 s. 0x1a (6 << 2 | 2) is 60 s, 0x29 (10 << 2 | 1) is 10 s.
+     */
+    uint8_t lifetime;
+    /**
+     * hop limit, from 1. Stations with the default limits do not forward a packet with more than 10
+     * hops left (`hop_cap`).
+     */
+    uint8_t max_hops;
     uint8_t shape;         /**< shape of the area (enum geostation_shape) */
     int32_t latitude;      /**< latitude of the centre, in 0.1 microdegree */
     int32_t longitude;     /**< longitude of the centre, in 0.1 microdegree */
@@ -341,8 +399,8 @@ struct geostation_packet {
     struct geostation_vector vector;   /**< position vector of the source */
     uint8_t hops_left;                 /**< remaining hop limit (RHL), from 1 */
     uint8_t max_hops;                  /**< maximum hop limit (MHL), from 1 */
-    uint8_t lifetime;                  /**< lifetime byte: 6 bits of multiplier, 2 bits of base */
-    uint8_t traffic_class;             /**< traffic class byte */
+    uint8_t lifetime;                  /**< lifetime byte: see geostation_area_request */
+    uint8_t traffic_class;             /**< traffic class byte: see geostation_area_request */
     uint8_t mobile;                    /**< 1 if the source is mobile, otherwise 0 */
     uint8_t media[4];                  /**< SHB: the media-dependent data */
     uint16_t number;                   /**< GBC, GAC: sequence number */
@@ -394,7 +452,8 @@ const char *geostation_version(void);
  * @return #GEOSTATION_OK, #GEOSTATION_BAD_ARGUMENT or #GEOSTATION_NO_MEMORY
  */
 int geostation_new(geostation_handle **out, uint64_t address, int32_t latitude, int32_t longitude,
-                   uint16_t capacity, uint8_t remember);
+                   uint16_t capacity, uint8_t remember)
+    GEOSTATION_NODISCARD;
 
 /**
  * Fills a struct with the defaults, which are listed at its fields.
@@ -405,15 +464,18 @@ void geostation_config_init(struct geostation_config *config);
 /**
  * Creates a station with the parameters in a struct.
  *
- * For a road-side unit, set `mobile` to 0. Choose `number` at random at each start: other stations
- * remember the sequence numbers from before a restart for 20 s.
+ * For a road-side unit, set `mobile` to 0. Choose `number` at random at each start, or continue the
+ * numbering from before (geostation_next_number()): other stations still have the last sequence
+ * numbers in their duplicate packet lists, until they have accepted nothing from this address for
+ * 20 s. docs/C.md says more ("Sequence numbers after a restart").
  *
  * @param[out] out  the handle, or NULL if the status is not #GEOSTATION_OK
  * @param config    the parameters, initialised with geostation_config_init()
  * @return #GEOSTATION_OK, #GEOSTATION_BAD_ARGUMENT (also if `size` is wrong) or
  *         #GEOSTATION_NO_MEMORY
  */
-int geostation_new_from_config(geostation_handle **out, const struct geostation_config *config);
+int geostation_new_from_config(geostation_handle **out, const struct geostation_config *config)
+    GEOSTATION_NODISCARD;
 /** Deprecated: the former name of geostation_new_from_config(). */
 #define geostation_new_with geostation_new_from_config
 
@@ -444,7 +506,8 @@ void geostation_free(geostation_handle *s);
  *         #GEOSTATION_BAD_ARGUMENT
  */
 int geostation_move(geostation_handle *s, uint64_t now, int32_t latitude, int32_t longitude,
-                    uint8_t accurate, int16_t speed, uint16_t heading);
+                    uint8_t accurate, int16_t speed, uint16_t heading)
+    GEOSTATION_NODISCARD;
 
 /**
  * Sets the position of the station, with the time stamp of the fix.
@@ -464,7 +527,8 @@ int geostation_move(geostation_handle *s, uint64_t now, int32_t latitude, int32_
  */
 int geostation_move_at(geostation_handle *s, uint64_t now, uint32_t timestamp,
                        int32_t latitude, int32_t longitude, uint8_t accurate, int16_t speed,
-                       uint16_t heading);
+                       uint16_t heading)
+    GEOSTATION_NODISCARD;
 
 /**
  * Opens a port. Payloads are delivered to open ports only.
@@ -475,7 +539,8 @@ int geostation_move_at(geostation_handle *s, uint64_t now, uint32_t timestamp,
  * @return #GEOSTATION_OK, #GEOSTATION_MOMENT_EARLIER, #GEOSTATION_MOMENT_TOO_LATE,
  *         #GEOSTATION_PORT_ALREADY_OPEN or #GEOSTATION_PORTS_FULL
  */
-int geostation_open_port(geostation_handle *s, uint64_t now, uint16_t port);
+int geostation_open_port(geostation_handle *s, uint64_t now, uint16_t port)
+    GEOSTATION_NODISCARD;
 
 /**
  * Closes a port.
@@ -486,7 +551,8 @@ int geostation_open_port(geostation_handle *s, uint64_t now, uint16_t port);
  * @return #GEOSTATION_OK, #GEOSTATION_MOMENT_EARLIER, #GEOSTATION_MOMENT_TOO_LATE or
  *         #GEOSTATION_PORT_NOT_OPEN
  */
-int geostation_close_port(geostation_handle *s, uint64_t now, uint16_t port);
+int geostation_close_port(geostation_handle *s, uint64_t now, uint16_t port)
+    GEOSTATION_NODISCARD;
 
 /**
  * Restarts the station: empties its location table and closes its ports.
@@ -498,7 +564,8 @@ int geostation_close_port(geostation_handle *s, uint64_t now, uint16_t port);
  * @param number  sequence number of the next packet for an area
  * @return #GEOSTATION_OK, #GEOSTATION_MOMENT_EARLIER or #GEOSTATION_MOMENT_TOO_LATE
  */
-int geostation_restart(geostation_handle *s, uint64_t now, uint16_t number);
+int geostation_restart(geostation_handle *s, uint64_t now, uint16_t number)
+    GEOSTATION_NODISCARD;
 
 /** @} */
 
@@ -516,6 +583,10 @@ int geostation_restart(geostation_handle *s, uint64_t now, uint16_t number);
  * first beacon is due at time `jitter`. After geostation_restart(), one is due `jitter` ms later.
  * geostation_beacon_at() returns the time at which to call this function.
  *
+ * Each own packet postpones the beacon. So a station that sends a GBC or GAC at least every 3 s
+ * sends no beacon, and others that have not received one do not take it as a neighbour. An SHB does
+ * the work of a beacon.
+ *
  * @param s            the station
  * @param now          time, in ms
  * @param jitter       0 to #GEOSTATION_JITTER_MAX, in ms, chosen at random for each beacon
@@ -526,7 +597,8 @@ int geostation_restart(geostation_handle *s, uint64_t now, uint16_t number);
  *         #GEOSTATION_NO_MEMORY, #GEOSTATION_JITTER_RANGE or #GEOSTATION_NO_ROOM
  */
 int geostation_tick(geostation_handle *s, uint64_t now, uint16_t jitter,
-                    uint8_t *frame, size_t room, size_t *length);
+                    uint8_t *frame, size_t room, size_t *length)
+    GEOSTATION_NODISCARD;
 
 /**
  * Writes the frame of a single-hop broadcast (SHB), for all stations in radio range.
@@ -548,10 +620,15 @@ int geostation_tick(geostation_handle *s, uint64_t now, uint16_t jitter,
 int geostation_send_shb(geostation_handle *s, uint64_t now,
                         const struct geostation_shb_request *request,
                         const uint8_t *payload, size_t payload_length,
-                        uint8_t *frame, size_t room, size_t *length);
+                        uint8_t *frame, size_t room, size_t *length)
+    GEOSTATION_NODISCARD;
 
 /**
  * Writes the frame of a geobroadcast (GBC), for all stations in an area.
+ *
+ * The stations that receive it forward it only up to their own `hop_cap`, 10 by default. With
+ * `max_hops` above their cap the call succeeds, and the packet goes no further than the stations in
+ * radio range.
  *
  * @param s               the station
  * @param now             time, in ms
@@ -569,10 +646,12 @@ int geostation_send_shb(geostation_handle *s, uint64_t now,
 int geostation_send_gbc(geostation_handle *s, uint64_t now,
                         const struct geostation_area_request *request,
                         const uint8_t *payload, size_t payload_length,
-                        uint8_t *frame, size_t room, size_t *length);
+                        uint8_t *frame, size_t room, size_t *length)
+    GEOSTATION_NODISCARD;
 
 /**
- * Writes the frame of a geoanycast (GAC), for any one station in an area.
+ * Writes the frame of a geoanycast (GAC), for any one station in an area. For `max_hops` above 10,
+ * see geostation_send_gbc().
  *
  * @param s               the station
  * @param now             time, in ms
@@ -590,7 +669,8 @@ int geostation_send_gbc(geostation_handle *s, uint64_t now,
 int geostation_send_gac(geostation_handle *s, uint64_t now,
                         const struct geostation_area_request *request,
                         const uint8_t *payload, size_t payload_length,
-                        uint8_t *frame, size_t room, size_t *length);
+                        uint8_t *frame, size_t room, size_t *length)
+    GEOSTATION_NODISCARD;
 
 /**
  * Writes the frame of a single-hop broadcast (SHB) with a given lifetime.
@@ -598,7 +678,7 @@ int geostation_send_gac(geostation_handle *s, uint64_t now,
  * @param s               the station
  * @param now             time, in ms
  * @param request         port and traffic class
- * @param lifetime        lifetime byte: 6 bits of multiplier, 2 bits of base
+ * @param lifetime        lifetime byte: see geostation_area_request
  * @param payload         the payload; may be NULL if `payload_length` is 0
  * @param payload_length  0 to #GEOSTATION_PAYLOAD_MAX
  * @param[out] frame      the frame
@@ -612,7 +692,8 @@ int geostation_send_shb_with_lifetime(geostation_handle *s, uint64_t now,
                                       const struct geostation_shb_request *request,
                                       uint8_t lifetime,
                                       const uint8_t *payload, size_t payload_length,
-                                      uint8_t *frame, size_t room, size_t *length);
+                                      uint8_t *frame, size_t room, size_t *length)
+    GEOSTATION_NODISCARD;
 /** Deprecated: the former name of geostation_send_shb_with_lifetime(). */
 #define geostation_send_shb_for geostation_send_shb_with_lifetime
 
@@ -633,7 +714,7 @@ int geostation_send_shb_with_lifetime(geostation_handle *s, uint64_t now,
  *
  * If a limit of the station holds that frame back, `relay_length` is 0, and the payload is
  * delivered all the same. With `deliver_once`, a packet for an area that was delivered before is
- * not delivered again.
+ * neither delivered nor forwarded: `ignored` is #GEOSTATION_REPEATED.
  *
  * In frames of up to 60 bytes, zeros after the packet are ignored: Ethernet pads short frames.
  *
@@ -642,15 +723,15 @@ int geostation_send_shb_with_lifetime(geostation_handle *s, uint64_t now,
  * @param frame       the received frame; may be NULL if `length` is 0
  * @param length      length of `frame`
  * @param[out] out    the result
- * @param[out] relay  the frame to forward, of `out->relay_length` bytes; not the same buffer as
- *                    `frame`
+ * @param[out] relay  the frame to forward, of `out->relay_length` bytes; must not overlap `frame`
  * @param room        size of `relay`, at least #GEOSTATION_FRAME_MAX
  * @return #GEOSTATION_OK, #GEOSTATION_MOMENT_EARLIER, #GEOSTATION_MOMENT_TOO_LATE,
  *         #GEOSTATION_BAD_FRAME, #GEOSTATION_TABLE_FULL, #GEOSTATION_NO_MEMORY or
  *         #GEOSTATION_NO_ROOM
  */
 int geostation_receive(geostation_handle *s, uint64_t now, const uint8_t *frame, size_t length,
-                       struct geostation_reception *out, uint8_t *relay, size_t room);
+                       struct geostation_reception *out, uint8_t *relay, size_t room)
+    GEOSTATION_NODISCARD;
 
 /**
  * Returns the length of the frame at the start of a buffer. Use it to strip padding.
@@ -672,7 +753,8 @@ size_t geostation_frame_length(const uint8_t *octets, size_t length);
  * @param[out] out  the fields
  * @return #GEOSTATION_OK or #GEOSTATION_BAD_FRAME
  */
-int geostation_read_frame(const uint8_t *frame, size_t length, struct geostation_packet *out);
+int geostation_read_frame(const uint8_t *frame, size_t length, struct geostation_packet *out)
+    GEOSTATION_NODISCARD;
 
 /** @} */
 
@@ -719,7 +801,8 @@ int geostation_read_frame(const uint8_t *frame, size_t length, struct geostation
 int geostation_receive_verified(geostation_handle *s, uint64_t now,
                                 const uint8_t *frame, size_t length,
                                 const uint8_t *plain, size_t plain_length,
-                                struct geostation_reception *out, uint8_t *relay, size_t room);
+                                struct geostation_reception *out, uint8_t *relay, size_t room)
+    GEOSTATION_NODISCARD;
 
 #if defined(__cplusplus) && defined(__GNUC__)
 #pragma GCC diagnostic push
@@ -734,7 +817,8 @@ int geostation_receive_verified(geostation_handle *s, uint64_t now,
  * @param[out] message_length  length of the message, or 0
  * @return #GEOSTATION_OK, or #GEOSTATION_BAD_FRAME if it is not a secured frame
  */
-int geostation_message(const uint8_t *frame, size_t length, size_t *start, size_t *message_length);
+int geostation_message(const uint8_t *frame, size_t length, size_t *start, size_t *message_length)
+    GEOSTATION_NODISCARD;
 #if defined(__cplusplus) && defined(__GNUC__)
 #pragma GCC diagnostic pop
 #endif
@@ -748,7 +832,8 @@ int geostation_message(const uint8_t *frame, size_t length, size_t *start, size_
  * @param[out] plain_length  length of the plain part, or 0
  * @return #GEOSTATION_OK, or #GEOSTATION_BAD_FRAME if it is not a valid unsecured frame
  */
-int geostation_plain_part(const uint8_t *frame, size_t length, size_t *start, size_t *plain_length);
+int geostation_plain_part(const uint8_t *frame, size_t length, size_t *start, size_t *plain_length)
+    GEOSTATION_NODISCARD;
 
 /**
  * Writes the secured frame of an unsecured one: the same link addresses, lifetime and remaining hop
@@ -768,7 +853,8 @@ int geostation_plain_part(const uint8_t *frame, size_t length, size_t *start, si
  */
 int geostation_seal(const uint8_t *frame, size_t length,
                     const uint8_t *message, size_t message_length,
-                    uint8_t *out, size_t room, size_t *out_length);
+                    uint8_t *out, size_t room, size_t *out_length)
+    GEOSTATION_NODISCARD;
 
 /** @} */
 
@@ -788,8 +874,11 @@ int geostation_seal(const uint8_t *frame, size_t length,
  * uint64_t due = geostation_beacon_at(s, jitter);
  * for (;;) {
  *     if (now_ms() >= due) {
- *         geostation_tick(s, now_ms(), jitter, frame, sizeof frame, &length);
- *         // send the frame; then choose a new jitter
+ *         if (geostation_tick(s, now_ms(), jitter, frame, sizeof frame, &length) == GEOSTATION_OK
+ *             && length != 0) {
+ *             send(frame, length);
+ *             jitter = random_jitter();
+ *         }
  *         due = geostation_beacon_at(s, jitter);
  *     }
  *     // wait until `due` or for a frame; pass the frame to geostation_receive
@@ -833,7 +922,8 @@ uint16_t geostation_next_number(const geostation_handle *s);
  * @code
  * uint64_t after = 0;
  * struct geostation_vector v;
- * for (; geostation_neighbour(s, now, after, &v); after = v.address) { .. }
+ * for (; geostation_neighbour(s, now, after, &v); after = v.address)
+ *     show(&v);
  * @endcode
  *
  * @param s         the station
@@ -844,7 +934,8 @@ uint16_t geostation_next_number(const geostation_handle *s);
  *         station's last call or later than #GEOSTATION_LAST_MOMENT.
  */
 int geostation_neighbour(const geostation_handle *s, uint64_t now, uint64_t after,
-                         struct geostation_vector *out);
+                         struct geostation_vector *out)
+    GEOSTATION_NODISCARD;
 
 /**
  * Finds a live source by address. A source is live for 20 s after its last accepted packet.
@@ -857,7 +948,8 @@ int geostation_neighbour(const geostation_handle *s, uint64_t now, uint64_t afte
  *         than the station's last call or later than #GEOSTATION_LAST_MOMENT.
  */
 int geostation_look_up(const geostation_handle *s, uint64_t now, uint64_t address,
-                       struct geostation_vector *out);
+                       struct geostation_vector *out)
+    GEOSTATION_NODISCARD;
 
 /** @} */
 
@@ -920,7 +1012,8 @@ void geostation_counts(const geostation_handle *s, struct geostation_counts *out
 int geostation_handle_json(geostation_handle *s, uint64_t now, uint64_t number,
                            const uint8_t *line, size_t line_length,
                            uint8_t *answer, size_t answer_room, size_t *answer_length,
-                           uint8_t *frame, size_t frame_room, size_t *frame_length);
+                           uint8_t *frame, size_t frame_room, size_t *frame_length)
+    GEOSTATION_NODISCARD;
 /** Deprecated: the former name of geostation_handle_json(). */
 #define geostation_serve geostation_handle_json
 
@@ -950,14 +1043,14 @@ const char *geostation_fault_text(uint32_t fault, uint32_t fault_kind);
  * Writes a short code for logs, for example `S4`, `S8 B2` or `S3 L5 G9 at 10`.
  *
  * A status without a code gives an empty string. As with `snprintf`, a code that does not fit is
- * cut off.
+ * cut off. Each code fits into #GEOSTATION_CODE_MAX bytes.
  *
  * @param status      a status of enum geostation_status
  * @param fault       `fault` of the reception, for #GEOSTATION_BAD_FRAME
  * @param fault_kind  its `fault_kind`
  * @param fault_at    its `fault_at`
  * @param[out] out    the code, terminated by 0; may be NULL if `room` is 0
- * @param room        size of `out`
+ * @param room        size of `out`; #GEOSTATION_CODE_MAX is enough
  * @return the length of the whole code, without the 0
  */
 size_t geostation_code(int status, uint32_t fault, uint32_t fault_kind, size_t fault_at,

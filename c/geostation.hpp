@@ -2,8 +2,10 @@
 /// The station of geostation.h for C++17, header only.
 ///
 /// A Station frees itself, and can be moved but not copied. Functions return a Status or a struct
-/// with one. Nothing throws. The rules at the top of geostation.h hold here too: times never go
-/// back, and a call whose status is not Status::Ok leaves the station unchanged.
+/// with one. A program that ignores it is warned: both are `[[nodiscard]]`. Nothing throws. The
+/// rules at the top of geostation.h hold here too. They say what `now` counts from, what a frame is
+/// and how a GN address is made. Times never go back, and a call whose status is not Status::Ok
+/// leaves the station unchanged.
 ///
 /// @code
 /// auto station = geostation::Station::make(0x1400020000000001, 514776500, -10000, 64, 8);
@@ -11,7 +13,8 @@
 /// request.port = 2002;
 /// const std::uint8_t ice[] = {'i', 'c', 'e'};
 /// geostation::Frame frame;
-/// if (station && station->send_shb(now, request, {ice, sizeof ice}, frame) == Status::Ok) {
+/// if (station && station->send_shb(now, request, {ice, sizeof ice}, frame)
+///                    == geostation::Status::Ok) {
 ///     send(frame.octets.data(), frame.size); // `send` is a function of yours
 /// }
 /// @endcode
@@ -29,7 +32,7 @@
 namespace geostation {
 
 /// The status that a function returns: the values of enum geostation_status.
-enum class Status : int {
+enum class [[nodiscard]] Status : int {
     Ok = GEOSTATION_OK,                                  ///< the call succeeded
     MomentEarlier = GEOSTATION_MOMENT_EARLIER,           ///< (S1) earlier than the last call
     MomentTooLate = GEOSTATION_MOMENT_TOO_LATE,          ///< (S2) the time is over 2^62 ms
@@ -80,14 +83,14 @@ struct Answer {
 ///
 /// `payload` points into the frame that was passed to Station::receive, or into the plain part that
 /// was passed to Station::receive_verified. It is empty if nothing is delivered.
-struct Received {
+struct [[nodiscard]] Received {
     Status status;                  ///< status of the call
     geostation_reception reception; ///< the result, with the fault of a bad frame
     Octets payload;                 ///< the delivered payload
 };
 
 /// The result of message_of and plain_part.
-struct Part {
+struct [[nodiscard]] Part {
     Status status; ///< Ok or BadFrame
     Octets octets; ///< the part of the frame, or nothing
 };
@@ -95,7 +98,7 @@ struct Part {
 /// The result of read_frame.
 ///
 /// `payload` points into the bytes that were passed to read_frame.
-struct Packet {
+struct [[nodiscard]] Packet {
     Status status;            ///< Ok or BadFrame
     geostation_packet packet; ///< all fields, or the fault of a bad frame
     Octets payload;           ///< the payload of the packet
@@ -166,6 +169,7 @@ class Station {
     /// @param remember   length of each duplicate packet list, 1 to 64
     /// @param status     receives Ok, BadArgument or NoMemory; may be null
     /// @return the station, or nothing if the status is not Ok
+    [[nodiscard]]
     static std::optional<Station> make(std::uint64_t address, std::int32_t latitude,
                                        std::int32_t longitude, std::uint16_t capacity,
                                        std::uint8_t remember, Status *status = nullptr) noexcept {
@@ -182,6 +186,7 @@ class Station {
     /// @param config  the parameters, among them `mobile` and the first sequence number
     /// @param status  receives Ok, BadArgument or NoMemory; may be null
     /// @return the station, or nothing if the status is not Ok
+    [[nodiscard]]
     static std::optional<Station> make(const geostation_config &config,
                                        Status *status = nullptr) noexcept {
         geostation_handle *handle = nullptr;

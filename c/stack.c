@@ -19,9 +19,17 @@ static void *do_nothing(void *unused) {
     return unused;
 }
 
+/* Ends the program if a call did something else than what is measured. */
+static void expect(int wanted, int status) {
+    if (status != wanted) {
+        fprintf(stderr, "stack: %s\n", geostation_status_text(status));
+        exit(1);
+    }
+}
+
 static void *make(void *unused) {
     geostation_handle *made = NULL;
-    geostation_new(&made, 0x1400020000000002, 449, 0, 4096, 64);
+    expect(GEOSTATION_OK, geostation_new(&made, 0x1400020000000002, 449, 0, 4096, 64));
     geostation_free(made);
     return unused;
 }
@@ -31,20 +39,22 @@ static void *send_gbc(void *unused) {
         .port = 2002, .lifetime = 26, .max_hops = 5, .a = 200
     };
     size_t length = 0;
-    geostation_send_gbc(station, 1, &area, payload, sizeof payload, frame, sizeof frame, &length);
+    expect(GEOSTATION_OK, geostation_send_gbc(station, 1, &area, payload, sizeof payload, frame,
+                                              sizeof frame, &length));
     return unused;
 }
 
 static void *receive(void *unused) {
     struct geostation_reception reception;
-    geostation_receive(station, 1, payload, 100, &reception, frame, sizeof frame);
+    expect(GEOSTATION_BAD_FRAME,
+           geostation_receive(station, 1, payload, 100, &reception, frame, sizeof frame));
     return unused;
 }
 
 static void *handle_json(void *unused) {
     size_t said = 0, sent = 0;
-    geostation_handle_json(station, 1, 1, line, line_length, answer, sizeof answer, &said, frame,
-                     sizeof frame, &sent);
+    expect(GEOSTATION_OK, geostation_handle_json(station, 1, 1, line, line_length, answer,
+                                                 sizeof answer, &said, frame, sizeof frame, &sent));
     return unused;
 }
 

@@ -168,7 +168,7 @@ static void test_beside(void) {
 }
 
 static void check_code(const char *wanted, int status, uint32_t fault, uint32_t kind, size_t at) {
-    char code[32];
+    char code[GEOSTATION_CODE_MAX];
     CHECK(geostation_code(status, fault, kind, at, code, sizeof code) == strlen(wanted));
     CHECK(strcmp(code, wanted) == 0);
 }
@@ -183,6 +183,8 @@ static void test_codes(void) {
     check_code("S9", GEOSTATION_JITTER_RANGE, 0, 0, 0);
     check_code("S3 L1", GEOSTATION_BAD_FRAME, 1, 0, 0);
     check_code("S3 L5 G9 at 10", GEOSTATION_BAD_FRAME, 5, 9, 10);
+    check_code("S3 L6 G4294967295 at 18446744073709551615", GEOSTATION_BAD_FRAME, 6, UINT32_MAX,
+               SIZE_MAX);
     check_code("", GEOSTATION_NO_ROOM, 0, 0, 0);
     check_code("", GEOSTATION_OVER_RATE, 0, 0, 0);
     CHECK(geostation_code(GEOSTATION_BAD_FRAME, 5, 12, 140, NULL, 0) == 16);

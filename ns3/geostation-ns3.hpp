@@ -188,6 +188,9 @@ class StationApplication : public ns3::Application {
 
     static ns3::TypeId GetTypeId();
 
+    /// Ends the simulation with a message if a call failed.
+    static void Check(Status status) { NS_ABORT_MSG_IF(status != Status::Ok, text(status)); }
+
     /// Fixes the random stream of this station: the jitter of beacons, and the waits of forwarded
     /// frames. Returns how many streams it has used.
     std::int64_t AssignStreams(std::int64_t stream) {
@@ -345,8 +348,6 @@ class StationApplication : public ns3::Application {
     static std::uint64_t Now() {
         return static_cast<std::uint64_t>(ns3::Simulator::Now().GetMilliSeconds());
     }
-
-    static void Check(Status status) { NS_ABORT_MSG_IF(status != Status::Ok, text(status)); }
 
     static void AddCounts(Counts &sum, const Counts &more) {
         sum.received += more.received;

@@ -73,10 +73,10 @@ static struct geostation *station(uint64_t address, int32_t longitude) {
     /* without limits, as the loops that it is compared with */
     struct geostation_config config = { .size = sizeof config, .address = address,
         .latitude = 449, .longitude = longitude, .capacity = 64, .remember = 8, .mobile = 1 };
-    if (geostation_new_from_config(&s, &config) != GEOSTATION_OK) {
+    if (geostation_new_from_config(&s, &config) != GEOSTATION_OK
+        || geostation_open_port(s, 0, 2002) != GEOSTATION_OK) {
         exit(1);
     }
-    (void)geostation_open_port(s, 0, 2002);
     return s;
 }
 

@@ -47,7 +47,7 @@ static size_t serve(geostation_handle *h, struct station *s, uint64_t now, uint6
 static size_t ask_probe(struct station *s, uint64_t now, uint64_t number, const uint8_t *line,
                         size_t n, uint8_t *answer) {
     size_t frame_length = 0;
-    (void)geostation_restart(s->probe, now, 0);
+    ignore_status(geostation_restart(s->probe, now, 0));
     return serve(s->probe, s, now, number, line, n, answer, &frame_length);
 }
 
@@ -104,7 +104,8 @@ static void follow_move(struct station *s, uint64_t now, const uint8_t *line, si
     struct geostation_packet packet;
     size_t length = 0;
     (void)serve(s->probe, s, now, 0, line, n, answer, &length);
-    (void)geostation_send_shb(s->probe, now, &any, NULL, 0, s->frame, sizeof s->frame, &length);
+    ignore_status(geostation_send_shb(s->probe, now, &any, NULL, 0, s->frame, sizeof s->frame,
+                                      &length));
     if (length != 0 && geostation_read_frame(s->frame, length, &packet) == GEOSTATION_OK) {
         place_take(s->place, &packet.vector, now);
         s->place->told_at = now;

@@ -23,14 +23,14 @@ size_t datagram_verify(char out[DATAGRAM_MAX], uint64_t id, const uint8_t *frame
 size_t datagram_sign(char out[DATAGRAM_MAX], uint64_t id, const uint8_t *frame, size_t length) {
     static const char *const kinds[] = { "", "beacon", "shb", "gbc", "gac" };
     struct geostation_packet packet;
-    (void)geostation_read_frame(frame, length, &packet);
+    ignore_status(geostation_read_frame(frame, length, &packet));
     size_t n = (size_t)sprintf(out, "{\"id\":%" PRIu64 ",\"do\":\"sign\",\"kind\":\"%s\",", id,
                                kinds[packet.kind]);
     if (packet.kind != GEOSTATION_BEACON) {
         n += (size_t)sprintf(out + n, "\"port\":%u,", packet.message.port);
     }
     size_t start, plain_length;
-    (void)geostation_plain_part(frame, length, &start, &plain_length);
+    ignore_status(geostation_plain_part(frame, length, &start, &plain_length));
     n += (size_t)sprintf(out + n, "\"plain\":\"");
     n += hex_write(out + n, frame + start, plain_length);
     return n + (size_t)sprintf(out + n, "\"}");

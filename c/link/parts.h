@@ -41,6 +41,9 @@ __attribute__((format(printf, 1, 2))) void note(const char *format, ...); /* nev
 __attribute__((format(printf, 3, 4))) bool set_fault(struct fault *f, int status,
                                                      const char *format, ...); /* is false */
 
+/* For a call of the library whose outcome is in what it wrote: nothing, if it failed. */
+static inline void ignore_status(int status) { (void)status; }
+
 /* draws.c: random numbers. They spread frames in time and are not secrets. */
 uint16_t draw(void);
 uint32_t draw_below(uint32_t bound); /* 0 to bound - 1; 0 if bound is 0 */

@@ -11,8 +11,8 @@ bool place_is_usable(const struct place *p) { return p->known && p->fix != FIX_L
 
 void place_tell(struct place *p, geostation_handle *s, uint64_t now) {
     p->told_at = now;
-    (void)geostation_move_at(s, now, p->timestamp, p->latitude, p->longitude, p->accurate,
-                             p->speed, p->heading);
+    ignore_status(geostation_move_at(s, now, p->timestamp, p->latitude, p->longitude, p->accurate,
+                                     p->speed, p->heading));
 }
 
 /* To be called before each packet of the station's own. */

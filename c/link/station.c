@@ -44,7 +44,7 @@ void station_open(struct station *s, const struct options *o, uint64_t now) {
     s->address = o->station.address;
     s->last = now;
     /* The first sequence number is random: others would ignore numbers that they remember. */
-    (void)geostation_restart(s->handle, now, draw());
+    ignore_status(geostation_restart(s->handle, now, draw()));
     for (size_t k = 0; k < o->port_count; k++) {
         int status = geostation_open_port(s->handle, now, o->ports[k]);
         if (status != GEOSTATION_OK) {
@@ -63,12 +63,12 @@ void station_change_ports(struct station *s, const struct options *old, const st
     uint64_t now = clock_now();
     for (size_t k = 0; k < old->port_count; k++) {
         if (!has_port(new, old->ports[k])) {
-            (void)geostation_close_port(s->handle, now, old->ports[k]);
+            ignore_status(geostation_close_port(s->handle, now, old->ports[k]));
         }
     }
     for (size_t k = 0; k < new->port_count; k++) {
         if (!has_port(old, new->ports[k])) {
-            (void)geostation_open_port(s->handle, now, new->ports[k]);
+            ignore_status(geostation_open_port(s->handle, now, new->ports[k]));
         }
     }
     s->last = now;
@@ -96,8 +96,8 @@ static void forward(struct station *s, size_t length) {
 static void take_unsecured(struct station *s, const struct received *r) {
     struct geostation_reception got;
     s->last = r->at > s->last ? r->at : s->last;
-    (void)geostation_receive(s->handle, s->last, r->octets, r->length, &got, s->frame,
-                             sizeof s->frame);
+    ignore_status(geostation_receive(s->handle, s->last, r->octets, r->length, &got, s->frame,
+                                     sizeof s->frame));
     forward(s, got.relay_length);
     count_padded(s, r);
     if (got.delivered) {
@@ -112,8 +112,8 @@ void station_take_verified(struct station *s, const uint8_t *frame, size_t lengt
                            const struct answer *a) {
     struct geostation_reception got;
     s->last = clock_now();
-    (void)geostation_receive_verified(s->handle, s->last, frame, length, a->octets, a->length, &got,
-                                      s->frame, sizeof s->frame);
+    ignore_status(geostation_receive_verified(s->handle, s->last, frame, length, a->octets,
+                                              a->length, &got, s->frame, sizeof s->frame));
     forward(s, got.relay_length);
     if (got.delivered) {
         struct text t;
@@ -153,7 +153,7 @@ void station_beacon(struct station *s, uint64_t now) {
     }
     s->last = now;
     place_refresh(s->place, s->handle, now);
-    (void)geostation_tick(s->handle, now, s->jitter, s->frame, sizeof s->frame, &n);
+    ignore_status(geostation_tick(s->handle, now, s->jitter, s->frame, sizeof s->frame, &n));
     if (n != 0) {
         send_beacon(s, n);
         s->jitter = draw_jitter();

@@ -40,7 +40,7 @@ int main(int argc, char **argv) {
         const auto station = factory.Create<StationApplication>();
         nodes.Get(i)->AddApplication(station);
         stream += station->AssignStreams(stream);
-        station->OpenPort(kWarning);
+        station->Check(station->OpenPort(kWarning));
         results.Add(station);
         first = i == 0 ? station : first;
         using Frame = Ptr<const Packet>;

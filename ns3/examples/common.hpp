@@ -79,7 +79,7 @@ class Awareness {
             const auto station = ns3::DynamicCast<geostation::StationApplication>(*it);
             const std::size_t i = stations_.size();
             stations_.push_back(station);
-            station->OpenPort(kAwareness);
+            station->Check(station->OpenPort(kAwareness));
             // A callback that holds a reference to its own station would keep it for ever.
             station->TraceConnectWithoutContext(
                 "Running", ns3::Callback<void, bool>([this, random, i](bool runs) {
@@ -97,7 +97,8 @@ class Awareness {
   private:
     void Send(std::size_t i) {
         if (stations_[i]->IsRunning()) {
-            stations_[i]->SendShb({kAwareness, 0, 2}, {payload_.data(), payload_.size()});
+            const geostation::Octets payload{payload_.data(), payload_.size()};
+            stations_[i]->Check(stations_[i]->SendShb({kAwareness, 0, 2}, payload));
             ns3::Simulator::Schedule(period_, &Awareness::Send, this, i);
         }
     }
@@ -121,8 +122,7 @@ inline void Warn(ns3::Ptr<geostation::StationApplication> station, unsigned radi
     area.longitude = place.longitude;
     area.a = static_cast<std::uint16_t>(radius);
     const std::uint8_t payload[] = {'i', 'c', 'e'};
-    const geostation::Status status = station->SendGbc(area, {payload, sizeof payload});
-    NS_ABORT_MSG_IF(status != geostation::Status::Ok, geostation::text(status));
+    station->Check(station->SendGbc(area, {payload, sizeof payload}));
 }
 
 /// Prints a line for each warning, and one about location tables that were full.

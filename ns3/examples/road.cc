@@ -68,7 +68,7 @@ int main(int argc, char **argv) {
         const auto station = factory.Create<StationApplication>();
         nodes.Get(i)->AddApplication(station);
         stream += station->AssignStreams(stream);
-        station->OpenPort(kWarning);
+        station->Check(station->OpenPort(kWarning));
         stations.Add(station);
     }
     geostation::Results results(range);

@@ -66,7 +66,7 @@ int main(int argc, char **argv) {
         const auto station = DynamicCast<StationApplication>(stations.Get(i));
         const auto &vehicle = moves.GetVehicles()[i];
         stream += station->AssignStreams(stream);
-        station->OpenPort(kWarning);
+        station->Check(station->OpenPort(kWarning));
         results.Add(station, vehicle.id);
         if (vehicle.id == id) {
             warner = station;

@@ -76,6 +76,7 @@ struct Run {
         stations.push_back(station);
     }
 
+    /// Makes a call. It may be refused: `sim` refuses it too.
     void Call(std::size_t i, const std::string &text) {
         std::istringstream words(text);
         std::string call, payload, shape;
@@ -90,21 +91,22 @@ struct Run {
         } else if (call == "open" || call == "close") {
             words >> port;
             const auto number = static_cast<std::uint16_t>(port);
-            call == "open" ? station->OpenPort(number) : station->ClosePort(number);
+            (void)(call == "open" ? station->OpenPort(number) : station->ClosePort(number));
         } else if (call == "restart") {
             unsigned number;
             words >> number;
-            station->Restart(static_cast<std::uint16_t>(number));
+            (void)station->Restart(static_cast<std::uint16_t>(number));
         } else if (call == "tick") {
             unsigned jitter;
             words >> jitter;
-            station->Tick(static_cast<std::uint16_t>(jitter));
+            (void)station->Tick(static_cast<std::uint16_t>(jitter));
         } else if (call == "shb") {
             words >> port >> info >> traffic_class >> payload;
             const auto bytes = Bytes(payload);
-            station->SendShb({static_cast<std::uint16_t>(port), static_cast<std::uint16_t>(info),
-                              static_cast<std::uint8_t>(traffic_class)},
-                             {bytes.data(), bytes.size()});
+            const geostation_shb_request request{static_cast<std::uint16_t>(port),
+                                                 static_cast<std::uint16_t>(info),
+                                                 static_cast<std::uint8_t>(traffic_class)};
+            (void)station->SendShb(request, {bytes.data(), bytes.size()});
         } else {
             unsigned lifetime, hops, a, b, angle;
             geostation_area_request area{};
@@ -124,7 +126,7 @@ struct Run {
             const auto bytes = Bytes(payload);
             const Octets octets{bytes.data(), bytes.size()};
             NS_ABORT_MSG_UNLESS(call == "gbc" || call == "gac", "unknown call: " << text);
-            call == "gbc" ? station->SendGbc(area, octets) : station->SendGac(area, octets);
+            (void)(call == "gbc" ? station->SendGbc(area, octets) : station->SendGac(area, octets));
         }
         NS_ABORT_MSG_IF(words.fail(), "cannot read: " << text);
     }

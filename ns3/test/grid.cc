@@ -55,7 +55,7 @@ int main(int argc, char **argv) {
         nodes.Get(i)->AddApplication(station);
         stream += station->AssignStreams(stream);
         station->SetAttribute("Capacity", UintegerValue(4096));
-        station->OpenPort(kWarning);
+        station->Check(station->OpenPort(kWarning));
         stations.Add(station);
         station->TraceConnectWithoutContext(
             "Received", Callback<void, Ptr<const Packet>, const geostation::Reception &>(

@@ -246,8 +246,10 @@ class Calls(ABC):
             area: The destination area.
             info: Destination port info, 0 to 65535.
             traffic_class: Traffic class byte.
-            lifetime: Lifetime byte: 6 bits of multiplier, 2 bits of base; 0x1a is 60 s.
-            max_hops: Hop limit, 1 to 255.
+            lifetime: Lifetime byte: 6 bits of multiplier, 2 bits of base (0 = 50 ms, 1 = 1 s, 2 =
+                10 s, 3 = 100 s); 0x1a is 60 s.
+            max_hops: Hop limit, 1 to 255. Stations with the default limits do not forward a packet
+                with more than 10 hops left.
 
         Raises:
             OverRate: Own packets are over their rate.

@@ -63,8 +63,10 @@ class Station(Calls):
         capacity: Size of the location table, 1 to 4096.
         remember: Length of each duplicate packet list, 1 to 64.
         mobile: False for a road-side unit.
-        number: Sequence number of the first packet for an area. Choose it at random at each start:
-            other stations remember the numbers from before a restart for 20 s.
+        number: Sequence number of the first packet for an area. Choose it at random at each start,
+            or continue the numbering: other stations remember the last numbers until they have
+            accepted nothing from this address for 20 s. docs/C.md says more ("Sequence numbers
+            after a restart").
         limits: Limits on what is sent. `NO_LIMITS` turns them off.
 
     Raises:

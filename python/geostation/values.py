@@ -37,6 +37,8 @@ class IgnoreReason(IntEnum):
     """A beacon or SHB came from another link address than its source's."""
     DUPLICATE = 4
     """The sequence number is in the duplicate packet list of the source."""
+    REPEATED = 5
+    """The packet was delivered before, within its lifetime: see `deliver_once` of `Limits`."""
 
     def __str__(self) -> str:
         return self.name.lower().replace("_", "-")
@@ -232,7 +234,7 @@ class Packet:
     max_hops: int
     """Maximum hop limit (MHL)."""
     lifetime: int
-    """Lifetime byte: 6 bits of multiplier, 2 bits of base."""
+    """Lifetime byte: 6 bits of multiplier, 2 bits of base (50 ms, 1 s, 10 s, 100 s)."""
     traffic_class: int
     """Traffic class byte."""
     mobile: bool
@@ -265,9 +267,10 @@ class Limits:
     """Own packets. Beacons are not counted."""
     own_burst: int = 50
     hop_cap: int = 10
-    """Packets with more hops left are not forwarded, 0 to 255. 0 is no cap."""
+    """Packets of others with more hops left are not forwarded, 0 to 255. 0 is no cap. The stations
+    that receive this one's packets have such a cap too."""
     deliver_once: bool = True
-    """Whether a GBC or GAC that was delivered is not delivered again."""
+    """Whether a copy of a GBC or GAC that was delivered is ignored: `IgnoreReason.REPEATED`."""
 
     def __post_init__(self) -> None:
         for name in ("forward_rate", "forward_burst", "source_rate", "source_burst"):

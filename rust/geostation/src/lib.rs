@@ -4,8 +4,11 @@
 //! The library has no global state, does no input or output, and reads no clock. You pass in the
 //! time, the position and the received frames. You get payloads, and frames to send.
 //!
-//! - [`Station`] has all calls. Times are in milliseconds and never go back. Coordinates are in 0.1
+//! - [`Station`] has all calls. Times are in milliseconds and never go back. On the air they count
+//!   from 2004-01-01 in TAI: Unix time in ms - 1072915200000 + 5000. Coordinates are in 0.1
 //!   microdegree.
+//! - A frame is an Ethernet frame without its check sequence. The lower 48 bits of a GN address are
+//!   the MAC of the network interface.
 //! - A call that returns an [`Error`] leaves the station unchanged.
 //! - A call that writes a frame needs a [`Buffer`]: a `Vec<u8>` or an array.
 //! - [`read_frame`] reads the fields of a frame, without a station.

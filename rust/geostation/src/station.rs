@@ -30,9 +30,10 @@ pub struct Limits {
     pub own_rate: u32,
     /// Own packets that may be sent at once. Beacons are not counted.
     pub own_burst: u32,
-    /// Packets with more hops left are not forwarded. 0 is no cap.
+    /// Packets of others with more hops left are not forwarded. 0 is no cap. The stations that
+    /// receive this one's packets have such a cap too.
     pub hop_cap: u8,
-    /// Whether a GBC or GAC that was delivered is not delivered again.
+    /// Whether a copy of a GBC or GAC that was delivered is ignored ([`IgnoreReason::Repeated`]).
     pub deliver_once: bool,
 }
 
@@ -82,8 +83,10 @@ pub struct Config {
     pub remember: u8,
     /// Whether its packets say that it is mobile. Set it to `false` for a road-side unit.
     pub mobile: bool,
-    /// Sequence number of its first packet for an area. Choose it at random at each start: other
-    /// stations remember the numbers from before a restart for 20 s.
+    /// Sequence number of its first packet for an area. Choose it at random at each start, or
+    /// continue the numbering: other stations remember the last numbers until they have accepted
+    /// nothing from this address for 20 s. docs/C.md says more ("Sequence numbers after a
+    /// restart").
     pub number: u16,
     /// Limits on what it sends.
     pub limits: Limits,
@@ -140,11 +143,13 @@ pub struct AreaRequest {
     pub port: u16,
     /// The destination port info.
     pub info: u16,
-    /// Traffic class byte.
+    /// Traffic class byte: SCF, channel offload, and 6 bits of traffic class ID.
     pub traffic_class: u8,
-    /// Lifetime byte: 6 bits of multiplier, 2 bits of base.
+    /// Lifetime byte: 6 bits of multiplier, 2 bits of base (0 = 50 ms, 1 = 1 s, 2 = 10 s, 3 = 100
+    /// s).
     pub lifetime: u8,
-    /// Hop limit, from 1.
+    /// Hop limit, from 1. Stations with the default limits do not forward a packet with more than 10
+    /// hops left.
     pub max_hops: u8,
     /// The destination area.
     pub area: Area,
@@ -186,6 +191,9 @@ pub enum IgnoreReason {
     SenderMismatch,
     /// The sequence number of a GBC or GAC is in the duplicate packet list of its source.
     Duplicate,
+    /// The packet was delivered before, within its lifetime (`deliver_once`). A copy has the same
+    /// source, sequence number and time stamp. It is neither delivered nor forwarded.
+    Repeated,
 }
 
 impl fmt::Display for IgnoreReason {
@@ -195,6 +203,7 @@ impl fmt::Display for IgnoreReason {
             IgnoreReason::OwnSource => "own-source",
             IgnoreReason::SenderMismatch => "sender-mismatch",
             IgnoreReason::Duplicate => "duplicate",
+            IgnoreReason::Repeated => "repeated",
         })
     }
 }
@@ -237,7 +246,8 @@ impl<'a> Received<'a> {
                 1 => Some(IgnoreReason::NotForMe),
                 2 => Some(IgnoreReason::OwnSource),
                 3 => Some(IgnoreReason::SenderMismatch),
-                _ => Some(IgnoreReason::Duplicate),
+                4 => Some(IgnoreReason::Duplicate),
+                _ => Some(IgnoreReason::Repeated),
             },
             delivered: (r.delivered != 0).then(|| Message {
                 port: r.port,
