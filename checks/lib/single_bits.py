@@ -1,5 +1,5 @@
 """What becomes of a packet that differs in one bit from a good one, computed from the layout of the
-headers (EN 302 636-4-1 clause 9, EN 302 636-5-1 clause 7) and not from the program.
+headers (EN 302 636-4-1 clause 9, EN 302 636-5-1) and not from the program.
 
 Each header is a table of its fields, in the order of the wire. The first field that is not wholly
 there is G1, and the first one whose value is not allowed has the fault of its row, at the octet in
