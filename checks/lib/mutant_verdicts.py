@@ -3,8 +3,9 @@
 - GOAL, refused: a goal of the mutant's own function is open, or the prover names values for which
   it is false.
 - ANSWER, not decided: what `proofs/` has for the function no longer fits. That says nothing of its
-  contract: the change may be right, and proved as soon as the proof is written for it. Nor does a
-  goal that is open beside an answer whose goal has gone, as it may be that goal with a new name.
+  contract: the change may be right, and proved as soon as the proof is written for it. Nor does an
+  open goal, if there was an answer for the same clause whose goal has another name now, or if the
+  invariants of the function's loops no longer fit.
 - MISSED, not refused: nothing of the function is open, or the prover can't read what was changed.
 - WAITS: the function only waits for another one that isn't proved.
 
@@ -28,17 +29,20 @@ UNREAD = re.compile(r"(\./)?(src|specs)/\S+: error|\S*error\[[\w-]+\]:")
 # Why a proof fails that says nothing of a contract.
 UNCOVERED = "does not cover"
 GONE = re.compile(r"has no field|is not in scope|has no `|was not admitted")
-# What fails in a proof so that an open goal may be one that it would have closed: its goal has another
-# name, or an invariant isn't used.
-UNUSED = re.compile(r"\.Goals` has no `|proofs/.*/Invariants\.antt")
+# What fails in a proof so that an open goal may be one that it would have closed: answers whose goals
+# have other names, or that depend on such a name; invariants, which stand for any goal.
+RENAMED = re.compile(r"error: `([\w-]+)`: .*\.Goals` has no `|(?:was|were) not checked: (.*)")
+INVARIANTS = re.compile(r"proofs/.*/Invariants\.antt")
+NAME_OF_OPEN = re.compile(r" \(`([\w-]+)`\)")
 # Why an answer fails whose goal is false, of which it tells the values.
 FALSE = "the goal fails, at"
 CALLEE = re.compile(r"(?:it (?:calls|passes|waits for)|not made yet: a call of) .*")
 
 
 class Said:
-    """What a check said: of each item its state, its open and its false goals, answers that no longer
-    fit, those of them that aren't used, what says nothing of a contract, and what it waits for."""
+    """What a check said: of each item its state, its open goals and its false ones, answers that no
+    longer fit, the goals of those that aren't used, what says nothing of a contract, and what it waits
+    for."""
 
     def __init__(self, crate: str, lines: list):
         self.state, self.goals, self.false, self.waits = {}, {}, {}, {}
@@ -61,8 +65,8 @@ class Said:
 
     def tell_proof(self, name: str, line: str, text: str):
         """Notes the line of a function's proof. Whether it is an error."""
-        if UNUSED.search(line):
-            self.unused.setdefault(name, line)
+        if "error" in text:
+            self.unused.setdefault(name, set()).update(names_of_unused(line))
         if GONE.search(text):
             kind = self.empty
         elif FALSE in text:
@@ -82,7 +86,7 @@ class Said:
         if UNCOVERED in told[3]:
             self.empty[name] = told[0]
         elif goals:
-            self.goals[name] = goals[0]
+            self.goals[name] = goals
         callee = CALLEE.search(told[3])
         names = re.findall(r"`([^`]*)`", callee[0]) if callee else []
         self.waits[name] = {it.removeprefix(f"{crate}::") if "::" in it else f"{name}::{it}"
@@ -116,9 +120,13 @@ class Said:
         """What a mutant came to, and the line that says so."""
         own = sorted(self.whole(mutant.function))
         uncovered = {it: line for it, line in self.empty.items() if UNCOVERED in line}
-        unused = self.unused if any(it in self.goals for it in own) else {}
-        for kind, lines in ((MISSED, uncovered), (GOAL, self.false), (ANSWER, unused),
-                            (GOAL, self.goals), (MISSED, self.empty), (ANSWER, self.answers)):
+        unused = set().union(*(self.unused.get(it, ()) for it in own))
+        is_open = {it: [line for line in lines if not is_answered(line, unused)]
+                   for it, lines in self.goals.items()}
+        counted = {it: lines[0] for it, lines in is_open.items() if lines}
+        explained = {it: lines[0] for it, lines in self.goals.items()}
+        for kind, lines in ((MISSED, uncovered), (GOAL, self.false), (GOAL, counted),
+                            (ANSWER, explained), (MISSED, self.empty), (ANSWER, self.answers)):
             for name in own:
                 if name in lines:
                     return kind, lines[name]
@@ -126,6 +134,24 @@ class Said:
         if waits:
             return WAITS, f"it waits for {', '.join(sorted(waits))}"
         return MISSED, "no goal of its own is open"
+
+
+def names_of_unused(line: str):
+    """The goals whose answers aren't used because of this error: all, as an empty name, if it is in
+    the invariants."""
+    if INVARIANTS.search(line):
+        return {""}
+    found = RENAMED.search(line)
+    return set((found[1] or found[2]).split(", ")) if found else set()
+
+
+def is_answered(line: str, unused: set):
+    """Whether an open goal may be one of these, or the same clause of the function under a new name."""
+    found = NAME_OF_OPEN.search(line)
+    name = found[1] if found else ""
+    clause = name.rpartition("clause-")[2]
+    same = (it.rpartition("clause-")[2] == clause for it in unused if "clause-" in name)
+    return any(same) or any(name.startswith(it) for it in unused)
 
 
 def wrong_verdicts():
