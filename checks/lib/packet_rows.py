@@ -436,30 +436,3 @@ TABLES = [
     left_over,
     buffer_rows,
 ]
-
-
-def single_bits(packet: bytes) -> list[bytes]:
-    """The packets that differ in one bit from this one, in the order of the wire."""
-    places = range(8 * len(packet))
-    return [with_put(packet, (at // 8, bytes([packet[at // 8] ^ 0x80 >> at % 8]))) for at in places]
-
-
-# Of the geoanycasts that differ in one bit so many are read, are too long for their packet (bit
-# 78, the payload length 4), and have each fault. One bit leads from header type 4 to 5, which is
-# read, and none from 3 to another that is. The geobroadcasts are in checks/station.
-BITS_OF_GAC = {
-    "read": 354,
-    "L4": 1,
-    "L5 G1 at 62": 9,
-    "L5 G2": 4,
-    "L5 G3": 4,
-    "L5 G4": 59,
-    "L5 G6": 3,
-    "L5 G7": 5,
-    "L5 G8": 2,
-    "L5 G9": 8,
-    "L5 G10": 6,
-    "L5 G11": 4,
-    "L5 G12": 37,
-}
-LEFT_OVER_OF_GAC = 78
