@@ -87,7 +87,7 @@ def dumps(document: Mapping[str, Any]) -> str:
 
 
 def _key_of(path: str, place: Any, part: str) -> Any:
-    """Returns the key or index that a part of a path names. Raises `StudyError` if there is none."""
+    """Returns the key or index that a part of a path names. Raises `StudyError` if it isn't there."""
     if isinstance(place, list):
         if not (part.isascii() and part.isdigit()) or int(part) >= len(place):
             raise StudyError(f"{path}: {part} is not a number from 0 to {len(place) - 1}")

@@ -259,7 +259,7 @@ class _Plan:
         return Input.of(self.out / name), f"../{name}", always
 
     def _traces_of(self, point: Point) -> Optional[Input]:
-        """Returns the traces of a run as the program reads them, or `None` if there are none."""
+        """Returns the traces of a run as the program reads them, or `None` without traces."""
         if not self.study.moves:
             return None
         name = str(point.get(MOVES) or self.study.moves[0])
