@@ -6,7 +6,9 @@
 #include "geostation-ns3.hpp"
 
 #include "ns3/application-container.h"
+#include "ns3/boolean.h"
 #include "ns3/node-container.h"
+#include "ns3/object-base.h"
 #include "ns3/object-factory.h"
 #include "ns3/waypoint-mobility-model.h"
 #include "ns3/waypoint.h"
@@ -17,24 +19,45 @@
 #include <istream>
 #include <map>
 #include <string>
+#include <utility>
 #include <vector>
 
 namespace geostation {
 
 /// Reads vehicles from CSV, in the columns `at,id,lat,lon` (ms and 0.1 microdegree) or in those
-/// that SUMO's `xml2csv.py` writes for `--fcd-output.geo`. Fields are not quoted. Between two rows
-/// a vehicle moves on a straight line.
-class MovesHelper {
+/// that SUMO's `xml2csv.py` writes for `--fcd-output.geo`. Fields are not quoted.
+///
+/// The attribute `Interpolate` says where a vehicle is between two rows: on the straight line between
+/// them, or at the position of the first one, as in `sim`. It is read when a helper is made. So set it
+/// before, by `Config::SetDefault` or on the command line.
+class MovesHelper : public ns3::ObjectBase {
   public:
-    /// A vehicle is there from its first row until `gone` after its last row.
+    /// A vehicle is there from its first row until `gone` after its last row. Without `Interpolate`
+    /// it leaves before the events of that time, as in `sim`.
     struct Vehicle {
         std::string id;
         ns3::Time from, to;
     };
 
+    static ns3::TypeId GetTypeId() {
+        static const ns3::TypeId id =
+            ns3::TypeId("geostation::MovesHelper")
+                .SetParent<ns3::ObjectBase>()
+                .SetGroupName("geostation")
+                .AddAttribute("Interpolate",
+                              "Whether a vehicle moves on a straight line between two rows. "
+                              "Otherwise it jumps at each row, as in sim.",
+                              ns3::BooleanValue(true),
+                              ns3::MakeBooleanAccessor(&MovesHelper::interpolates_),
+                              ns3::MakeBooleanChecker());
+        return id;
+    }
+    ns3::TypeId GetInstanceTypeId() const override { return GetTypeId(); }
+
     /// Reads a file from `begin` on, which is the time 0 of ns-3, to `begin` + `until`.
     MovesHelper(const std::string &file, ns3::Time begin, ns3::Time until,
                 ns3::Time gone = ns3::Seconds(1)) {
+        ConstructSelf(ns3::AttributeConstructionList());
         std::ifstream in(file);
         NS_ABORT_MSG_UNLESS(in, "cannot read " << file);
         Read(in, begin, until, gone);
@@ -64,6 +87,9 @@ class MovesHelper {
     }
 
   private:
+    // The shortest time of ns-3.
+    static ns3::Time Instant() { return ns3::NanoSeconds(1); }
+
     static bool Split(std::istream &in, char separator, std::vector<std::string> &fields) {
         std::string line;
         fields.assign(1, "");
@@ -119,11 +145,23 @@ class MovesHelper {
                 nodes_.Add(node);
                 vehicles_.push_back({row[id], moment, moment});
             }
-            vehicles_[entry->second].to = moment + gone;
-            nodes_.Get(entry->second)
-                ->GetObject<ns3::WaypointMobilityModel>()
-                ->AddWaypoint(ns3::Waypoint(moment, plane_.ToPoint(place)));
+            vehicles_[entry->second].to = moment + gone - (interpolates_ ? ns3::Time(0) : Instant());
+            AddRow(nodes_.Get(entry->second), moment, plane_.ToPoint(place));
         }
+    }
+
+    // Without `Interpolate` a vehicle stays where it is until the instant before the row.
+    void AddRow(const ns3::Ptr<ns3::Node> &node, ns3::Time moment, const ns3::Vector &point) {
+        const auto way = node->GetObject<ns3::WaypointMobilityModel>();
+        const auto last = last_.find(node->GetId());
+        if (last != last_.end() && !interpolates_) {
+            const auto &[since, held] = last->second;
+            if (moment - since > Instant()) {
+                way->AddWaypoint(ns3::Waypoint(moment - Instant(), held));
+            }
+        }
+        way->AddWaypoint(ns3::Waypoint(moment, point));
+        last_.insert_or_assign(node->GetId(), std::make_pair(moment, point));
     }
 
     // Returns `;` if the first line has one, and otherwise `,`.
@@ -135,10 +173,14 @@ class MovesHelper {
         return line.find(';') == std::string::npos ? ',' : ';';
     }
 
+    bool interpolates_ = true;
     ns3::NodeContainer nodes_;
     std::vector<Vehicle> vehicles_;
     Plane plane_;
+    // The last row of each node: its time and position.
+    std::map<std::uint32_t, std::pair<ns3::Time, ns3::Vector>> last_;
 };
+NS_OBJECT_ENSURE_REGISTERED(MovesHelper);
 
 } // namespace geostation
 

@@ -17,7 +17,11 @@
 
   const map = new geostation.map.RunMap(byId('map'), byId('canvas'), byId('streets'), toggleStation,
     showFrame);
-  const timeline = new geostation.timeline.Timeline(go, stepBy);
+  const timeline = new geostation.timeline.Timeline(go, stepBy, (warning) => {
+    chooseSend(warning);
+    sends.mark(warning + 1);
+    go(state.sends[warning].event);
+  });
   const strip = new geostation.strip.Strip();
   const events = new geostation.list.List(byId('events'),
     (row) => rows.entry(state, placeOfRow(row)), (row) => {
@@ -41,8 +45,15 @@
     byId('totals').textContent = text;
   }
 
+  /** Opens a file, and keeps that it is being read. @param {Blob} blob */
+  function open(blob, name) {
+    const work = openNow(blob, name);
+    state.reading = Promise.allSettled([state.reading, work]);
+    return work;
+  }
+
   /** Opens a file. If it can't be read, a sentence says why. @param {Blob} blob */
-  async function open(blob, name) {
+  async function openNow(blob, name) {
     state.opening += 1;
     const mine = state.opening;
     byId('fault').hidden = true;
@@ -96,7 +107,6 @@
     byId('name').textContent = name;
     for (const id of ['station', 'kind', 'result']) byId(id).value = '';
     byId('load').title = '';
-    byId('station').max = String(Math.max(0, run.stations.length - 1));
     byId('all').hidden = true;
     byId('away').hidden = !run.presence.isTold;
     showTotals();
@@ -275,15 +285,29 @@
     if (miss.event !== undefined) go(miss.event);
   }
 
+  /** What the map shows: the run, the time and the warning. */
+  function caption() {
+    const {run, at, note, chosen} = state;
+    const now = note !== undefined ? run.noteMoment(note)
+      : run.events.length > 0 ? run.moment(at) : undefined;
+    const sender = chosen && run.name(run.events.at(chosen.event).station);
+    return [state.name, ...(now === undefined ? [] : [`at ${now} ms`]),
+      chosen ? `warning of station ${sender}, sent at ${run.moment(chosen.event)} ms`
+        : 'all frames'].join(' · ');
+  }
+
   function drawMap() {
-    map.show(geostation.scene.scene(state, {...LIMITS, isRange: byId('range').checked}));
+    const boxes = document.querySelectorAll('[data-arc]:checked');
+    const arcs = new Set(Array.from(boxes, ({dataset}) => dataset.arc));
+    map.show(geostation.scene.scene(state, {...LIMITS, isRange: byId('range').checked, arcs}));
   }
 
   /** Shows the load of the chosen station or of all, which is worked out once, in turns. */
   function showLoad() {
     const {run, station, loads} = state;
     state.repeats = load.repeats(run, station);
-    strip.show(run.times, loads.get(station), timeline.speed);
+    const who = station === undefined ? undefined : run.name(station);
+    strip.show(run.times, loads.get(station), timeline.speed, who);
     showPresentLoad();
     if (loads.has(station)) return;
     const turns = load.inTurns(run, station);
@@ -330,7 +354,7 @@
   /** Lists a station's events, or all again. @param {number | undefined} station */
   function chooseStation(station) {
     state.station = station;
-    byId('station').value = station === undefined ? '' : String(station);
+    byId('station').value = station === undefined ? '' : state.run.name(station);
     listEvents();
     showLoad();
     drawMap();
@@ -359,13 +383,19 @@
     byId('zoom-in').addEventListener('click', () => map.zoom(1.5));
     byId('zoom-out').addEventListener('click', () => map.zoom(1 / 1.5));
     byId('zoom-fit').addEventListener('click', () => map.fit());
-    byId('save').addEventListener('click', () =>
-      geostation.saving.save(map, `${state.name}.svg`));
-    byId('range').addEventListener('change', drawMap);
+    byId('save').addEventListener('click', async () => {
+      // A street net that is still being read belongs to the picture.
+      await state.reading;
+      geostation.saving.save(map, `${state.name}.svg`, caption());
+    });
+    for (const box of document.querySelectorAll('.legend input')) {
+      box.addEventListener('change', drawMap);
+    }
     byId('all').addEventListener('click', showAll);
     byId('station').addEventListener('input', () => {
-      const number = byId('station').value === '' ? -1 : Number(byId('station').value);
-      chooseStation(state.run.stations[number] ? number : undefined);
+      const typed = byId('station').value;
+      chooseStation(state.run.find(typed.trim()));
+      byId('station').value = typed;
     });
     for (const name of ['kind', 'result']) {
       const options = filter[`${name.toUpperCase()}S`].map((word) => new Option(word, word));

@@ -96,11 +96,13 @@
       const colour = pixelOf(this.colours.idle);
       const {xs, ys} = this;
       this.pixels.fill(0);
-      this.away = 0;
+      [this.away, this.expected] = [0, 0];
       for (let i = 0; i < xs.length; i += 1) {
+        const presence = this.presenceOf(i);
+        if (presence === 'expected') this.expected += 1;
         if (roles.has(i)) continue;
-        if (this.isAway(i)) {
-          this.away += 1;
+        if (presence !== 'there') {
+          this.away += presence === 'left' ? 1 : 0;
           continue;
         }
         this.square(Math.round(xs[i] * dense), Math.round(ys[i] * dense), half, colour);
@@ -109,9 +111,14 @@
     }
 
     /** @param {number} station */
-    isAway(station) {
+    presenceOf(station) {
       const {at, noted} = this.scene;
-      return this.hasPresence && !this.run.presence.isThere(station, noted, at);
+      return this.hasPresence ? this.run.presence.stateOf(station, noted, at) : 'there';
+    }
+
+    /** @param {number} station */
+    isAway(station) {
+      return this.presenceOf(station) !== 'there';
     }
 
     /** Fills a square of the picture, as far as it lies inside. */
@@ -142,8 +149,9 @@
       for (const role of ROLES) {
         const path = new Path2D(shape.markPath(shape.markOf(role), size));
         for (const [i, words] of roles) {
-          if (words !== role) continue;
-          context.globalAlpha = this.isAway(i) ? FAINT : 1;
+          const presence = this.presenceOf(i);
+          if (words !== role || presence === 'expected') continue;
+          context.globalAlpha = presence === 'left' ? FAINT : 1;
           this.mark(i, path, role);
         }
       }
@@ -152,25 +160,36 @@
       if (chosen !== undefined) this.ring(chosen, radius + 5, colours.chosen, 3);
     }
 
-    /** The names of the stations in sight, where these are few. */
+    /** The names of the stations in sight, where these are few, and as far as they have room. */
     drawNames() {
-      const {context, colours, radius, run} = this;
+      const {context, colours, run} = this;
       const at = {x: 0, y: 0};
       const placeOf = (i) => {
         [at.x, at.y] = [this.xs[i], this.ys[i]];
-        return at;
+        return this.isAway(i) ? undefined : at;
       };
       this.named = names.inSight(this.xs.length, placeOf, this.map.box);
+      const places = names.placed((this.named ?? []).map((i) => this.itemOf(i)));
+      this.unnamed = (this.named?.length ?? 0) - places.size;
       context.font = '600 11px system-ui, sans-serif';
       context.textAlign = 'center';
-      for (const i of this.named ?? []) {
-        if (this.isAway(i)) continue;
+      for (const [i, {x, y}] of places) {
         context.lineWidth = 3;
         context.strokeStyle = colours.ground;
-        context.strokeText(run.name(i), this.xs[i], this.ys[i] - radius - 6);
+        context.strokeText(run.name(i), x, y + 3.8);
         context.fillStyle = colours.active;
-        context.fillText(run.name(i), this.xs[i], this.ys[i] - radius - 6);
+        context.fillText(run.name(i), x, y + 3.8);
       }
+    }
+
+    /** A station as `names.js` places its name. @param {number} station */
+    itemOf(station) {
+      const {active, chosen, roles} = this.scene;
+      const words = [roles.get(station) ?? '', station === active ? 'active' : '',
+        station === chosen ? 'chosen' : ''];
+      const size = roles.has(station) ? Math.max(LEAST_MARK, 1.5 * this.radius) : this.radius;
+      return {station, text: this.run.name(station), x: this.xs[station], y: this.ys[station],
+        radius: size, role: words.join(' ')};
     }
 
     /** @param {number} index of a station @param {Path2D} path @param {string} role */
@@ -242,9 +261,10 @@
 
     unseen() {
       const {length} = this.run.stations;
-      const parts = this.named ? 'trails' : 'numbers and trails';
+      const parts = this.named ? 'trails' : 'names and trails';
       const away = this.away > 0 ? [`${grouped(this.away)} stations that are away`] : [];
-      return [...away, `the ${parts} of ${grouped(length)} stations`];
+      return [...names.notCome(this.expected), ...away, ...names.leftOut(this.unnamed),
+        `the ${parts} of ${grouped(length)} stations`];
     }
 
     clear() {

@@ -62,6 +62,41 @@
     return Math.max(0, countUpTo(times, moment) - 1);
   }
 
+  /** The least of 1, 2 and 5 times a power of ten that is not below a length, at least 1. */
+  function roundStep(length) {
+    const power = 10 ** Math.max(0, Math.floor(Math.log10(length)));
+    return [1, 2, 5, 10].map((times) => times * power).find((step) => step >= length) ?? 1;
+  }
+
+  /** A moment in seconds. @param {number} moment in milliseconds @param {number} digits */
+  function seconds(moment, digits) {
+    return `${(moment / 1000).toFixed(digits)} s`;
+  }
+
+  /**
+   * The marks of the axis below the slider: where each lies, from 0 to 1, and its time.
+   * @param {Float64Array} times @param {Speed} speed @param {number} most marks there is room for
+   * @returns {{part: number, text: string}[]}
+   */
+  function ticks(times, speed, most) {
+    if (times.length < 2 || most < 1) return [];
+    const [first, last, whole] = [times[0], times[times.length - 1], span(times)];
+    if (speed.by === 'events' || whole === 0) {
+      const count = Math.max(1, Math.min(Math.floor(most) - 1, times.length - 1));
+      return Array.from({length: count + 1}, (_, i) => {
+        const at = Math.round((i * (times.length - 1)) / count);
+        return {part: fraction(times, at, speed), text: seconds(times[at], 3)};
+      });
+    }
+    const step = roundStep(whole / most);
+    const digits = Math.max(0, Math.ceil(3 - Math.log10(step)));
+    const found = [];
+    for (let moment = step * Math.ceil(first / step); moment <= last; moment += step) {
+      found.push({part: fractionOf(times, moment, speed), text: seconds(moment, digits)});
+    }
+    return found;
+  }
+
   /** What plays: it is moved on by the milliseconds that went by, and tells the event. */
   class Clock {
     /** @param {Float64Array} times @param {number} at the event it starts from */
@@ -105,5 +140,5 @@
     return digits === undefined ? undefined : Number(digits);
   }
 
-  geostation.clock = {STEPS, speed, span, fraction, fractionOf, eventAt, Clock, eventOf};
+  geostation.clock = {STEPS, speed, span, fraction, fractionOf, eventAt, ticks, Clock, eventOf};
 })(globalThis.geostation ??= {});

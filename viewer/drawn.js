@@ -34,37 +34,38 @@
     makeStation(index, radius) {
       const d = shape.markPath('circle', radius);
       const dot = svg('path', {class: 'station', d, 'data-station': index});
-      const {id, address} = this.run.stations[index];
       const title = svg('title');
-      title.textContent = `station ${index}${id === undefined ? '' : `, ${id}`}, ${address}`;
+      title.textContent = `station ${this.run.name(index)}, ${this.run.stations[index].address}`;
       dot.append(title);
       return {dot, radius, mark: 'circle', trail: undefined, place: undefined, role: '', x: 0,
-        y: 0};
+        y: 0, isShown: true};
     }
 
     /** @param {any} scene @param {boolean} isAnew whether all moves on the screen */
     draw(scene, isAnew) {
       this.scene = scene;
+      this.expected = 0;
       this.stations.forEach((station, index) => this.drawStation(station, index, isAnew));
       this.drawLabels();
       this.drawLinks();
     }
 
-    /** The numbers and names of the stations in sight, where these are few. */
+    /** The names of the stations in sight, where these are few, and as far as they have room. */
     drawLabels() {
       const {stations, map, run} = this;
-      this.labelled = names.inSight(stations.length, (i) => stations[i], map.box);
+      const placeOf = (i) => (stations[i].isShown ? stations[i] : undefined);
+      this.labelled = names.inSight(stations.length, placeOf, map.box);
+      const items = (this.labelled ?? []).map((station) =>
+        ({...stations[station], station, text: run.name(station)}));
+      const places = names.placed(items);
+      this.unnamed = items.length - places.size;
       this.labels.begin();
-      for (const index of this.labelled ?? []) {
-        const {x, y, radius, role} = stations[index];
-        const isInside = radius >= 8;
-        const [number, name] = this.labels.next().children;
-        const at = {x: x.toFixed(1), y: y.toFixed(1)};
-        const beside = isInside ? '' : 'beside ';
-        set(number, {...at, dy: isInside ? 3.8 : radius + 12, class: `label ${beside}${role}`});
-        set(name, {...at, dy: -radius - 5, class: `place-name ${role}`});
-        write(number, isInside || run.stations[index].id === undefined ? String(index) : '');
-        write(name, run.stations[index].id ?? '');
+      for (const [station, {x, y, isInside}] of places) {
+        const label = this.labels.next();
+        const kind = isInside ? 'label' : 'place-name';
+        set(label, {x: x.toFixed(1), y: (y + 3.8).toFixed(1),
+          class: `${kind} ${stations[station].role}`});
+        write(label, run.name(station));
       }
       this.labels.finish();
     }
@@ -80,13 +81,24 @@
         station.dot.setAttribute('transform', `translate(${x} ${y})`);
         this.drawTrail(station, index);
       }
-      const isThere = this.run.presence.isThere(index, noted, at);
+      const presence = this.run.presence.stateOf(index, noted, at);
+      this.showStation(station, presence !== 'expected');
       const role = [roles.get(index) ?? '', index === active ? 'active' : '',
-        index === chosen ? 'chosen' : '', isThere ? '' : 'away'].join(' ');
+        index === chosen ? 'chosen' : '', presence === 'there' ? '' : 'away'].join(' ');
       if (role === station.role) return;
       station.role = role;
       station.dot.setAttribute('class', `station ${role}`);
       this.drawMark(station);
+    }
+
+    /** Hides a station that has not come, with its trail. @param {any} station */
+    showStation(station, isShown) {
+      if (!isShown) this.expected += 1;
+      if (isShown === station.isShown) return;
+      station.isShown = isShown;
+      for (const part of [station.dot, station.trail]) {
+        if (part) part.style.display = isShown ? '' : 'none';
+      }
     }
 
     /** Gives a station the mark of its role. The sender lies above the others. */
@@ -150,7 +162,9 @@
     /** What isn't drawn of a run. */
     unseen() {
       const {length} = this.run.stations;
-      return this.labelled ? [] : [`the numbers of ${grouped(length)} stations`];
+      const parts = this.labelled ? names.leftOut(this.unnamed)
+        : [`the names of ${grouped(length)} stations`];
+      return [...names.notCome(this.expected), ...parts];
     }
 
     clear() {
@@ -175,11 +189,9 @@
     return defs;
   }
 
-  /** A station's number, and its name. */
+  /** The name of a station. */
   function makeLabel() {
-    const group = svg('g');
-    group.append(svg('text'), svg('text'));
-    return group;
+    return svg('text');
   }
 
   /** @param {Element} element @param {string} text */

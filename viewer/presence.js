@@ -33,14 +33,24 @@
      * @param {number} station @param {number} noted how many notes @param {number} at the event
      */
     isThere(station, noted, at) {
+      return this.stateOf(station, noted, at) === 'there';
+    }
+
+    /**
+     * Whether a station is present, has left, or has not come until then. The arguments are those of
+     * `isThere`.
+     * @returns {'there' | 'left' | 'expected'}
+     */
+    stateOf(station, noted, at) {
       const {starts, members} = this.changes;
       const [from, to] = [starts[station], starts[station + 1]];
       if (from === to) {
-        return this.stations[station].born <= Math.max(0, at) && !this.never.has(station);
+        const isThere = this.stations[station].born <= Math.max(0, at) && !this.never.has(station);
+        return isThere ? 'there' : 'expected';
       }
       const next = countUpTo(members, noted - 1, to, from);
-      if (next === from) return this.notes.is(members[from], 'left');
-      return this.notes.is(members[next - 1], 'came');
+      if (next === from) return this.notes.is(members[from], 'left') ? 'there' : 'expected';
+      return this.notes.is(members[next - 1], 'came') ? 'there' : 'left';
     }
   }
 

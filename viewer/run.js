@@ -41,6 +41,8 @@
       this.notes = new Notes();
       /** @type {Air | undefined} */
       this.air = undefined;
+      /** The station of each id, once all are there. @type {Map<string, number>} */
+      this.ids = new Map();
       /** The lines of `--summary` behind the run, by the event of their send. */
       this.summaries = new Map();
     }
@@ -57,6 +59,7 @@
       this.notesOf = new Groups(notes.station.values, most, notes.length);
       this.times = risingTimes(events);
       this.entries = new geostation.entries.Entries(events, notes);
+      this.ids = new Map(stations.map(({id}, i) => [id, i]).filter(([id]) => id !== undefined));
       this.presence = new geostation.presence.Presence(this);
       geostation.presence.findNever(this);
       return this;
@@ -112,9 +115,20 @@
       return this.presence.isThere(station, this.entries.notesUpTo(at), at);
     }
 
-    /** The name that a station is shown by. @param {number} station */
+    /**
+     * The name that a station is shown by everywhere: its id, or otherwise its number. A number that
+     * is the id of another station has a sign in front.
+     * @param {number} station
+     */
     name(station) {
-      return this.stations[station]?.id ?? String(station);
+      const number = String(station);
+      return this.stations[station]?.id ?? (this.ids.has(number) ? `#${number}` : number);
+    }
+
+    /** The station of a name. @param {string} name @returns {number | undefined} */
+    find(name) {
+      const station = this.ids.get(name) ?? (/^#?\d+$/.test(name) ? Number(name.replace('#', '')) : -1);
+      return this.stations[station] && this.name(station) === name ? station : undefined;
     }
   }
 

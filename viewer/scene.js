@@ -10,6 +10,10 @@
   /** How long a frame stays on the map where no send is chosen, in milliseconds. */
   const AFTERGLOW = 20;
   const MOST_AREAS = 8;
+  /** The kinds of arcs that the legend has, and the kinds of links of each. */
+  const ARCS = {accepted: 'accepted', duplicate: 'ignored', other: 'ignored', refused: 'refused',
+    lost: 'lost'};
+  const ALL_ARCS = new Set(Object.values(ARCS));
 
   /** How an event is coloured and a delivery is drawn. @param {import('./run.js').Event} event */
   function kindOf(event) {
@@ -42,24 +46,37 @@
    * along its path have room first: the ones that stations accepted. Then come lost frames and the
    * latest others. The path is drawn last, above the others.
    */
-  function ofSend(state, most) {
-    const {run, at, deliveries, chosen, path} = state;
-    const end = countUpTo(deliveries, at);
-    const first = path.events.subarray(0, countUpTo(path.events, at));
+  function ofSend(state, most, arcs) {
+    const {run, at, chosen, path} = state;
+    const deliveries = shownOf(state, arcs);
+    const isPath = arcs.has('accepted');
+    const first = isPath ? path.events.subarray(0, countUpTo(path.events, at)) : new Int32Array(0);
     const given = chosen.numbers.filter((frame) => run.frames.giver.values[frame] <= at);
-    const gone = given.flatMap((frame) => lost(run, frame, at));
+    const gone = arcs.has('lost') ? given.flatMap((frame) => lost(run, frame, at)) : [];
     const along = ofPath(path, first, most);
     const room = most - along.length;
     const lostLinks = gone.slice(Math.max(0, gone.length - room));
-    const others = latest(deliveries, end, new Set(first), room - lostLinks.length);
+    const others = latest(deliveries, new Set(first), room - lostLinks.length);
     const links = [...others, ...along].map((index) => delivered(run, index, at));
-    return {links: [...lostLinks, ...links], count: gone.length + end};
+    return {links: [...lostLinks, ...links], count: gone.length + deliveries.length};
+  }
+
+  /** The deliveries of the chosen send so far whose arcs are shown. */
+  function shownOf({run, at, deliveries}, arcs) {
+    const all = deliveries.subarray(0, countUpTo(deliveries, at));
+    if (arcs.size === ALL_ARCS.size) return all;
+    return all.filter((index) => arcs.has(arcOf(run.events.at(index))));
+  }
+
+  /** The kind of arc of a delivery. @param {import('./run.js').Event} event */
+  function arcOf(event) {
+    return ARCS[kindOf(event).split(' ')[0]];
   }
 
   /** The latest deliveries of some that aren't along the path, in the order of the run. */
-  function latest(deliveries, end, path, most) {
+  function latest(deliveries, path, most) {
     const found = [];
-    for (let i = end - 1; i >= 0 && found.length < most; i -= 1) {
+    for (let i = deliveries.length - 1; i >= 0 && found.length < most; i -= 1) {
       if (!path.has(deliveries[i])) found.push(deliveries[i]);
     }
     return found.reverse();
@@ -79,7 +96,7 @@
   }
 
   /** The frames of the last moments, of any kind. */
-  function ofAll(state, most) {
+  function ofAll(state, most, arcs) {
     const {run, at} = state;
     const {events} = run;
     const found = [];
@@ -88,7 +105,8 @@
       if (Math.abs(events.moment.values[at] - events.moment.values[i]) > AFTERGLOW) break;
       const sent = events.sent.values[i];
       const gone = sent < 0 ? [] : lost(run, sent, at);
-      const links = [...gone, ...(events.isDelivery(i) ? [delivered(run, i, at)] : [])];
+      const links = [...gone, ...(events.isDelivery(i) ? [delivered(run, i, at)] : [])]
+        .filter((link) => !link || arcs.has(ARCS[link.kind]));
       count += links.length;
       if (found.length < most) found.push(...links);
     }
@@ -131,19 +149,20 @@
 
   /**
    * @param {any} state of the page
-   * @param {{links: number, circles: number, isRange: boolean}} limits
+   * @param {{links: number, circles: number, isRange: boolean, arcs?: Set<string>}} limits the arcs
+   *   are the kinds that are shown, all without it
    */
-  function scene(state, {links: most, circles: mostCircles, isRange}) {
+  function scene(state, {links: most, circles: mostCircles, isRange, arcs = ALL_ARCS}) {
     const {run, at, note, station, chosen, steps, judgement} = state;
     const isEmpty = run.events.length === 0;
     const {links, count} = isEmpty ? {links: [], count: 0}
-      : chosen ? ofSend(state, most) : ofAll(state, most);
+      : chosen ? ofSend(state, most, arcs) : ofAll(state, most, arcs);
     const shown = links.filter((link) => link).slice(-most);
     const rings = isRange && !isEmpty ? circles(state) : [];
     const unseen = [];
     if (count > shown.length) {
       unseen.push(`${grouped(count - shown.length)} of ` +
-        `${grouped(count)} frames`);
+        `${grouped(count)} arcs`);
     }
     if (rings.length > mostCircles) unseen.push(`${rings.length - mostCircles} circles`);
     const noted = note === undefined ? run.entries.notesTold(at) : note + 1;

@@ -9,10 +9,14 @@
   const MOST_MARKS = 400;
 
   class Timeline {
-    /** @param {(at: number) => void} go to an event @param {(step: number) => void} stepBy */
-    constructor(go, stepBy) {
+    /**
+     * @param {(at: number) => void} go to an event @param {(step: number) => void} stepBy
+     * @param {(warning: number) => void} pick the mark of a warning was clicked
+     */
+    constructor(go, stepBy, pick) {
       this.go = go;
       this.stepBy = stepBy;
+      this.pick = pick;
       this.playing = false;
       this.times = new Float64Array(0);
       this.marked = [];
@@ -59,13 +63,17 @@
       const {length} = this.marked;
       const every = Math.ceil(length / MOST_MARKS);
       byId('marks').title = every > 1 ? `One of ${every} among ${length} warnings is marked` : '';
-      const marks = this.marked.filter((_, i) => i % every === 0).map(({event, name}) => {
+      const numbered = this.marked.map((mark, number) => ({...mark, number}));
+      const marks = numbered.filter((_, i) => i % every === 0).map(({event, name, number}) => {
         const mark = element('button', 'mark');
         mark.type = 'button';
         mark.tabIndex = -1;
         mark.title = name;
         mark.style.left = `${100 * clock.fraction(this.times, event, this.speed)}%`;
-        mark.addEventListener('click', () => this.step(event - this.at, event));
+        mark.addEventListener('click', () => {
+          this.pause();
+          this.pick(number);
+        });
         return mark;
       });
       byId('marks').replaceChildren(...marks);
@@ -89,11 +97,10 @@
       this.slider.value = String(Math.round(part * clock.STEPS));
     }
 
-    /** @param {number} by @param {number} [to] an event */
-    step(by, to) {
+    /** @param {number} by */
+    step(by) {
       this.pause();
-      if (to === undefined) this.stepBy(by);
-      else this.go(to);
+      this.stepBy(by);
     }
 
     toggle() {

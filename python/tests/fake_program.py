@@ -1,8 +1,9 @@
 """Stands for the program `geostation` in tests of studies: it is quick, and fails when told to.
 
 Of ten stations inside, one in ten percent of loss is missed, and as many as the remainder of the
-seed by three. A loss of 97 sends nothing, 98 ends with status 3, 99 by a signal, and 96 with a bad
-row of moves. Rows that come through a pipe are counted as frames.
+seed by three. With an `until` of 7 odd seeds have a warning: a full location table. A loss of 97
+sends nothing, 98 ends with status 3, 99 by a signal, and 96 with a bad row of moves. Rows that come
+through a pipe are counted as frames. Station 0 of two is busy 100 times the seed.
 """
 
 import json
@@ -36,6 +37,11 @@ def main(words):
     write(words, "--sends", [SENDS, *([] if loss == 97 else [sent])])
     head = "second,stations,frames,octets,busy_p50,busy_p95,busy_most"
     write(words, "--load", [head, f"0,10,1,76,1,2,{seed}"])
+    head = "station,id,sent,heard,lost,busy,busiest"
+    write(words, "--stations", [head, f"0,a,4,10,{loss},{100 * seed},7", "1,b,2,20,0,0,0"])
+    if sets.get("until") == "7" and seed % 2:
+        full = "7 receptions met a full location table: raise capacity (least 1)"
+        print(f"geostation: {full}", file=sys.stderr)
     if loss == 96:
         print("geostation: moves: line 7: lat", file=sys.stderr)
         return 1

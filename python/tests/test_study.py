@@ -14,11 +14,12 @@ import subprocess
 import sys
 import tempfile
 import unittest
+import warnings
 from concurrent.futures import Executor, Future, ThreadPoolExecutor
 from pathlib import Path
 from unittest import mock
 
-from geostation.study import Study, StudyError, load
+from geostation.study import Study, StudyError, StudyWarning, load
 from geostation.study import __main__ as command
 from geostation.study import files, jobs, parameters, scenario, statistics, traces
 
@@ -260,7 +261,7 @@ class Sweeps(Folder):
         self.assertEqual(record["program"]["version"], "geostation 0.0.0")
         self.assertEqual(record["seeds"], [4])
         self.assertEqual(record["parameters"], {"loss": [0, 20]})
-        self.assertEqual(record["scenario"]["air"], {"range": 250})
+        self.assertEqual(record["scenarios"][0]["air"], {"range": 250})
         run = json.loads((list(runs)[1].folder / "run.json").read_text())
         self.assertEqual(run["air"], {"range": 250, "loss": 20, "seed": 4})
         # The command is one that a shell runs, in the folder of the run.
@@ -279,6 +280,67 @@ class Sweeps(Folder):
         self.assertEqual(sorted(c["event"][0]["hops"] for c in copies), [1, 5])
         self.assertEqual([c["moves"] for c in copies], [{"capacity": 64}] * 2)
         self.assertEqual([row["event.0.hops"] for row in runs.rows()], [1, 5])
+
+    @needs_toml
+    def test_a_star_changes_each_entry_that_has_the_key(self):
+        second = '\n[[event]]\nid = "6"\nat = 1\ndo = "open"\nport = 1\n'
+        third = '\n[[event]]\nid = "7"\nat = 30000\ndo = "gac"\nhops = 3\n'
+        self.scenario.write_text(SCENARIO + second + third)
+        runs = self.sweep(**{"event.*.hops": [1, 5]})
+        copies = [scenario.loads(p.read_text()) for p in (self.out / "scenarios").iterdir()]
+        hops = sorted([e.get("hops") for e in c["event"]] for c in copies)
+        self.assertEqual(hops, [[1, None, 1], [5, None, 5]])
+        self.assertEqual([row["event.*.hops"] for row in runs.rows()], [1, 5])
+
+    def test_tied_parameters_change_together(self):
+        given = {"loss": [0, 20, 20], "range": [250, 250, 400]}
+        runs = self.sweep(**given, until=[5, 6], seeds=2, tied=("loss", "range"))
+        points = [tuple(run.parameters.values()) for run in runs]
+        pairs = [(0, 250), (20, 250), (20, 400)]
+        wanted = [(*pair, until, seed) for pair in pairs for until in (5, 6) for seed in (1, 2)]
+        self.assertEqual(points, wanted)
+        self.assertEqual(runs.record["tied"], [("loss", "range")])
+        # A loss of 20 goes with two ranges: its mean would mix them. Each pair is one.
+        with self.assertRaisesRegex(StudyError, "range has several values"):
+            runs.summary_rows("reached", by="loss", where={"until": 5})
+        rows = runs.summary_rows("reached", by=["loss", "range"], where={"until": 5})
+        self.assertEqual([row["mean"] for row in rows], [8.5, 6.5, 6.5])
+
+    def test_one_tied_parameter_stands_for_the_others(self):
+        runs = self.sweep(loss=[0, 20], range=[250, 400], tied=[["loss", "range"]])
+        rows = runs.summary_rows("reached", by="range")
+        self.assertEqual([(row["range"], row["mean"]) for row in rows], [(250, 9), (400, 7)])
+
+    @needs_toml
+    def test_scenarios_and_traces_are_parameters(self):
+        other = self.folder / "other.toml"
+        other.write_text(SCENARIO.replace('id = "5"', 'id = "7"'))
+        few = self.folder / "few-{seed}.csv"
+        for seed in (1, 2):
+            rows = MOVES.splitlines(keepends=True)[: 1 + 10 * seed]
+            (self.folder / f"few-{seed}.csv").write_text("".join(rows))
+        study = Study([self.scenario, other], [few, self.moves])
+        options = {"penetration": [0, 100], "seeds": 2, "executor": ThreadPoolExecutor(1)}
+        runs = study.sweep(out=self.out, **options)
+        names = [str(self.scenario), str(other)], [str(few), str(self.moves)]
+        keys = ("scenario", "moves", "penetration", "seed")
+        points = [tuple(row[key] for key in keys) for row in runs.rows()]
+        self.assertEqual(points, list(itertools.product(*names, (0, 100), (1, 2))))
+        # Vehicle 5 or 7 has a station at any share. The first ten rows have both.
+        frames = [row["frames"] for row in runs.rows()]
+        self.assertEqual(frames, 2 * [1, 1, 10, 20, 1, 1, 100, 100])
+        scenarios = [each["path"] for each in runs.record["scenarios"]]
+        self.assertEqual(scenarios, [str(self.scenario), str(other)])
+        self.assertEqual(len(runs.record["moves"]), 3)
+        # The vehicle that an event of this run names is in the feed, and not that of the other one.
+        kept = {run.record["command"].partition("--keep ")[2][0] for run in list(runs)[:8]}
+        self.assertEqual(kept, {"5"})
+
+    @needs_toml
+    def test_a_vehicle_that_a_parameter_names_has_a_station(self):
+        runs = self.sweep(self.moves, penetration=0, **{"event.0.id": ["8", "9"]})
+        kept = [run.record["command"].partition("--keep ")[2][0] for run in runs]
+        self.assertEqual(kept, ["8", "9"])
 
     @needs_toml
     def test_a_share_of_the_vehicles_comes_through_a_pipe(self):
@@ -312,6 +374,13 @@ class Sweeps(Folder):
             ({"loss": 0.5}, "not a whole number"),
             ({"beacons": 1}, "not true or false"),
             ({"penetration": 101}, "not a percentage"),
+            ({"penetration": [0.05, 1]}, "0.05 is below 1 %: write 5 for 5 % of the vehicles"),
+            ({"scenario": "a.toml"}, "list the files"),
+            ({"loss": [1, 2], "range": [1, 2], "tied": ["loss"]}, "at least two"),
+            ({"loss": [1, 2], "range": 1, "tied": ["loss", "range"]}, "loss has 2, range has 1"),
+            ({"loss": 1, "range": 1, "tied": [("loss", "range", "loss")]}, "named twice"),
+            ({"loss": 1, "tied": ["loss", "rnage"]}, "rnage is not a parameter"),
+            ({"loss": [1, 1], "range": [2, 2], "tied": ["loss", "range"]}, "given twice"),
             ({"seed": 1}, "use seeds"),
             ({"seeds": 0}, "not a number of seeds"),
             ({"seeds": [-1]}, "2\\^63"),
@@ -331,6 +400,10 @@ class Sweeps(Folder):
             self.sweep(**{"event.1.hops": 1})
         with self.assertRaisesRegex(StudyError, "did you mean hops"):
             self.sweep(**{"event.0.hosp": 1})
+        with self.assertRaisesRegex(StudyError, "did you mean hops"):
+            self.sweep(**{"event.*.hosp": 1})
+        with self.assertRaisesRegex(StudyError, "no station there"):
+            self.sweep(**{"station.*.capacity": 1})
 
     def test_numbers_of_other_libraries_are_numbers(self):
         class Whole:
@@ -365,6 +438,17 @@ class Summaries(Folder):
         self.assertEqual([row["last"] for row in runs.rows()], [2, 2, 2, None, None, 2])
         self.assertEqual([row["n"] for row in runs.summary_rows("last", by="loss")], [3, 1])
 
+    def test_the_stations_have_metrics_too(self):
+        runs = self.sweep(loss=[10, 20], seeds=3)
+        # Two stations: one is busy 100, 200 or 300, the other never.
+        self.assertEqual(runs.summary_rows("busy", by="loss")[0]["mean"], 100)
+        # `lost` is a column of warnings, where it is 0, and of stations.
+        self.assertEqual(runs.summary_rows("lost", by="loss")[0]["mean"], 0)
+        rows = runs.summary_rows("lost", by="loss", table="stations")
+        self.assertEqual([row["mean"] for row in rows], [5, 10])
+        rows = runs.rows("stations", {"loss": 20})
+        self.assertEqual([row["id"] for row in rows], 3 * ["a", "b"])
+
     def test_a_mean_over_other_parameters_is_refused(self):
         runs = self.sweep(loss=[0, 20], range=[250, 400])
         with self.assertRaisesRegex(StudyError, "range has several values"):
@@ -396,6 +480,80 @@ class Summaries(Folder):
             self.assertEqual(texts[0], texts[1])
             self.assertNotIn(b"<dc:date>", texts[0])
             self.assertNotIn(b"CreationDate", texts[0])
+
+
+class Doubts(Folder):
+    """Runs with a warning, which are those of odd seeds with an `until` of 7."""
+
+    FULL = "7 receptions met a full location table: raise capacity (least 1)"
+
+    def test_they_are_counted_and_kept(self):
+        runs = self.sweep(until=[5, 7], seeds=3)
+        self.assertEqual(repr(runs), "<6 runs in runs, 0 failed, 2 warned>")
+        self.assertEqual([run.parameters["seed"] for run in runs.warned], [1, 3])
+        record = json.loads((runs.warned[0].folder / "run.json").read_text())
+        self.assertEqual(record["warnings"], [self.FULL])
+        study = json.loads((self.out / "study.json").read_text())
+        self.assertEqual(study["sweep"]["warned"], 2)
+        self.assertEqual([len(run["warnings"]) for run in study["runs"]], [0, 0, 0, 1, 0, 1])
+        self.assertEqual([row["warnings"] for row in runs.rows()], [0, 0, 0, 1, 0, 1])
+        # Those that were kept from before are counted too.
+        again = self.sweep(until=[5, 7], seeds=3)
+        self.assertEqual(again.record["sweep"]["warned"], 2)
+
+    def test_an_expectation_that_was_not_met_is_no_doubt(self):
+        runs = self.sweep(loss=90, seeds=[1])
+        self.assertEqual((len(runs.failed), len(runs.warned)), (1, 0))
+
+    def test_a_summary_counts_names_and_may_leave_out(self):
+        runs = self.sweep(until=[5, 7], seeds=3)
+        with self.assertWarns(StudyWarning) as seen:
+            runs.summary("reached", by="until")
+        said = str(seen.warning)
+        self.assertIn("may be wrong: 2", said)
+        for run in runs.warned:
+            self.assertIn(f"until=7 seed={run.parameters['seed']}, in {run.folder.name}", said)
+        self.assertIn(self.FULL, said)
+        rows = runs.summary_rows("reached", by="until")
+        # By seed 9, 8 and 10 of ten.
+        found = [(row["mean"], row["n"], row["warned"]) for row in rows]
+        self.assertEqual(found, [(9, 3, 0), (9, 3, 2)])
+        rows = runs.summary_rows("reached", by="until", without_warned=True)
+        found = [(row["mean"], row["n"], row["warned"]) for row in rows]
+        self.assertEqual(found, [(9, 3, 0), (8, 1, 2)])
+        with warnings.catch_warnings():
+            warnings.simplefilter("error")
+            runs.summary("reached", by="until", without_warned=True)
+            runs.summary("reached", where={"until": 5})
+
+    def test_a_table_names_them_and_may_leave_them_out(self):
+        runs = self.sweep(until=7, seeds=3)
+        with self.assertWarns(StudyWarning):
+            self.assertEqual(len(runs.csv().splitlines()), 4)
+        with self.assertWarns(StudyWarning):
+            self.assertEqual(len(runs.frame("load")), 3)
+        self.assertEqual(len(runs.csv(without_warned=True).splitlines()), 2)
+        self.assertEqual([row["seed"] for row in runs.rows(without_warned=True)], [2])
+
+    def test_only_some_are_named(self):
+        runs = self.sweep(until=7, seeds=20)
+        with self.assertWarnsRegex(StudyWarning, "may be wrong: 10\\n(.*\\n){5}  and 5 more$"):
+            runs.csv()
+
+    @unittest.skipUnless(importlib.util.find_spec("matplotlib"), "matplotlib isn't installed")
+    def test_a_figure_has_hollow_marks(self):
+        def written(**options):
+            text = io.BytesIO()
+            runs.plot("reach", over="until", **options).savefig(text, format="svg")
+            return text.getvalue()
+
+        runs = self.sweep(until=[5, 7], seeds=3)
+        with self.assertWarns(StudyWarning):
+            self.assertIn(b"hollow: with warnings", written())
+        with warnings.catch_warnings():
+            warnings.simplefilter("error")
+            self.assertNotIn(b"hollow", written(without_warned=True))
+            self.assertNotIn(b"hollow", written(where={"until": 5}))
 
 
 class Statistics(unittest.TestCase):
@@ -507,12 +665,12 @@ class Commands(Folder):
         words = ["--set", "loss=0,20", "--seeds", "2", "--out", self.out, "--jobs", "1"]
         status, said, _ = self.call("sweep", self.scenario, *words)
         self.assertEqual(status, 0)
-        wanted = ": 4 runs done, 0 kept from before, 0 failed, in .* s, processors busy "
+        wanted = ": 4 runs done, 0 kept from before, 0 failed, 0 warned, in .* s, processors busy "
         self.assertRegex(said, wanted)
         status, table, _ = self.call("table", self.out)
         self.assertEqual((status, table), (0, load(self.out).csv()))
         _, table, _ = self.call("table", self.out, "--metric", "reached", "--by", "loss")
-        wanted = "loss,mean,low,high,n,failed\n0,8.5,8.0,9.0,2,0\n20,6.5,6.0,7.0,2,0\n"
+        wanted = "loss,mean,low,high,n,failed,warned\n0,8.5,8.0,9.0,2,0,0\n20,6.5,6.0,7.0,2,0,0\n"
         self.assertEqual(table, wanted)
         _, table, _ = self.call("table", self.out, "--where", "loss=20")
         self.assertEqual(len(table.splitlines()), 3)
@@ -522,6 +680,38 @@ class Commands(Folder):
         status, _, said = self.call("sweep", self.scenario, *words)
         self.assertEqual(status, 1)
         self.assertIn("failed runs: 1; the first, loss=98 seed=1, in ", said)
+
+    def test_runs_with_warnings_are_named(self):
+        words = ["--set", "until=5,7", "--seeds", "2", "--out", self.out, "--jobs", "1"]
+        status, said, error = self.call("sweep", self.scenario, *words)
+        self.assertEqual(status, 0)
+        self.assertIn(" 0 failed, 1 warned, in ", said)
+        self.assertIn("runs with warnings: 1; the first, until=7 seed=1, in ", error)
+        self.assertIn(": 7 receptions met a full location table", error)
+        self.assertEqual(self.call("sweep", self.scenario, *words, "--strict")[0], 1)
+        table = ["table", self.out, "--metric", "reached", "--by", "until"]
+        status, text, error = self.call(*table)
+        self.assertEqual((status, text.splitlines()[2]), (0, "7,8.5,8.0,9.0,2,0,1"))
+        self.assertTrue(error.startswith("geostation.study: runs with warnings, "), error)
+        self.assertIn("until=7 seed=1, in ", error)
+        _, text, error = self.call(*table, "--without-warned")
+        self.assertEqual((text.splitlines()[2], error), ("7,8.0,,,1,0,1", ""))
+        status, text, error = self.call("table", self.out)
+        self.assertEqual((status, len(text.splitlines())), (0, 5))
+        self.assertIn("until=7 seed=1, in ", error)
+        _, text, error = self.call("table", self.out, "--without-warned", "--of", "load")
+        self.assertEqual((len(text.splitlines()), error), (4, ""))
+
+    def test_several_files_and_ties(self):
+        other = self.folder / "other.toml"
+        other.write_text(SCENARIO + "# Another one.\n")
+        words = ["--set", "loss=0,20", "--set", "range=250,400", "--tie", "loss,range"]
+        words += ["--moves", self.moves, "--out", self.out, "--jobs", "1"]
+        self.assertEqual(self.call("sweep", self.scenario, other, *words)[0], 0)
+        found = [tuple(run.parameters.values()) for run in load(self.out)]
+        names = str(self.scenario), str(other)
+        pairs = (0, 250), (20, 400)
+        self.assertEqual(found, [(name, *pair, 1) for name in names for pair in pairs])
 
     @needs_toml
     def test_a_text_of_the_scenario_stays_a_text(self):
@@ -549,7 +739,9 @@ class Commands(Folder):
             (["table", self.out, "--by", "loss"], 3, "study.json"),
             (["plot", self.out, "--metric", "x", "--over", "y", "-o", "x.doc"], 2, "x.doc"),
             (["fcd", "none.xml"], 3, "none.xml (no such file"),
-            (["fcd", self.moves, "--penetration", "101"], 2, "not from 0 to 100"),
+            (["fcd", self.moves, "--penetration", "101"], 2, "not a percentage"),
+            (["fcd", self.moves, "--penetration", "0.3"], 2, "write 30 for 30 % of the vehicles"),
+            ([*sweep, "--set", "loss=1,2", "--tie", "loss"], 2, "at least two"),
             ([], 2, "required"),
         ]
         for words, status, text in calls:

@@ -8,8 +8,8 @@ It needs the program `geostation` and nothing else. If pandas, matplotlib and tq
 uses them for data frames, figures and a progress bar.
 """
 
-from .errors import StudyError
+from .errors import StudyError, StudyWarning
 from .results import Run, Runs, load
 from .sweep import Study
 
-__all__ = ["Run", "Runs", "Study", "StudyError", "load"]
+__all__ = ["Run", "Runs", "Study", "StudyError", "StudyWarning", "load"]

@@ -7,13 +7,14 @@ import io
 import os
 import re
 import sys
+import warnings
 from pathlib import Path
 from typing import Any, Dict, List, NoReturn, Optional, Tuple, cast
 
-from . import Study, StudyError, load
+from . import Study, StudyError, StudyWarning, load
 from .errors import cannot
-from .parameters import Value, is_path
-from .results import TABLES, Runs, to_csv
+from .parameters import Value, check_percentage, is_path
+from .results import TABLES, Run
 from .scenario import value_at
 from .statistics import LEVEL
 from .traces import Equipped, open_trace, read_rows
@@ -70,15 +71,34 @@ def _parser() -> argparse.ArgumentParser:
     commands = parser.add_subparsers(dest="command", required=True, parser_class=_Parser)
 
     sweep = commands.add_parser("sweep", help="run a scenario over parameters and seeds")
-    sweep.add_argument("scenario", metavar="SCENARIO", help="a scenario with [air]")
-    sweep.add_argument("--moves", metavar="FILE", help="traces: CSV, SUMO's FCD as XML, or gzip")
+    sweep.add_argument(
+        "scenario",
+        metavar="SCENARIO",
+        nargs="+",
+        help="a scenario with [air]. Several are the values of the parameter scenario",
+    )
+    sweep.add_argument(
+        "--moves",
+        metavar="FILE",
+        action="append",
+        help="traces: CSV, SUMO's FCD as XML, or gzip. Several are the values of the parameter moves",
+    )
     _add_pairs(sweep, "--set", "values of a parameter: a key of [air], penetration or a path")
+    sweep.add_argument(
+        "--tie",
+        metavar="KEY,KEY..",
+        type=lambda text: text.split(","),
+        action="append",
+        default=[],
+        help="parameters that change together",
+    )
     sweep.add_argument(
         "--seeds", metavar="N", type=_seeds, default=1, help="N, A-B or A,B,C [default: 1]"
     )
     sweep.add_argument("--out", metavar="DIR", required=True, help="folder of the results")
     sweep.add_argument("--jobs", metavar="N", type=int, help="processes [default: processors]")
     sweep.add_argument("--force", action="store_true", help="do all runs again")
+    sweep.add_argument("--strict", action="store_true", help="status 1 if a run has warnings")
     sweep.add_argument(
         "--part",
         metavar="I/N",
@@ -91,7 +111,7 @@ def _parser() -> argparse.ArgumentParser:
 
     table = commands.add_parser("table", help="print the results as CSV")
     _add_results(table)
-    table.add_argument("--of", choices=TABLES, default="sends", help="which rows [default: sends]")
+    table.add_argument("--of", choices=TABLES, help="which rows [default: sends]")
     table.add_argument("--metric", metavar="NAME", help="means and intervals of a column")
     table.add_argument("--by", metavar="KEYS", default="", help="a mean for each value of these")
 
@@ -100,6 +120,7 @@ def _parser() -> argparse.ArgumentParser:
     plot.add_argument("--metric", metavar="NAME", required=True, help="column to draw")
     plot.add_argument("--over", metavar="KEY", required=True, help="parameter of the x axis")
     plot.add_argument("--by", metavar="KEY", help="a line for each value of this parameter")
+    plot.add_argument("--of", choices=TABLES, help="table of the column [default: one that has it]")
     plot.add_argument("-o", "--output", metavar="FILE", required=True, help=", ".join(_FIGURES))
 
     fcd = commands.add_parser("fcd", help="print traces as CSV that --moves reads")
@@ -123,6 +144,9 @@ def _add_results(parser: argparse.ArgumentParser) -> None:
     parser.add_argument(
         "--level", metavar="P", type=float, default=LEVEL, help=f"interval [default: {LEVEL}]"
     )
+    parser.add_argument(
+        "--without-warned", action="store_true", help="leave out the runs that have warnings"
+    )
 
 
 def _typed(study: Study, name: str, texts: List[str]) -> List[Value]:
@@ -145,8 +169,14 @@ def _parameters(study: Study, pairs: List[Tuple[str, List[str]]]) -> Dict[str, A
     return parameters
 
 
+def _one_or_several(names: Optional[List[str]]) -> Any:
+    """Returns one file as a name, which is no parameter, and several as a list."""
+    return names[0] if names is not None and len(names) == 1 else names
+
+
 def _sweep(given: argparse.Namespace) -> int:
-    study = Study(given.scenario, given.moves, program=given.program)
+    files = _one_or_several(given.scenario), _one_or_several(given.moves)
+    study = Study(*files, program=given.program)
     runs = study.sweep(
         out=given.out,
         seeds=given.seeds,
@@ -154,33 +184,44 @@ def _sweep(given: argparse.Namespace) -> int:
         force=given.force,
         progress=False if given.quiet else None,
         part=given.part,
+        tied=given.tie,
         **_parameters(study, given.set),
     )
     about = runs.record["sweep"]
     busy = f", processors busy {about['busy']:.2f}" if about["run"] else ""
     print(
         f"{given.out}: {about['run']} runs done, {about['found']} kept from before, "
-        f"{about['failed']} failed, in {about['seconds']:.1f} s{busy}"
+        f"{about['failed']} failed, {about['warned']} warned, in {about['seconds']:.1f} s{busy}"
     )
     for fault in about["faults"]:
-        print(f"{_NAME}: a worker failed: {fault}", file=sys.stderr)
-    return _report_failed(runs, given.part)
+        _say(f"a worker failed: {fault}")
+    mine = list(runs)[given.part[0] :: given.part[1]]
+    failed, warned = _report_failed(mine), _report_warned(mine)
+    return int(failed or (warned and given.strict))
 
 
-def _report_failed(runs: Runs, part: Tuple[int, int]) -> int:
-    """Reports the first run that failed. The status is 1 if there is one."""
-    failed = [run for run in list(runs)[part[0] :: part[1]] if run.failed()]
-    if not failed:
-        return 0
-    first = failed[0]
-    values = " ".join(f"{name}={value}" for name, value in first.parameters.items())
-    status = "missing" if first.status is None else f"status {first.status}"
-    print(
-        f"{_NAME}: failed runs: {len(failed)}; the first, {values}, in {first.folder.name}: "
-        f"{status}: {first.message}",
-        file=sys.stderr,
-    )
-    return 1
+def _report_failed(runs: List[Run]) -> bool:
+    """Reports the first run that failed. Returns whether there is one."""
+    failed = [run for run in runs if run.failed()]
+    if failed:
+        first = failed[0]
+        status = "missing" if first.status is None else f"status {first.status}"
+        _say(f"failed runs: {len(failed)}; the first, {first.name()}: {status}: {first.message}")
+    return bool(failed)
+
+
+def _report_warned(runs: List[Run]) -> bool:
+    """Reports the first run that has warnings. Returns whether there is one."""
+    warned = [run for run in runs if run.warned()]
+    if warned:
+        first = warned[0]
+        said = "; ".join(first.warnings)
+        _say(f"runs with warnings: {len(warned)}; the first, {first.name()}: {said}")
+    return bool(warned)
+
+
+def _say(text: str) -> None:
+    print(f"{_NAME}: {text}", file=sys.stderr)
 
 
 def _where(pairs: List[Tuple[str, List[str]]]) -> Dict[str, Value]:
@@ -193,12 +234,13 @@ def _where(pairs: List[Tuple[str, List[str]]]) -> Dict[str, Value]:
 def _table(given: argparse.Namespace) -> int:
     runs, where = load(given.folder), _where(given.where)
     by = [name for name in given.by.split(",") if name]
+    options: Dict[str, Any] = {"table": given.of, "without_warned": given.without_warned}
     if given.metric is not None:
-        text = to_csv(runs.summary_rows(given.metric, by, where, given.level))
+        text = runs.summary_csv(given.metric, by, where, given.level, **options)
     elif by:
         raise StudyError("--by needs --metric")
     else:
-        text = runs.csv(given.of, where)
+        text = runs.csv(given.of or "sends", where, given.without_warned)
     sys.stdout.write(text)
     return 0
 
@@ -207,7 +249,9 @@ def _plot(given: argparse.Namespace) -> int:
     if Path(given.output).suffix.lower() not in _FIGURES:
         raise StudyError(f"{given.output}: use a name that ends in {', '.join(_FIGURES)}")
     runs = load(given.folder)
-    figure = runs.plot(given.metric, given.over, given.by, _where(given.where), given.level)
+    options: Dict[str, Any] = {"table": given.of, "without_warned": given.without_warned}
+    where = _where(given.where)
+    figure = runs.plot(given.metric, given.over, given.by, where, given.level, **options)
     try:
         figure.savefig(given.output)
     except OSError as error:
@@ -218,8 +262,7 @@ def _plot(given: argparse.Namespace) -> int:
 def _fcd(given: argparse.Namespace) -> int:
     equipped: Optional[Equipped] = None
     if given.penetration is not None:
-        if not 0 <= given.penetration <= 100:
-            raise StudyError(f"--penetration: {given.penetration:g} is not from 0 to 100")
+        check_percentage("--penetration", given.penetration)
         equipped = Equipped(given.penetration, given.seed, given.keep or ())
     name = "standard input" if given.file == "-" else given.file
     pipe = cast(io.BufferedReader, sys.stdin.buffer)
@@ -237,21 +280,24 @@ def main(arguments: Optional[List[str]] = None) -> int:
     system."""
     given = _parser().parse_args(arguments)
     try:
-        status = _COMMANDS[given.command](given)
+        with warnings.catch_warnings():
+            warnings.simplefilter("always", StudyWarning)
+            warnings.showwarning = lambda message, *_, **__: _say(str(message))
+            status = _COMMANDS[given.command](given)
         sys.stdout.flush()
         return status
     except StudyError as error:
-        print(f"{_NAME}: {error}", file=sys.stderr)
+        _say(str(error))
         return error.status
     except BrokenPipeError:
         # The reader of the output has ended. Python would report that at its own end again.
         os.dup2(os.open(os.devnull, os.O_WRONLY), sys.stdout.fileno())
         return 3
     except OSError as error:
-        print(f"{_NAME}: {cannot('write', 'standard output', error)}", file=sys.stderr)
+        _say(str(cannot("write", "standard output", error)))
         return 3
     except KeyboardInterrupt:
-        print(f"{_NAME}: interrupted: start it again to do the rest", file=sys.stderr)
+        _say("interrupted: start it again to do the rest")
         return 130
 
 

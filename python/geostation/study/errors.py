@@ -1,4 +1,4 @@
-"""The exception of studies."""
+"""The exception and the warning of studies."""
 
 from __future__ import annotations
 
@@ -14,6 +14,10 @@ class StudyError(Exception):
     def __init__(self, text: str, status: int = 2):
         super().__init__(text)
         self.status = status
+
+
+class StudyWarning(UserWarning):
+    """Results are used whose runs the program had warnings for."""
 
 
 def cannot(do: str, path: object, error: OSError) -> StudyError:

@@ -3,12 +3,11 @@ stay distinct for colour-blind readers and without colour."""
 
 from __future__ import annotations
 
-from typing import TYPE_CHECKING, Any, Dict, List, Mapping, Optional
+from typing import Any, Dict, List, Optional
 
 from .errors import StudyError
 
-if TYPE_CHECKING:
-    from .results import Row, Runs
+Row = Dict[str, Any]
 
 # The label of an axis, for each parameter or column.
 LABELS = {
@@ -19,6 +18,9 @@ LABELS = {
     "beacons": "Beacons",
     "penetration": "Vehicles with a station (%)",
     "moves.capacity": "Size of the location table",
+    "event.*.hops": "Maximum hop limit",
+    "moves": "Traces",
+    "scenario": "Scenario",
     "moment": "Time of the warning (ms)",
     "inside": "Stations in the area",
     "reached": "Stations reached in the area",
@@ -103,39 +105,36 @@ def _is_number(value: Any) -> bool:
     return isinstance(value, (int, float)) and not isinstance(value, bool)
 
 
-def _draw_line(axes: Any, rows: List["Row"], over: str, places: Dict[Any, float], n: int) -> None:
-    """Draws one line, with its intervals as bars. Rows without a value are skipped."""
+def _draw_line(axes: Any, rows: List[Row], over: str, places: Dict[Any, float], n: int) -> None:
+    """Draws one line, with its intervals as bars. Rows without a value are skipped. A mark is hollow
+    if a run of its mean has warnings."""
     shown = [row for row in rows if row["mean"] is not None]
     x = [places[row[over]] for row in shown]
     below = [0 if row["low"] is None else row["mean"] - row["low"] for row in shown]
     above = [0 if row["high"] is None else row["high"] - row["mean"] for row in shown]
+    colour, mark = _COLOURS[n % len(_COLOURS)], _MARKS[n % len(_MARKS)]
     axes.errorbar(
         x,
         [row["mean"] for row in shown],
         yerr=[[max(0, size) for size in below], [max(0, size) for size in above]],
-        color=_COLOURS[n % len(_COLOURS)],
-        marker=_MARKS[n % len(_MARKS)],
+        color=colour,
+        marker=mark,
         linestyle=_DASHES[n % len(_DASHES)],
         capsize=2,
         capthick=0.8,
         elinewidth=0.8,
     )
+    doubtful = [(at, row["mean"]) for at, row in zip(x, shown) if row["warned"]]
+    if doubtful:
+        style = {"color": colour, "markerfacecolor": "white", "zorder": 3}
+        axes.plot(*zip(*doubtful), mark, label="_nolegend_", **style)
 
 
-def draw(
-    runs: "Runs",
-    metric: str,
-    over: str,
-    by: Optional[str],
-    where: Optional[Mapping[str, Any]],
-    level: float,
-) -> Any:
-    """Returns the figure of `Runs.plot`."""
+def draw(rows: List[Row], metric: str, over: str, by: Optional[str]) -> Any:
+    """Returns the figure of `Runs.plot`, of the rows of a summary."""
     made = _figure_class()
     import matplotlib
 
-    names = [over] if by is None else [by, over]
-    rows = runs.summary_rows(metric, names, where, level)
     values = list(dict.fromkeys(row[over] for row in rows))
     numbers = all(map(_is_number, values))
     if numbers:
@@ -160,6 +159,8 @@ def draw(
         axes.set_ylim(bottom=0)
         axes.grid(axis="y")
         axes.set_axisbelow(True)
+        if any(row["warned"] and row["mean"] is not None for row in rows):
+            axes.set_title("hollow: with warnings", loc="right", fontsize=6)
         if by is not None:
             axes.legend([str(value) for value in lines], title=label(by), frameon=False)
     return figure

@@ -24,10 +24,14 @@ from .parameters import Point
 from .traces import Equipped, read_rows
 
 RECORD = "run.json"
-SENDS, LOAD, SUMMARY, MESSAGES = "sends.csv", "load.csv", "summary.jsonl", "messages.txt"
+SENDS, LOAD, STATIONS = "sends.csv", "load.csv", "stations.csv"
+SUMMARY, MESSAGES = "summary.jsonl", "messages.txt"
 # Statuses that the same run has again. Any other may have been the machine's fault.
 LASTING = (0, 1, 2)
 _LONGEST_MESSAGE = 500
+_NAME = "geostation: "
+# Messages of a run that went to its end, which are its result and say nothing against it.
+_RESULTS = "expect "
 
 # The programs that this process runs now. A worker that gets a signal to end, ends them first.
 RUNNING: List["subprocess.Popen[bytes]"] = []
@@ -85,13 +89,15 @@ class Outcome:
     """How a run ended, for the figures of a sweep. Its results are in its folder.
 
     `status` is the program's, or `None` if a worker could not do the run because of `fault`.
-    `seconds` are the worker's, `cpu` those of the program on its processor.
+    `seconds` are the worker's, `cpu` those of the program on its processor. `warned` is whether the
+    program had warnings.
     """
 
     status: Optional[int]
     seconds: float = 0.0
     cpu: float = 0.0
     fault: str = ""
+    warned: bool = False
 
 
 def read_record(folder: Path) -> Optional[Dict[str, Any]]:
@@ -135,11 +141,13 @@ def _run_in(job: Job, scratch: Path, folder: Path, begun: float) -> Outcome:
     total = _total(scratch / SUMMARY)
     complete = status in (0, 1) and not fault and total is not None
     message = fault or _message(scratch / MESSAGES, status)
-    outcome = Outcome(status, time.perf_counter() - begun, cpu)
+    warnings = _warnings(scratch / MESSAGES) if complete else []
+    outcome = Outcome(status, time.perf_counter() - begun, cpu, warned=bool(warnings))
     record = {
         "parameters": job.parameters,
         "status": status,
         "message": message,
+        "warnings": warnings,
         "complete": complete,
         "total": total,
         "air": job.air,
@@ -233,10 +241,20 @@ def _total(path: Path) -> Optional[Dict[str, int]]:
     return total if isinstance(total, dict) else None
 
 
+def _said(path: Path) -> List[str]:
+    """Returns the messages of the program, without its name."""
+    lines = path.read_text(errors="replace").splitlines()
+    return [line.removeprefix(_NAME) for line in lines if line]
+
+
+def _warnings(path: Path) -> List[str]:
+    """Returns the warnings of a run that went to its end: why its numbers may be wrong."""
+    return [said for said in _said(path) if not said.startswith(_RESULTS)]
+
+
 def _message(path: Path, status: Optional[int]) -> str:
     """Returns the messages of the program, as one line."""
-    lines = path.read_text(errors="replace").splitlines()
-    said = [line.removeprefix("geostation: ") for line in lines if line]
+    said = _said(path)
     if status is not None and status < 0:
         said.append(_signal_text(-status))
     message = "; ".join(said)

@@ -5,23 +5,26 @@ from __future__ import annotations
 import csv
 import io
 import json
+import warnings
 from dataclasses import dataclass
 from pathlib import Path
 from typing import Any, Dict, Iterable, Iterator, List, Mapping, Optional, Sequence, Tuple, Union
 
-from .errors import StudyError, cannot
-from .jobs import LOAD, SENDS, read_record
+from .errors import StudyError, StudyWarning, cannot
+from .jobs import LOAD, SENDS, STATIONS, read_record
 from .parameters import SEED, Point, plain
 from .statistics import LEVEL, RESAMPLES, mean, summarise
 
 STUDY = "study.json"
-TABLES = {"sends": SENDS, "load": LOAD}
+TABLES = {"sends": SENDS, "load": LOAD, "stations": STATIONS}
 Row = Dict[str, Any]
 Names = Union[str, Sequence[str], None]
 
 # Columns of a send that have no meaning if no station delivered it: the program writes 0.
 _OF_DELIVERIES = ("hops", "first", "p50", "p95", "last")
 _MISSING = "this run is missing: start the sweep again"
+# Number of runs with warnings that a message names.
+_NAMED = 5
 
 
 @dataclass(frozen=True)
@@ -36,6 +39,7 @@ class Run:
         message: The messages of the program.
         complete: Whether the run went to its end.
         record: The content of its `run.json`.
+        warnings: Why the numbers of a run that went to its end may be wrong, as the program says.
     """
 
     folder: Path
@@ -44,6 +48,7 @@ class Run:
     message: str
     complete: bool
     record: Mapping[str, Any]
+    warnings: Tuple[str, ...] = ()
 
     @classmethod
     def read(cls, folder: Path, parameters: Point) -> "Run":
@@ -52,11 +57,21 @@ class Run:
         if record is None:
             return cls(folder, parameters, None, _MISSING, False, {})
         said, whole = str(record.get("message")), bool(record.get("complete"))
-        return cls(folder, parameters, record.get("status"), said, whole, record)
+        doubts = tuple(record.get("warnings") or ())
+        return cls(folder, parameters, record.get("status"), said, whole, record, doubts)
 
     def failed(self) -> bool:
         """Returns whether the status is not 0."""
         return self.status != 0
+
+    def warned(self) -> bool:
+        """Returns whether the program had warnings: the numbers of the run may be wrong."""
+        return bool(self.warnings)
+
+    def name(self) -> str:
+        """Returns the parameters and the folder, for a message."""
+        values = " ".join(f"{name}={value}" for name, value in self.parameters.items())
+        return f"{values}, in {self.folder.name}"
 
 
 def _value(text: str) -> Any:
@@ -88,6 +103,18 @@ def _names(given: Names) -> List[str]:
     return [given] if isinstance(given, str) else list(given)
 
 
+def _report_warned(runs: Iterable[Run]) -> None:
+    """Gives a `StudyWarning` that names the runs of these that have warnings, if there are any."""
+    found = [run for run in runs if run.warned()]
+    if not found:
+        return
+    lines = [f"  {run.name()}: {'; '.join(run.warnings)}" for run in found[:_NAMED]]
+    if len(found) > _NAMED:
+        lines.append(f"  and {len(found) - _NAMED} more")
+    head = f"runs with warnings, whose numbers may be wrong: {len(found)}"
+    warnings.warn("\n".join([head, *lines]), StudyWarning, stacklevel=3)
+
+
 def framed(rows: List[Row]) -> Any:
     """Returns rows as a pandas DataFrame, or unchanged if pandas isn't installed."""
     try:
@@ -104,6 +131,11 @@ def to_csv(rows: List[Row]) -> str:
     writer.writeheader()
     writer.writerows({name: _printed(value) for name, value in row.items()} for row in rows)
     return text.getvalue()
+
+
+def _about(run: Run) -> Row:
+    """Returns what each row of a run has of the run itself."""
+    return {"status": run.status, "warnings": len(run.warnings), "message": run.message}
 
 
 def _printed(value: Any) -> Any:
@@ -133,26 +165,37 @@ class Runs:
         return iter(self._runs)
 
     def __repr__(self) -> str:
-        return f"<{len(self)} runs in {self.out.name}, {len(self.failed)} failed>"
+        counts = f"{len(self.failed)} failed, {len(self.warned)} warned"
+        return f"<{len(self)} runs in {self.out.name}, {counts}>"
 
     @property
     def failed(self) -> List[Run]:
         """The runs whose status is not 0, and those that are missing."""
         return [run for run in self._runs if run.failed()]
 
+    @property
+    def warned(self) -> List[Run]:
+        """The runs that the program had warnings for: their numbers may be wrong."""
+        return [run for run in self._runs if run.warned()]
+
     def rows(
-        self, table: str = "sends", where: Optional[Mapping[str, Any]] = None
+        self,
+        table: str = "sends",
+        where: Optional[Mapping[str, Any]] = None,
+        without_warned: bool = False,
     ) -> List[Row]:
-        """Returns the rows of a table, each with parameters, status and message of its run.
+        """Returns the rows of a table, each with parameters, status, number of warnings and message
+        of its run.
 
         If no station delivered a warning, its hops and times are `None`. A run without any row, and
         one that did not go to its end, has one row in which the table's columns are `None`.
 
         Args:
-            table: `sends`, with a row for each warning, or `load`, with a row for each second.
-                `sends` has a last column `reach`: the percentage of the stations inside that were
-                reached.
+            table: `sends`, with a row for each warning that was sent, `load`, with a row for each
+                second, or `stations`, with a row for each station. `sends` has a last column
+                `reach`: the percentage of the stations inside that were reached.
             where: Values of parameters to select, such as `{"range": 250}`.
+            without_warned: Whether to leave out the runs that have warnings.
 
         Raises:
             StudyError: The table or a parameter is unknown, or a file can't be read.
@@ -162,20 +205,34 @@ class Runs:
         for _, row in parsed:
             columns.update(dict.fromkeys(row))
         empty = dict.fromkeys(columns)
-        chosen = {id(run) for run in self._matching(where or {})}
+        chosen = {id(run) for run in self._matching(where or {}, without_warned)}
         return [
-            {**run.parameters, "status": run.status, "message": run.message, **empty, **row}
+            {**run.parameters, **_about(run), **empty, **row}
             for run, row in parsed
             if id(run) in chosen
         ]
 
-    def frame(self, table: str = "sends", where: Optional[Mapping[str, Any]] = None) -> Any:
-        """Returns `rows` as a pandas DataFrame, or as a list if pandas isn't installed."""
-        return framed(self.rows(table, where))
+    def frame(
+        self,
+        table: str = "sends",
+        where: Optional[Mapping[str, Any]] = None,
+        without_warned: bool = False,
+    ) -> Any:
+        """Returns `rows` as a pandas DataFrame, or as a list if pandas isn't installed. A
+        `StudyWarning` names the runs that have warnings."""
+        _report_warned(self._matching(where or {}, without_warned))
+        return framed(self.rows(table, where, without_warned))
 
-    def csv(self, table: str = "sends", where: Optional[Mapping[str, Any]] = None) -> str:
-        """Returns `rows` as CSV. Equal studies have equal texts, to the byte."""
-        return to_csv(self.rows(table, where))
+    def csv(
+        self,
+        table: str = "sends",
+        where: Optional[Mapping[str, Any]] = None,
+        without_warned: bool = False,
+    ) -> str:
+        """Returns `rows` as CSV. Equal studies have equal texts, to the byte. A `StudyWarning`
+        names the runs that have warnings."""
+        _report_warned(self._matching(where or {}, without_warned))
+        return to_csv(self.rows(table, where, without_warned))
 
     def _parsed(self, table: str) -> List[Tuple[Run, Row]]:
         if table not in TABLES:
@@ -206,9 +263,10 @@ class Runs:
                 found.update((k, None) for k, v in row.items() if isinstance(v, (int, float)))
         return list(found)
 
-    def _values_of(self, metric: str) -> Dict[int, List[float]]:
-        """Returns the numbers of a column, by the run's place in the list."""
-        for table in TABLES:
+    def _values_of(self, metric: str, table: Optional[str]) -> Dict[int, List[float]]:
+        """Returns the numbers of a column, by the run's place in the list. Without a table it is
+        the first one that has the column."""
+        for table in TABLES if table is None else (table,):
             parsed = self._parsed(table)
             if any(metric in row for _, row in parsed):
                 break
@@ -231,24 +289,31 @@ class Runs:
                 raise StudyError(f"{name}: no such parameter: there are {', '.join(known)}")
         return known
 
-    def _matching(self, where: Mapping[str, Any]) -> List[Run]:
-        """Returns the runs whose parameters have the values of `where`."""
+    def _matching(self, where: Mapping[str, Any], without_warned: bool = False) -> List[Run]:
+        """Returns the runs whose parameters have the values of `where`, all or only those that have
+        no warnings."""
         self._known(where)
         wanted = {name: plain(value) for name, value in where.items()}
-        return [r for r in self._runs if all(r.parameters[n] == v for n, v in wanted.items())]
+        runs = self._runs if not without_warned else [r for r in self._runs if not r.warned()]
+        return [r for r in runs if all(r.parameters[n] == v for n, v in wanted.items())]
 
-    def _chosen(self, by: Sequence[str], where: Mapping[str, Any]) -> List[Run]:
-        """Returns the runs of `where`, if a mean for each of `by` is meaningful.
+    def _groups(
+        self, by: Sequence[str], where: Mapping[str, Any]
+    ) -> Dict[Tuple[Any, ...], List[Run]]:
+        """Returns the runs of `where` by their values of `by`, if a mean of each is meaningful.
 
-        Raises `StudyError` if a parameter that is in neither has several values.
+        Raises `StudyError` if another parameter than the seed has several values in one of them.
         """
-        known, runs = self._known(by), self._matching(where)
+        known = [name for name in self._known(by) if name != SEED and name not in by]
+        groups: Dict[Tuple[Any, ...], List[Run]] = {}
+        for run in self._matching(where):
+            groups.setdefault(tuple(run.parameters[name] for name in by), []).append(run)
         for name in known:
-            if name != SEED and name not in by and len({r.parameters[name] for r in runs}) > 1:
+            if any(len({r.parameters[name] for r in runs}) > 1 for runs in groups.values()):
                 raise StudyError(
                     f"{name} has several values: add it to by, or choose one with where"
                 )
-        return runs
+        return groups
 
     def summary_rows(
         self,
@@ -258,20 +323,22 @@ class Runs:
         level: float = LEVEL,
         resamples: int = RESAMPLES,
         seed: int = 1,
+        *,
+        table: Optional[str] = None,
+        without_warned: bool = False,
     ) -> List[Row]:
         """Returns `summary` as a list of rows."""
         names = _names(by)
-        values = self._values_of(metric)
-        groups: Dict[Tuple[Any, ...], List[Run]] = {}
-        for run in self._chosen(names, where or {}):
-            groups.setdefault(tuple(run.parameters[name] for name in names), []).append(run)
+        values = self._values_of(metric, table)
         rows = []
-        for key, runs in groups.items():
-            means = [mean(v) for run in runs if (v := values.get(id(run)))]
+        for key, runs in self._groups(names, where or {}).items():
+            used = [run for run in runs if not (without_warned and run.warned())]
+            means = [mean(v) for run in used if (v := values.get(id(run)))]
             middle, low, high = summarise(means, level, resamples, seed)
             row: Row = dict(zip(names, key))
             row.update(mean=middle, low=low, high=high, n=len(means))
             row["failed"] = sum(run.failed() for run in runs)
+            row["warned"] = sum(run.warned() for run in runs)
             rows.append(row)
         return rows
 
@@ -283,22 +350,28 @@ class Runs:
         level: float = LEVEL,
         resamples: int = RESAMPLES,
         seed: int = 1,
+        *,
+        table: Optional[str] = None,
+        without_warned: bool = False,
     ) -> Any:
         """Returns the mean of a column for each combination of the parameters in `by`.
 
-        The columns are those of `by`, `mean`, `low`, `high`, `n` and `failed`. Each run counts with
-        the mean of its rows, and `mean` is the mean over the runs. `low` and `high` are the ends of
-        its interval, by a bootstrap over the runs. `n` is the number of runs with a value. `failed`
-        is the number of runs whose status is not 0. A run in which an `[[expect]]` failed counts in
-        both.
+        The columns are those of `by`, `mean`, `low`, `high`, `n`, `failed` and `warned`. Each run
+        counts with the mean of its rows, and `mean` is the mean over the runs. `low` and `high` are
+        the ends of its interval, by a bootstrap over the runs. `n` is the number of runs with a
+        value. `failed` is the number of runs whose status is not 0. A run in which an `[[expect]]`
+        failed counts in both. `warned` is the number of runs that have warnings, and a
+        `StudyWarning` names them if they are used.
 
         Args:
-            metric: A column of `sends` or of `load`.
+            metric: A column of `sends`, of `load` or of `stations`.
             by: Names of parameters.
             where: Values of parameters to select, such as `{"range": 250}`.
             level: Share of the resamples that the interval holds, between 0 and 1.
             resamples: Number of resamples.
             seed: Seed of the resamples.
+            table: The table of the column (default: the first one that has it).
+            without_warned: Whether to leave out the runs that have warnings.
 
         Returns:
             A pandas DataFrame, or a list of dicts if pandas isn't installed.
@@ -307,7 +380,24 @@ class Runs:
             StudyError: A name is unknown, or a parameter with several values is in neither `by` nor
                 `where`.
         """
-        return framed(self.summary_rows(metric, by, where, level, resamples, seed))
+        _report_warned(self._matching(where or {}, without_warned))
+        options: Dict[str, Any] = {"table": table, "without_warned": without_warned}
+        return framed(self.summary_rows(metric, by, where, level, resamples, seed, **options))
+
+    def summary_csv(
+        self,
+        metric: str,
+        by: Names = None,
+        where: Optional[Mapping[str, Any]] = None,
+        level: float = LEVEL,
+        *,
+        table: Optional[str] = None,
+        without_warned: bool = False,
+    ) -> str:
+        """Returns `summary` as CSV."""
+        _report_warned(self._matching(where or {}, without_warned))
+        options: Dict[str, Any] = {"table": table, "without_warned": without_warned}
+        return to_csv(self.summary_rows(metric, by, where, level, **options))
 
     def plot(
         self,
@@ -316,25 +406,37 @@ class Runs:
         by: Optional[str] = None,
         where: Optional[Mapping[str, Any]] = None,
         level: float = LEVEL,
+        *,
+        table: Optional[str] = None,
+        without_warned: bool = False,
     ) -> Any:
         """Returns a figure of the mean of a column over a parameter, with the intervals as bars.
 
         It is a matplotlib figure with the width of a column of a paper. Its `savefig` writes the
-        same file each time.
+        same file each time. A mean of which a run has warnings has a hollow mark, and a
+        `StudyWarning` names these runs.
 
         Args:
-            metric: A column of `sends` or of `load`.
+            metric: A column of `sends`, of `load` or of `stations`.
             over: The parameter of the x axis.
             by: A parameter; each of its values has a line.
             where: Values of parameters to select, such as `{"range": 250}`.
             level: Share of the resamples that the interval holds, between 0 and 1.
+            table: The table of the column (default: the first one that has it).
+            without_warned: Whether to leave out the runs that have warnings.
 
         Raises:
             StudyError: As for `summary`; with status 3 if matplotlib isn't installed.
         """
         from .figure import draw
 
-        return draw(self, metric, over, by, where, level)
+        names = [over] if by is None else [by, over]
+        options: Dict[str, Any] = {"table": table, "without_warned": without_warned}
+        rows = self.summary_rows(metric, names, where, level, **options)
+        _report_warned(self._matching(where or {}, without_warned))
+        if without_warned:
+            rows = [{**row, "warned": 0} for row in rows]
+        return draw(rows, metric, over, by)
 
 
 def load(out: Union[str, Path]) -> Runs:

@@ -8,7 +8,7 @@ import json
 import re
 import sys
 from pathlib import Path
-from typing import Any, Dict, List, Mapping, Optional, Tuple
+from typing import Any, Dict, Iterator, List, Mapping, Optional, Tuple
 
 from .errors import StudyError, cannot
 from .parameters import Value
@@ -16,6 +16,8 @@ from .parameters import Value
 _BARE = re.compile(r"[A-Za-z0-9_-]+")
 # Tables that the program checks key by key, so that a new key can't be overlooked.
 _CHECKED = ("moves",)
+# A part of a path that stands for each entry of an array.
+_EACH = "*"
 
 
 def loads(text: str) -> Dict[str, Any]:
@@ -84,36 +86,64 @@ def dumps(document: Mapping[str, Any]) -> str:
     return "".join(line + "\n" for line in lines)
 
 
-def _step(path: str, place: Any, part: str) -> Any:
-    """Returns the value to which a part of a path leads."""
+def _key_of(path: str, place: Any, part: str) -> Any:
+    """Returns the key or index that a part of a path names. Raises `StudyError` if it isn't there."""
     if isinstance(place, list):
         if not (part.isascii() and part.isdigit()) or int(part) >= len(place):
             raise StudyError(f"{path}: {part} is not a number from 0 to {len(place) - 1}")
-        return place[int(part)]
+        return int(part)
     if not isinstance(place, dict) or part not in place:
         keys = list(place) if isinstance(place, dict) else []
         near = difflib.get_close_matches(part, keys, 1)
         meant = f" (did you mean {near[0]}?)" if near else ""
         raise StudyError(f"{path}: the scenario has no {part} there{meant}: write it there first")
-    return place[part]
+    return part
+
+
+def _places(path: str, place: Any, parts: List[str]) -> Iterator[Tuple[Any, Any]]:
+    """Yields each place to which a path leads, as a table or array and a key of it. `*` stands for
+    all entries that have the rest of the path.
+
+    Raises `StudyError` if the path leads nowhere.
+    """
+    part, *rest = parts
+    if part == _EACH and isinstance(place, list) and rest:
+        yield from _places_in_each(path, place, rest)
+        return
+    key = _key_of(path, place, part)
+    if rest:
+        yield from _places(path, place[key], rest)
+    else:
+        yield place, key
+
+
+def _places_in_each(path: str, entries: List[Any], rest: List[str]) -> Iterator[Tuple[Any, Any]]:
+    found, fault = 0, StudyError(f"{path}: the scenario has no entry there")
+    for entry in entries:
+        try:
+            for place in _places(path, entry, rest):
+                found += 1
+                yield place
+        except StudyError as error:
+            fault = error
+    if not found:
+        raise fault
 
 
 def value_at(document: Mapping[str, Any], path: str) -> Any:
-    """Returns the value at a path such as `event.0.hops`. Raises `StudyError` if it isn't there."""
-    place: Any = document
-    for part in path.split("."):
-        place = _step(path, place, part)
-    return place
+    """Returns the value at a path such as `event.0.hops`, for `event.*.hops` that of the first event
+    that has one. Raises `StudyError` if it isn't there."""
+    place, key = next(_places(path, document, path.split(".")))
+    return place[key]
 
 
 def _set(document: Dict[str, Any], path: str, value: Value) -> None:
-    *above, last = path.split(".")
-    if len(above) == 1 and above[0] in _CHECKED:
-        document.setdefault(above[0], {})[last] = value
+    parts = path.split(".")
+    if len(parts) == 2 and parts[0] in _CHECKED:
+        document.setdefault(parts[0], {})[parts[1]] = value
         return
-    place = value_at(document, ".".join(above))
-    _step(path, place, last)
-    place[int(last) if isinstance(place, list) else last] = value
+    for place, key in list(_places(path, document, parts)):
+        place[key] = value
 
 
 class Scenario:
@@ -161,10 +191,10 @@ class Scenario:
         air = self.document().get("air")
         return dict(air) if isinstance(air, dict) else {}
 
-    def senders(self) -> List[str]:
+    def senders(self) -> Tuple[str, ...]:
         """Returns the ids of vehicles that events name."""
         events = self.document().get("event")
         if not isinstance(events, list):
-            return []
+            return ()
         ids = (event.get("id") for event in events if isinstance(event, dict))
-        return list(dict.fromkeys(name for name in ids if isinstance(name, str)))
+        return tuple(dict.fromkeys(name for name in ids if isinstance(name, str)))

@@ -13,24 +13,39 @@ import time
 from concurrent.futures import BrokenExecutor, CancelledError, Executor, as_completed
 from datetime import datetime, timezone
 from pathlib import Path
-from typing import Any, Dict, List, Mapping, Optional, Tuple, Union
+from typing import Any, Dict, Iterable, List, Mapping, Optional, Sequence, Tuple, Union
 
 import geostation
 
 from .digests import digest, digest_of, short
 from .errors import StudyError, cannot
 from .files import remove_leftovers, write
-from .jobs import LOAD, SENDS, Feed, Input, Job, Outcome, execute, is_lasting, read_record
+from .jobs import (
+    LOAD,
+    SENDS,
+    STATIONS,
+    Feed,
+    Input,
+    Job,
+    Outcome,
+    execute,
+    is_lasting,
+    read_record,
+)
 from .parameters import (
     AIR_KEYS,
+    MOVES,
     PENETRATION,
+    SCENARIO,
     SEED,
+    Groups,
     Point,
     Value,
     is_path,
     points,
     read_parameters,
     read_seeds,
+    read_tied,
 )
 from .pool import make_pool, processors
 from .progress import Progress
@@ -39,9 +54,12 @@ from .scenario import Scenario
 from .traces import is_plain_csv, open_trace, read_rows
 
 # The form of the data from which the name of a run's folder is made.
-_FORM = 1
-_FILES_OF_SENDS = ("--sends", SENDS, "--load", LOAD)
+_FORM = 2
+_FILES_OF_A_RUN = ("--sends", SENDS, "--load", LOAD, "--stations", STATIONS)
+# What the record of a study has of the record of a run.
+_KEPT = ("status", "message", "warnings", "started", "seconds", "cpu", "memory_kib", "host")
 PathLike = Union[str, Path]
+PathsLike = Union[PathLike, Sequence[PathLike]]
 
 
 class Program:
@@ -73,16 +91,29 @@ class Program:
         return {"path": self.path, "version": self.version, "sha256": self.sha256}
 
 
+def _listed(given: Optional[PathsLike]) -> List[str]:
+    """Returns the names of one or more files."""
+    if given is None:
+        return []
+    return [str(given)] if isinstance(given, (str, Path)) else [str(name) for name in given]
+
+
 class Study:
     """A scenario, with or without traces of vehicles, and the program that runs it.
 
     Args:
-        scenario: Path of a scenario with a table `[air]`.
+        scenario: Path of a scenario with a table `[air]`. With a list of paths `scenario` is a
+            parameter, whose values are these paths.
         moves: Path of the traces: CSV as the program reads it, or SUMO's FCD output as XML, with or
             without gzip. If the name contains `{seed}`, each seed has its own traces, for example
-            `town-{seed}.csv`.
+            `town-{seed}.csv`. With a list of paths `moves` is a parameter.
         program: Path or name of the program. The default is the variable `GEOSTATION_PROGRAM`, or
             `geostation` if that is not set.
+
+    Attributes:
+        scenarios: The scenarios, by the names that were given.
+        moves: The names of the traces that were given.
+        files: The parameters that are files, with their values.
 
     Raises:
         StudyError: A file or the program is missing (status 3).
@@ -90,14 +121,26 @@ class Study:
 
     def __init__(
         self,
-        scenario: PathLike,
-        moves: Optional[PathLike] = None,
+        scenario: PathsLike,
+        moves: Optional[PathsLike] = None,
         *,
         program: Optional[PathLike] = None,
     ):
-        self.scenario = Scenario(Path(scenario).absolute())
-        self.moves = None if moves is None else str(Path(moves).absolute())
+        names = _listed(scenario)
+        if not names:
+            raise StudyError("scenario: no file is given")
+        self.scenarios = {name: Scenario(Path(name).absolute()) for name in names}
+        self.moves = _listed(moves)
+        self.files: Dict[str, List[Value]] = {}
+        for key, given in ((SCENARIO, scenario), (MOVES, moves)):
+            if not (given is None or isinstance(given, (str, Path))):
+                self.files[key] = list(_listed(given))
         self.program = Program(program)
+
+    @property
+    def scenario(self) -> Scenario:
+        """The scenario, or the first one of several."""
+        return next(iter(self.scenarios.values()))
 
     def sweep(
         self,
@@ -109,6 +152,7 @@ class Study:
         force: bool = False,
         progress: Optional[bool] = None,
         part: Tuple[int, int] = (0, 1),
+        tied: Iterable[Any] = (),
         **parameters: Any,
     ) -> Runs:
         """Runs each combination of values and seeds, and returns all runs.
@@ -124,11 +168,13 @@ class Study:
             progress: Whether to show the progress. By default it is shown on a terminal.
             part: `(I, N)`: do each Nth run, beginning with run I, from 0. So N sweeps into one
                 folder can share the work.
+            tied: Names of parameters that change together, or a list of such groups. The first
+                values of a group are one combination, the second values the next one.
             parameters: Each other argument is a parameter, with one or more values. Its name is a
                 key of `[air]`, `penetration`, or the path of a key in the scenario, such as
-                `"moves.capacity"` or `"event.0.hops"`. `penetration` is the percentage of the
-                vehicles that have a station; the seed selects them. Vehicles that events name
-                always have one.
+                `"moves.capacity"` or `"event.0.hops"`. `"event.*.hops"` is the key `hops` of all
+                events that have one. `penetration` is the percentage of the vehicles that have a
+                station; the seed selects them. Vehicles that events name always have one.
 
         Raises:
             StudyError: An argument is wrong, `out` can't be written, or a file that is read changes
@@ -139,7 +185,9 @@ class Study:
         index, count = part
         if not 0 <= index < count:
             raise StudyError(f"part {index}/{count} is not a part from 0/{count}")
-        plan = _Plan(self, Path(out).absolute(), read_parameters(parameters), read_seeds(seeds))
+        given = {**self.files, **read_parameters(parameters)}
+        groups = read_tied(tied, given)
+        plan = _Plan(self, Path(out).absolute(), given, read_seeds(seeds), groups)
         return plan.run(executor, jobs, force, progress, part)
 
 
@@ -147,75 +195,90 @@ class _Plan:
     """A sweep into a folder."""
 
     def __init__(
-        self, study: Study, out: Path, parameters: Dict[str, List[Value]], seeds: List[int]
+        self,
+        study: Study,
+        out: Path,
+        parameters: Dict[str, List[Value]],
+        seeds: List[int],
+        tied: Groups,
     ):
         self.study = study
         self.out = out
         self.parameters = parameters
         self.seeds = seeds
-        self.points = points(parameters, seeds)
-        self._moves: Dict[int, Input] = {}
-        self._scenarios: Dict[str, str] = {}
-        if PENETRATION in parameters and study.moves is None:
+        self.tied = tied
+        self.points = points(parameters, seeds, tied)
+        self._moves: Dict[str, Input] = {}
+        self._scenarios: Dict[str, Tuple[str, Tuple[str, ...]]] = {}
+        if PENETRATION in parameters and not study.moves:
             raise StudyError("penetration needs moves: it is a share of their vehicles")
-        self._always = tuple(study.scenario.senders()) if PENETRATION in parameters else ()
         try:
             out.mkdir(parents=True, exist_ok=True)
         except OSError as error:
             raise cannot("write", out, error) from None
-        self.traces = [self._prepare(seed) for seed in self._seeds_of_traces()]
+        self.traces = [self._prepare(name) for name in self._names_of_traces()]
         self.jobs = [self._job(point) for point in self.points]
 
-    def _seeds_of_traces(self) -> List[int]:
-        """Returns the seeds whose traces are to be read: the first one, if all have the same."""
-        if self.study.moves is None:
-            return []
-        return self.seeds if "{seed}" in self.study.moves else self.seeds[:1]
+    def _names_of_traces(self) -> List[str]:
+        """Returns the name of each file of traces. A name with `{seed}` is one for each seed."""
+        names = (n.replace("{seed}", str(s)) for n in self.study.moves for s in self.seeds)
+        return list(dict.fromkeys(names))
 
-    def _prepare(self, seed: int) -> Input:
-        """Makes the traces of a seed ready, and returns the file that was named. The program reads
-        CSV: of another file a copy is kept as CSV beside the results."""
-        assert self.study.moves is not None
-        source = Path(self.study.moves.replace("{seed}", str(seed)))
+    def _prepare(self, name: str) -> Input:
+        """Makes traces ready, and returns the file that was named. The program reads CSV: of
+        another file a copy is kept as CSV beside the results."""
+        source = Path(name).absolute()
         given, read = Input.of(source), source
         if not is_plain_csv(source):
             read = self.out / "moves" / f"{short(given.sha256)}.csv"
             if not read.exists():
                 with open_trace(source) as file:
                     write(read, read_rows(file, str(source)))
-        self._moves[seed] = Input.of(read)
+        self._moves[name] = Input.of(read)
         return given
 
-    def _scenario_file(self, point: Point) -> Tuple[Input, str]:
+    def _given_scenario(self, point: Point) -> Scenario:
+        """Returns the scenario of a run as it was given."""
+        return self.study.scenarios[str(point.get(SCENARIO) or next(iter(self.study.scenarios)))]
+
+    def _scenario_file(self, point: Point) -> Tuple[Input, str, Tuple[str, ...]]:
         """Writes the scenario of some values beside the results, and returns it with its name as a
-        run's folder sees it."""
+        run's folder sees it, and with the vehicles that have a station at any penetration."""
         changes = {name: value for name, value in point.items() if is_path(name)}
-        key = digest_of([[name, repr(value)] for name, value in changes.items()])
+        given = self._given_scenario(point)
+        key = digest_of([str(given.path), *([name, repr(v)] for name, v in changes.items())])
         if key not in self._scenarios:
-            octets = self.study.scenario.with_values(changes)
+            octets = given.with_values(changes)
             name = f"scenarios/{short(digest_of(octets.decode('latin-1')))}.toml"
             path = self.out / name
             if not path.exists() or path.read_bytes() != octets:
                 write(path, [octets])
-            self._scenarios[key] = name
-        name = self._scenarios[key]
-        return Input.of(self.out / name), f"../{name}"
+            always = Scenario(path).senders() if PENETRATION in point else ()
+            self._scenarios[key] = name, always
+        name, always = self._scenarios[key]
+        return Input.of(self.out / name), f"../{name}", always
+
+    def _traces_of(self, point: Point) -> Optional[Input]:
+        """Returns the traces of a run as the program reads them, or `None` without traces."""
+        if not self.study.moves:
+            return None
+        name = str(point.get(MOVES) or self.study.moves[0])
+        return self._moves[name.replace("{seed}", str(point[SEED]))]
 
     def _job(self, point: Point) -> Job:
         """Returns the run of some values."""
-        scenario, scenario_name = self._scenario_file(point)
+        scenario, scenario_name, always = self._scenario_file(point)
         air = {name: point[name] for name in (*AIR_KEYS, SEED) if name in point}
         sets = [f"--set={name}={_digits(value)}" for name, value in air.items()]
         program = self.study.program
         inputs, moves, feed, traces = [scenario], [], None, ""
-        if self._moves:
-            read = self._moves.get(int(point[SEED])) or self._moves[self.seeds[0]]
+        if read := self._traces_of(point):
             inputs, traces = [scenario, read], read.sha256
             moves = ["--moves", self._name(read)]
             if PENETRATION in point:
                 share, seed = float(point[PENETRATION]), int(point[SEED])
-                feed, moves = Feed(read.path, share, seed, self._always), ["--moves", "-"]
-        words = ["--explain", "--summary", "--json", *_FILES_OF_SENDS, *moves, *sets]
+                feed, moves = Feed(read.path, share, seed, always), ["--moves", "-"]
+        words = ["--explain", "--summary", "--json", *_FILES_OF_A_RUN, *moves, *sets]
         key = {
             "form": _FORM,
             "program": [program.version, program.sha256],
@@ -229,16 +292,9 @@ class _Plan:
             command=(program.path, "sim", *words, scenario_name),
             inputs=(Input(program.path, program.sha256), *inputs),
             program=program.record(),
-            air={**(self._own_air() or {}), **air},
+            air={**(_own_air(self._given_scenario(point)) or {}), **air},
             feed=feed,
         )
-
-    def _own_air(self) -> Optional[Dict[str, Any]]:
-        """Returns the keys of `[air]`, or `None` if the scenario can't be read here."""
-        try:
-            return self.study.scenario.air()
-        except StudyError:
-            return None  # if it is no TOML, the program says so
 
     def _name(self, file: Input) -> str:
         """Returns the name of a file as a run's folder sees it."""
@@ -268,6 +324,7 @@ class _Plan:
             "found": len(mine) - len(missing),
             "run": 0,
             "failed": 0,
+            "warned": 0,
             "seconds": None,
         }
         self._record(about)
@@ -279,8 +336,9 @@ class _Plan:
             shown.close()
         seconds = time.perf_counter() - begun
         about.update(_figures(outcomes, seconds, workers), ended=_now())
-        kept = (read_record(Path(folder)) or {} for folder in mine)
+        kept = [read_record(Path(folder)) or {} for folder in mine]
         about["failed"] = sum(record.get("status") != 0 for record in kept)
+        about["warned"] = sum(bool(record.get("warnings")) for record in kept)
         remove_leftovers(self.out)
         return Runs(self.out, self._record(about))
 
@@ -314,13 +372,13 @@ class _Plan:
             "python": sys.version,
             "kernel": " ".join(platform.uname()),
             "processors": processors(),
-            "scenario": {
-                "path": str(study.scenario.path),
-                "sha256": digest(study.scenario.path),
-                "air": self._own_air(),
-            },
+            "scenarios": [
+                {"path": str(each.path), "sha256": digest(each.path), "air": _own_air(each)}
+                for each in study.scenarios.values()
+            ],
             "moves": [{"path": file.path, "sha256": file.sha256} for file in self.traces],
             "parameters": self.parameters,
+            "tied": self.tied,
             "seeds": self.seeds,
             "sweep": about,
             "runs": [self._entry(job, bool(about["ended"])) for job in self.jobs],
@@ -337,9 +395,17 @@ class _Plan:
             "command": job.command_line(),
         }
         kept = (read_record(folder) if whole else None) or {}
-        for name in ("status", "message", "started", "seconds", "cpu", "memory_kib", "host"):
+        for name in _KEPT:
             entry[name] = kept.get(name)
         return entry
+
+
+def _own_air(scenario: Scenario) -> Optional[Dict[str, Any]]:
+    """Returns the keys of `[air]`, or `None` if the scenario can't be read here."""
+    try:
+        return scenario.air()
+    except StudyError:
+        return None  # if it is no TOML, the program says so
 
 
 def _digits(value: Value) -> str:
@@ -365,7 +431,7 @@ def _collect(executor: Executor, jobs: List[Job], shown: Progress) -> List[Outco
         for future in as_completed(futures):
             outcome = _outcome(future)
             outcomes[places[id(future)]] = outcome
-            shown.count(outcome.status != 0)
+            shown.count(outcome.status != 0, outcome.warned)
     except BaseException:
         for future in futures:
             future.cancel()
