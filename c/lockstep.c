@@ -159,7 +159,7 @@ static void request(struct geostation *s, uint64_t now) {
 
 static void tell_ignored(uint32_t why) {
     static const char *const words[] = {
-        "not-for-me", "own-source", "sender-mismatch", "duplicate",
+        "not-for-me", "own-source", "sender-mismatch", "duplicate", "repeated",
     };
     printf("ignored %s", words[why - 1]);
 }

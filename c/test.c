@@ -1108,15 +1108,44 @@ static void test_echo(void) {
         memcpy(echo, frame, n);
         CHECK(forwards(a, b, 1001, 5) && r.delivered == 1);
         CHECK(geostation_receive(b, 1002, echo, n, &r, relay, ROOM) == GEOSTATION_OK);
-        CHECK(r.ignored == 0 && r.delivered == !once && (r.relay_length == 0) == (once != 0));
+        CHECK(r.ignored == (once ? GEOSTATION_REPEATED : 0u) && r.delivered == !once);
+        CHECK((r.relay_length == 0) == (once != 0));
         CHECK(forwards(a, b, 60999, 5));
         CHECK(geostation_receive(b, 60999, echo, n, &r, relay, ROOM) == GEOSTATION_OK);
-        CHECK(r.ignored == 0 && r.delivered == !once);
+        CHECK(r.ignored == (once ? GEOSTATION_REPEATED : 0u) && r.delivered == !once);
         CHECK(forwards(a, b, 61000, 5));
         CHECK(geostation_receive(b, 61000, echo, n, &r, relay, ROOM) == GEOSTATION_OK);
         CHECK(r.ignored == 0 && r.delivered == 1 && r.relay_length == n);
         geostation_counts(b, &k);
         CHECK(k.repeated == (once ? 2u : 0u) && k.suppressed == k.repeated);
+        geostation_free(a);
+        geostation_free(b);
+    }
+}
+
+/* A source that is made anew begins at number 0 again. Its time stamps are new, so its packet is no
+ * copy of the one that was delivered before. A station that is told of no position has the time stamp
+ * 0 in all its packets. */
+static void test_restarted_source(void) {
+    struct geostation_config plain = unlimited(A_ADDRESS, 0), c = unlimited(B_ADDRESS, 900);
+    for (int moves = 0; moves < 2; moves++) {
+        c.deliver_once = 1;
+        struct geostation *a = made(&plain), *b = made(&c);
+        CHECK(geostation_open_port(b, 0, 2002) == GEOSTATION_OK);
+        if (moves) CHECK(geostation_move(a, 1000, 449, 0, 1, 0, 0) == GEOSTATION_OK);
+        CHECK(forwards(a, b, 1000, 5) && r.delivered == 1 && r.number == 0);
+        geostation_free(a);
+        a = made(&plain);
+        if (moves) {
+            CHECK(geostation_move(a, 31000, 449, 0, 1, 0, 0) == GEOSTATION_OK);
+            CHECK(forwards(a, b, 31000, 5) && r.delivered == 1 && r.number == 0);
+        } else {
+            const struct geostation_area_request request = AREA;
+            size_t n;
+            CHECK(geostation_send_gbc(a, 31000, &request, HI, 2, frame, ROOM, &n) == GEOSTATION_OK);
+            CHECK(geostation_receive(b, 31000, frame, n, &r, relay, ROOM) == GEOSTATION_OK);
+            CHECK(r.ignored == GEOSTATION_REPEATED && r.delivered == 0 && r.relay_length == 0);
+        }
         geostation_free(a);
         geostation_free(b);
     }
@@ -1129,6 +1158,7 @@ int main(int argc, char **argv) {
     test_source_rate();
     test_hop_cap();
     test_echo();
+    test_restarted_source();
     test_new();
     test_config();
     test_padding();

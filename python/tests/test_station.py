@@ -437,7 +437,7 @@ class TestLimits(unittest.TestCase):
             relayed.append(told.relay is not None)
         self.assertEqual([False, True, True, False], relayed)
         echo = b.receive(10, frames[1])
-        self.assertEqual((None, None, None), (echo.ignored, echo.delivered, echo.relay))
+        self.assertEqual(("repeated", None, None), (str(echo.ignored), echo.delivered, echo.relay))
         counts = b.counts()
         self.assertEqual((3, 1, 0), (counts.suppressed, counts.repeated, counts.over_rate))
         self.assertEqual((4, 2), (counts.delivered, counts.relayed))

@@ -8,3 +8,4 @@ pub mod Messages
 pub mod Unlimited
 pub mod Limits
 pub mod Sealed
+pub mod Repeats

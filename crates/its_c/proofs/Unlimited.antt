@@ -3,7 +3,7 @@ use Rattle.std.proofs.Common.{◌≡◌, ℕ, ◌≤◌, Bool, true, false, ◌&
 use Rattle.std.proofs.Common.{List, refl, ap, ◌∙◌, is_some, arith}
 use Rattle.std.proofs.lemmas.Bool.{le-leb}
 use Rattle.its_faults.specs.declared.frame.FrameFault.{FrameFault}
-use Rattle.its_model.specs.Packet.{Message, Transmission, number_in}
+use Rattle.its_model.specs.Packet.{Message, Transmission}
 use Rattle.its_model.specs.Calls as model
 use Rattle.its_model.specs.Calls.{Answer, Call, Refusal}
 use Rattle.its_model.specs.Station.{StationModel, station_step, moment_refusal}
@@ -13,33 +13,36 @@ use Rattle.its_governor.specs.declared.bucket.Bucket.{Bucket}
 use Rattle.its_governor.specs.declared.governor.Governor.{Governor}
 use Rattle.its_governor.specs.Sources.{SourceState}
 use Rattle.its_governor.specs.Memory.{MemoryState}
+use Rattle.its_governor.specs.declared.memory.PacketId.{PacketId}
 use Rattle.its_governor.specs.Governing.{governed, governed_step, kept, may_forward, is_echo}
-use Rattle.its_governor.specs.Governing.{is_repeat, room_in, source_room}
+use Rattle.its_governor.specs.Governing.{has_room_for, id_of, is_remembered, is_repeated_in}
+use Rattle.its_governor.specs.Governing.{frame_in, room_in, source_room}
 use Rattle.its_c.specs.Governed.{HasNoLimits}
+use Rattle.its_c.specs.Told.{governed_reception, reception_in, with_repeat}
+use Rattle.its_c.specs.declared.layout.Reception.{Reception}
 
-no_repeat : (number : Option ℕ) (source now : ℕ) → is_repeat None number source now ≡ false
-no_repeat None source now = refl
-no_repeat (Some n) source now = refl
+none_remembered : (id : Option PacketId) (now : ℕ) → is_remembered None id now ≡ false
+none_remembered None now = refl
+none_remembered (Some id) now = refl
 
 no_echo : (g : Governor) (now : ℕ) (t : Transmission) → g.delivered ≡ None
     → is_echo g.delivered now t ≡ false
 no_echo g now t none =
     ap (λ (m : Option MemoryState). is_echo m now t) none
-    ∙ no_repeat (number_in t.pdu.body) t.pdu.vector.address now
+    ∙ none_remembered (id_of t) now
 
 forwards : (g : Governor) → HasNoLimits g → (now : ℕ) (t : Transmission) → t.hops_left ≤ 255
     → may_forward g now t ≡ true
 forwards g free now t few =
     let source = t.pdu.vector.address in
-    ap (λ (c : ℕ). leb t.hops_left c && room_in g.forward now && source_room g.sources source now
-    && not (is_echo g.delivered now t)) free.hop_cap
+    ap (λ (e : Bool). not e && has_room_for g now t) (no_echo g now t free.delivered)
+    ∙ ap (λ (c : ℕ). leb t.hops_left c && room_in g.forward now && source_room g.sources source now)
+    free.hop_cap
     ∙ ap (λ (f : Option Bucket). leb t.hops_left 255 && room_in f now
-    && source_room g.sources source now && not (is_echo g.delivered now t)) free.forward
-    ∙ ap (λ (s : Option SourceState). leb t.hops_left 255 && true && source_room s source now
-    && not (is_echo g.delivered now t)) free.sources
-    ∙ ap (λ (e : Bool). leb t.hops_left 255 && true && true && not e)
-    (no_echo g now t free.delivered)
-    ∙ ap (λ (b : Bool). b && true && true && true) (le-leb t.hops_left 255 few)
+    && source_room g.sources source now) free.forward
+    ∙ ap (λ (s : Option SourceState). leb t.hops_left 255 && true && source_room s source now)
+    free.sources
+    ∙ ap (λ (b : Bool). b && true && true) (le-leb t.hops_left 255 few)
 
 kept_all : {A : Type 0} (b : Bool) (o : Option A) → b ≡ true → kept (is_some o && b) o ≡ o
 kept_all b None is = refl
@@ -81,3 +84,23 @@ unlimited_step g free now w (model.Call.Receive t) is m =
     ap (λ (a : Answer Transmission). record { answer = a; station = step.station })
     (same_answer g free now t (omega (arith, left, most)) step.answer)
 unlimited_step g free now w (model.Call.Junk fault) is m = junk g now m fault (moment_refusal m now)
+
+-- without a memory no packet is one that was delivered before
+none_repeated : (g : Governor) → g.delivered ≡ None → (now : ℕ) (f : Option Transmission)
+    (a : Answer Transmission) → is_repeated_in g now f a ≡ false
+none_repeated g none now (Some t) (model.Answer.Accepted handed relayed) = no_echo g now t none
+none_repeated g none now None (model.Answer.Accepted handed relayed) = refl
+none_repeated g none now f model.Answer.Moved = refl
+none_repeated g none now f model.Answer.Opened = refl
+none_repeated g none now f model.Answer.Closed = refl
+none_repeated g none now f model.Answer.Restarted = refl
+none_repeated g none now f model.Answer.Quiet = refl
+none_repeated g none now f (model.Answer.Sent frame) = refl
+none_repeated g none now f (model.Answer.Ignored why) = refl
+none_repeated g none now f (model.Answer.Refused refusal) = refl
+
+pub unlimited_reception : (g : Governor) → HasNoLimits g → (now : ℕ) (call : Call)
+    (a : Answer Transmission) → governed_reception g now call a ≡ reception_in call
+unlimited_reception g free now call a =
+    ap (λ (b : Bool). with_repeat b (reception_in call))
+    (none_repeated g free.delivered now (frame_in call) a)

@@ -1,6 +1,6 @@
 -- What a call tells C.
 use Rattle.std.specs.Prelude.{◌≡◌, ◌+◌, ℕ, ℤ, List, length, take, drop, Vec, Option, Some, None}
-use Rattle.std.specs.Prelude.{Result, Ok, Err}
+use Rattle.std.specs.Prelude.{Result, Ok, Err, Bool, true, false}
 use Rattle.std.specs.declared.alloc.Global.{Global}
 use Rattle.its_faults.specs.declared.frame.FrameFault.{FrameFault}
 use Rattle.its_faults.specs.declared.frame.FrameFault.TheVariants as faults
@@ -15,6 +15,10 @@ use Rattle.its_model.specs.Station.{Step}
 use Rattle.its_headers.specs.Fields.{kind_of_body}
 use Rattle.its_headers.specs.declared.kind.Kind.{Kind}
 use Rattle.its_headers.specs.declared.kind.Kind.TheVariants as kinds_of
+use Rattle.its_governor.specs.declared.governor.Governor.{Governor}
+use Rattle.its_governor.specs.declared.receive.GovernedOutcome.{GovernedOutcome}
+use Rattle.its_governor.specs.declared.receive.GovernedOutcome.TheVariants as governed
+use Rattle.its_governor.specs.Governing.{frame_in, is_repeated_in, verified_frame}
 use Rattle.its_station.specs.Receiving.{VerifiedCall}
 use Rattle.its_station.specs.Counting.{counted_done}
 use Rattle.its_station.specs.declared.counts.Counts.{Counts}
@@ -116,9 +120,10 @@ reception_of t = record nothing_received {
   hops_left = t.hops_left;
 }
 
--- a reception that tells no more than that
+-- a reception that tells no more than that, and why the frame is ignored
 abbrev pub IsHeard : Reception → Type 0
 IsHeard r = r ≡ record nothing_received {
+  ignored = r.ignored;
   source = r.source;
   kind = r.kind;
   number = r.number;
@@ -136,6 +141,34 @@ reception_in (model.Call.Junk fault) = nothing_received
 abbrev pub verified_reception_in : VerifiedCall → Reception
 verified_reception_in (VerifiedCall.Came v) = reception_of v.frame
 verified_reception_in (VerifiedCall.Faulty fault) = nothing_received
+
+-- the number that says that the packet was delivered before
+abbrev pub with_repeat : Bool → Reception → Reception
+with_repeat true r = record r { ignored = 5 }
+with_repeat false r = r
+
+-- what is told of octets behind these limits, by the answer of the station to this call
+abbrev pub governed_reception : Governor → ℕ → Call → Answer Transmission → Reception
+governed_reception g now call answer =
+    with_repeat (is_repeated_in g now (frame_in call) answer) (reception_in call)
+
+-- the same of a secured frame that came with its plain part
+abbrev pub governed_verified_reception : Governor → ℕ → VerifiedCall → Answer Transmission
+    → Reception
+governed_verified_reception g now call answer =
+    with_repeat (is_repeated_in g now (verified_frame call) answer) (verified_reception_in call)
+
+-- the outcome behind limits, as the outcome of a station
+abbrev pub outcome_of : Result GovernedOutcome Refused → Result Outcome Refused
+outcome_of (Ok (governed.Passed outcome)) = Ok outcome
+outcome_of (Ok governed.Repeated) = Ok (outcomes.Accepted None None)
+outcome_of (Err refused) = Err refused
+
+-- whether the packet was delivered before
+abbrev pub is_repeated : Result GovernedOutcome Refused → Bool
+is_repeated (Ok (governed.Passed outcome)) = false
+is_repeated (Ok governed.Repeated) = true
+is_repeated (Err refused) = false
 
 -- the number of a reason
 abbrev pub number_of : Why → ℕ

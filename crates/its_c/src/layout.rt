@@ -1,11 +1,14 @@
 //! The structs that C and the library share: of integers alone, since C may pass memory that it
 //! never wrote.
 
+use its_governor::{Limits, Rate};
+
 /// What became of a frame: `struct geostation_reception` of C.
 #[repr(C)]
 #[derive(Clone, Copy)]
 pub struct Reception {
-    /// Why the frame is ignored: 1 to 4, in the order of `Why`, or 0.
+    /// Why the frame is ignored: 1 to 4, in the order of `Why`; 5 if the packet was delivered
+    /// before; or 0.
     pub ignored: u32,
     /// 1 where a payload is delivered, else 0.
     pub delivered: u32,
@@ -294,14 +297,14 @@ impl Config {
         remember: 8,
         mobile: 1,
         number: 0,
-        forward_rate: 100,
-        forward_burst: 50,
-        source_rate: 20,
-        source_burst: 20,
-        own_rate: 50,
-        own_burst: 50,
-        hop_cap: 10,
-        deliver_once: 1,
+        forward_rate: Rate::CHANNEL_FORWARD.per_second,
+        forward_burst: Rate::CHANNEL_FORWARD.burst,
+        source_rate: Rate::CHANNEL_SOURCE.per_second,
+        source_burst: Rate::CHANNEL_SOURCE.burst,
+        own_rate: Rate::CHANNEL_OWN.per_second,
+        own_burst: Rate::CHANNEL_OWN.burst,
+        hop_cap: Limits::CHANNEL.hop_cap as u32,
+        deliver_once: Limits::CHANNEL.delivers_once as u32,
     };
 }
 
@@ -316,7 +319,7 @@ pub struct AllCounts {
     pub told: ToldCounts,
     /// Frames that were not forwarded, for a limit or as an echo.
     pub suppressed: u64,
-    /// Payloads that were not delivered, as they were delivered before.
+    /// Packets that were delivered before, and so neither delivered nor forwarded.
     pub repeated: u64,
     /// Own packets that were refused for their rate.
     pub over_rate: u64,

@@ -20,7 +20,8 @@ ghost use Rattle.its_station.specs.State.{RepresentsStation};
 ghost use Rattle.its_station.specs.Steps.{IsStepOf};
 ghost use Rattle.its_c.specs.Open.{HoldsModel};
 ghost use Rattle.its_c.specs.Told.{IsTold, IsHeard, ShowsReceived, nothing_received, reception_in};
-ghost use Rattle.its_c.specs.Told.{reception_of, verified_reception_in};
+ghost use Rattle.its_c.specs.Told.{governed_reception, governed_verified_reception, reception_of};
+ghost use Rattle.its_c.specs.Told.{is_repeated, outcome_of, with_repeat};
 ghost use Rattle.its_linkframe.specs.Secured.{Verified, EncodesVerified, seen_on_air};
 
 use crate::counting::count_received;
@@ -28,8 +29,8 @@ use crate::handle::Geostation;
 use crate::layout::Reception;
 use crate::reading::kind_number;
 use crate::status::NO_ROOM;
-use crate::told::told_outcome;
-use its_governor::Governor;
+use crate::told::{REPEATED, told_outcome};
+use its_governor::{GovernedOutcome, Governor};
 use its_headers::InnerPacketView;
 use its_linkframe::{
     FrameFault, FrameView, LONGEST_FRAME, LONGEST_SECURED_FRAME, Unpadded, VerifiedFrame,
@@ -50,11 +51,11 @@ pub extern "C" fn geostation_frame_length(octets: &[u8]) -> usize
 }
 
 /// Takes the octets that came, and writes what became of them; the frame in which the packet goes
-/// on is written into `relay`, if the limits let it pass. A payload that was delivered before is not
-/// delivered again. Of at most 60 octets that begin with a frame the zeros behind it
-/// are left out: Ethernet fills a short frame up with them. Refused by `NO_ROOM` for a buffer under
-/// 1468 octets, for its moment (S1, S2), for octets that are no frame (S3), whose fault the
-/// reception has, for a table that is full (S4), and for memory (S5).
+/// on is written into `relay`, if the limits let it pass. A packet that was delivered before is
+/// neither delivered nor forwarded again, and the reception says so. Of at most 60 octets that begin
+/// with a frame the zeros behind it are left out: Ethernet fills a short frame up with them. Refused
+/// by `NO_ROOM` for a buffer under 1468 octets, for its moment (S1, S2), for octets that are no frame
+/// (S3), whose fault the reception has, for a table that is full (S4), and for memory (S5).
 #[unsafe(no_mangle)]
 pub extern "C" fn geostation_receive(
     alloc: Global,
@@ -69,7 +70,8 @@ pub extern "C" fn geostation_receive(
         × (call : Call) × IsFrameCall w call
         × ((m : StationModel) (g : Limited) → HoldsModel s.old.held.station m →
         s.old.governor.value ≡ Some g →
-        IsTold Tells (ShowsReceived w (reception_in call) reception.new relay.new) counted result
+        IsTold Tells (ShowsReceived w (governed_reception g now call
+        (station_step m now call).answer) reception.new relay.new) counted result
         s.old s.new (governed_step g now call (station_step m now call))
         × (result ≡ pos 0 → s.new.governor.value
         ≡ Some (after_call g now false (frame_in call) (station_step m now call).answer))) }
@@ -124,7 +126,8 @@ pub extern "C" fn geostation_receive_verified(
         × ((m : StationModel) (g : Limited) → HoldsModel s.old.held.station m →
         s.old.governor.value ≡ Some g →
         IsTold (TellsBy (sealed_by call))
-        (ShowsReceived plain.now (verified_reception_in call) reception.new relay.new) counted
+        (ShowsReceived plain.now (governed_verified_reception g now call
+        (verified_step m now call).answer) reception.new relay.new) counted
         result s.old s.new (governed_verified_step g now call (verified_step m now call))
         × (result ≡ pos 0 → s.new.governor.value
         ≡ Some (after_call g now false (verified_frame call) (verified_step m now call).answer))) }
@@ -162,12 +165,13 @@ fn hear_verified<'a>(
     requires { heard.old ≡ nothing_received }
     ensures heard { IsHeard heard.new }
     ensures step { (call : VerifiedCall) × IsVerifiedCall frame.now plain.now call
-        × (heard.new ≡ verified_reception_in call)
         × ((m : StationModel) → RepresentsStation station.old m →
         IsStepOf (TellsBy (sealed_by call)) result station.new
         (governed_verified_step governor.old now call (verified_step m now call))
         × OnOk result (governor.new
         ≡ after_call governor.old now false (verified_frame call)
+        (verified_step m now call).answer)
+        × OnOk result (heard.new ≡ governed_verified_reception governor.old now call
         (verified_step m now call).answer)) }
     ensures memory { result ≡ Err Refused.NoMemory → (v : Verified)
         × EncodesVerified v frame.now plain.now
@@ -181,7 +185,7 @@ fn hear_verified<'a>(
     match VerifiedFrame::read(frame, plain) {
         Ok(verified) => {
             *heard = reception_of_packet(verified.packet());
-            governor.receive_verified_frame(station, now, &verified)
+            note_repeat(governor.receive_verified_frame(station, now, &verified), heard)
         }
         Err(fault) => Err(station.refuse_secured(now, fault)),
     }
@@ -216,12 +220,14 @@ fn hear<'a>(
     requires only { (t : Transmission) → EncodesFrame t octets.now →
         IsOkAnd frame (λ v. transmission_of v ≡ t) }
     ensures heard { IsHeard heard.new }
-    ensures step { (call : Call) × IsFrameCall octets.now call × (heard.new ≡ reception_in call)
+    ensures step { (call : Call) × IsFrameCall octets.now call
         × ((m : StationModel) → RepresentsStation station.old m →
         IsStepOf Tells result station.new
         (governed_step governor.old now call (station_step m now call))
         × OnOk result (governor.new
-        ≡ after_call governor.old now false (frame_in call) (station_step m now call).answer)) }
+        ≡ after_call governor.old now false (frame_in call) (station_step m now call).answer)
+        × OnOk result (heard.new ≡ governed_reception governor.old now call
+        (station_step m now call).answer)) }
     ensures memory { result ≡ Err Refused.NoMemory → (t : Transmission) × EncodesFrame t octets.now
         × ((m : StationModel) → RepresentsStation station.old m →
         (verdict m now t ≡ stations.Verdict.Accept) × TakesMemory m now t) }
@@ -233,9 +239,31 @@ fn hear<'a>(
     match frame {
         Ok(view) => {
             *heard = reception_of(&view);
-            governor.receive_frame(station, now, &view)
+            note_repeat(governor.receive_frame(station, now, &view), heard)
         }
-        Err(_) => governor.receive(station, now, octets),
+        Err(_) => note_repeat(governor.receive(station, now, octets), heard),
+    }
+}
+
+/// Notes in a reception that its packet was delivered before: such a packet is neither delivered
+/// nor forwarded.
+fn note_repeat<'a>(
+    said: Result<GovernedOutcome<'a>, Refused>,
+    heard: &mut Reception,
+) -> Result<Outcome<'a>, Refused>
+    ensures outcome { result ≡ outcome_of said.entry }
+    ensures heard { heard.new ≡ with_repeat (is_repeated said.entry) heard.old }
+{
+    match said {
+        Ok(GovernedOutcome::Passed(outcome)) => Ok(outcome),
+        Ok(GovernedOutcome::Repeated) => {
+            heard.ignored = REPEATED;
+            Ok(Outcome::Accepted {
+                handed: None,
+                sent: None,
+            })
+        }
+        Err(refused) => Err(refused),
     }
 }
 

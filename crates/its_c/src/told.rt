@@ -142,6 +142,9 @@ fn refused_reception(refused: Refused) -> Reception
     }
 }
 
+/// The number in a reception of a packet that was delivered before.
+pub(crate) const REPEATED: u32 = 5;
+
 fn number_of(why: Why) -> u32
     ensures { result ≡ number_of why }
 {

@@ -4,3 +4,5 @@ pub mod Receptions
 pub mod Replies
 pub mod SourceBounds
 pub mod Runs
+pub mod Passing
+pub mod Deliveries

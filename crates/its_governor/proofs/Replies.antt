@@ -43,8 +43,8 @@ pub judging_own : (g : Governor) (now : ℕ) (t : Transmission) (handed sent : B
     → (after_judging g now t handed sent).own ≡ g.own
 judging_own g now t handed sent =
     let p = passed_of g now t handed sent in
-    delivery_own (after_forwarding g now t.pdu.vector.address sent p.forwards) now t handed
-    p.delivers
+    delivery_own (after_forwarding g now t.pdu.vector.address sent p.forwards) now t
+    p.is_repeated p.delivers
     ∙ forwarding_own g now t.pdu.vector.address sent p.forwards
 
 -- ---- what passes of an accepted packet

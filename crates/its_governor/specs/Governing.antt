@@ -3,6 +3,7 @@ use Rattle.its_station.specs.Receiving.{VerifiedCall}
 use Rattle.std.specs.Prelude.{◌≡◌, ℕ, ◌^◌, Bool, true, false, not, ◌&&◌, nat_le, if◌then◌else◌, []}
 use Rattle.std.specs.Prelude.{Option, Some, None, is_some, IsTrue}
 use Rattle.std.specs.Option.{option_map}
+use Rattle.its_gnvalue.specs.Values.{PositionVector}
 use Rattle.its_model.specs.Packet.{Message, Transmission, number_in}
 use Rattle.its_model.specs.Calls as model
 use Rattle.its_model.specs.Calls.{Answer, Call}
@@ -14,6 +15,7 @@ use Rattle.its_governor.specs.declared.governor.Governor.{Governor}
 use Rattle.its_governor.specs.declared.governor.Passed.{Passed}
 use Rattle.its_governor.specs.Bucket.{full, has_room, drawn}
 use Rattle.its_governor.specs.Sources.{SourceState, bucket_of, with_draw}
+use Rattle.its_governor.specs.declared.memory.PacketId.{PacketId}
 use Rattle.its_governor.specs.Memory.{MemoryState, is_held, end_of_life, with_packet}
 
 -- ---- the limits
@@ -38,28 +40,41 @@ abbrev pub source_drawn : Option SourceState → ℕ → ℕ → Option SourceSt
 source_drawn None source now = None
 source_drawn (Some s) source now = Some (with_draw source now s)
 
--- whether the packet of this number was delivered before, and is remembered
-abbrev pub is_repeat : Option MemoryState → Option ℕ → ℕ → ℕ → Bool
-is_repeat (Some m) (Some number) source now = is_held m source number now
-is_repeat None number source now = false
-is_repeat (Some m) None source now = false
+-- what tells a packet from all others, if it has a sequence number
+abbrev pub id_by : PositionVector → Option ℕ → Option PacketId
+id_by vector None = None
+id_by vector (Some number) =
+    Some (record { source = vector.address; number = number; timestamp = vector.timestamp })
+
+abbrev pub id_of : Transmission → Option PacketId
+id_of t = id_by t.pdu.vector (number_in t.pdu.body)
+
+-- whether a packet was delivered before, and is remembered
+abbrev pub is_remembered : Option MemoryState → Option PacketId → ℕ → Bool
+is_remembered (Some m) (Some id) now = is_held m id now
+is_remembered None id now = false
+is_remembered (Some m) None now = false
 
 abbrev pub is_echo : Option MemoryState → ℕ → Transmission → Bool
-is_echo memory now t = is_repeat memory (number_in t.pdu.body) t.pdu.vector.address now
+is_echo memory now t = is_remembered memory (id_of t) now
 
 -- the memory after a packet was delivered
-abbrev pub remembered : Option MemoryState → Option ℕ → ℕ → ℕ → Option MemoryState
-remembered (Some m) (Some number) source until = Some (with_packet source number until m)
-remembered None number source until = None
-remembered (Some m) None source until = Some m
+abbrev pub remembered : Option MemoryState → Option PacketId → ℕ → Option MemoryState
+remembered (Some m) (Some id) until = Some (with_packet id until m)
+remembered None id until = None
+remembered (Some m) None until = Some m
 
 -- ---- a packet that a station accepted
 
+-- whether the limits have room for it
+abbrev pub has_room_for : Governor → ℕ → Transmission → Bool
+has_room_for g now t =
+    nat_le t.hops_left g.hop_cap && room_in g.forward now
+    && source_room g.sources t.pdu.vector.address now
+
 -- whether it may be forwarded
 abbrev pub may_forward : Governor → ℕ → Transmission → Bool
-may_forward g now t =
-    nat_le t.hops_left g.hop_cap && room_in g.forward now
-    && source_room g.sources t.pdu.vector.address now && not (is_echo g.delivered now t)
+may_forward g now t = not (is_echo g.delivered now t) && has_room_for g now t
 
 -- what passes of a packet, by whether the station delivers it and would forward it
 abbrev pub passed_of : Governor → ℕ → Transmission → Bool → Bool → Passed
@@ -67,6 +82,7 @@ passed_of g now t handed sent =
     record {
       delivers = handed && not (is_echo g.delivered now t);
       forwards = sent && may_forward g now t;
+      is_repeated = is_echo g.delivered now t;
     }
 
 -- the governor after a frame was forwarded, or withheld
@@ -81,27 +97,26 @@ after_forwarding g now source sent forwards =
     then record g { counts = record g.counts { suppressed = one_more g.counts.suppressed } }
     else g
 
--- the governor after a packet was delivered, or withheld
+-- the governor after a packet was delivered, or one that was delivered before was withheld
 abbrev pub after_delivery : Governor → ℕ → Transmission → Bool → Bool → Governor
-after_delivery g now t handed delivers =
+after_delivery g now t is_repeated delivers =
     if delivers
     then record g {
-      delivered = remembered g.delivered (number_in t.pdu.body) t.pdu.vector.address
-          (end_of_life now t.pdu.lifetime);
+      delivered = remembered g.delivered (id_of t) (end_of_life now t.pdu.lifetime);
     }
-    else if handed
+    else if is_repeated
     then record g { counts = record g.counts { repeated = one_more g.counts.repeated } }
     else g
 
 -- the governor after both, by what passes
-abbrev pub after_passing : Governor → ℕ → Transmission → Bool → Bool → Passed → Governor
-after_passing g now t handed sent p =
+abbrev pub after_passing : Governor → ℕ → Transmission → Bool → Passed → Governor
+after_passing g now t sent p =
     after_delivery (after_forwarding g now t.pdu.vector.address sent p.forwards)
-    now t handed p.delivers
+    now t p.is_repeated p.delivers
 
 abbrev pub after_judging : Governor → ℕ → Transmission → Bool → Bool → Governor
 after_judging g now t handed sent =
-    after_passing g now t handed sent (passed_of g now t handed sent)
+    after_passing g now t sent (passed_of g now t handed sent)
 
 -- ---- a new governor
 
@@ -132,7 +147,8 @@ kept false value = None
 -- forwarded.
 abbrev pub passed_in : Governor → ℕ → Option Transmission → Bool → Bool → Passed
 passed_in g now (Some t) handed sent = passed_of g now t handed sent
-passed_in g now None handed sent = record { delivers = handed; forwards = false }
+passed_in g now None handed sent =
+    record { delivers = handed; forwards = false; is_repeated = false }
 
 -- the answer to an accepted packet, by what passes
 abbrev pub accepted_by : Option Message → Option Transmission → Passed → Answer Transmission
@@ -145,6 +161,16 @@ abbrev pub governed : Governor → ℕ → Option Transmission → Answer Transm
 governed g now frame (model.Answer.Accepted handed relayed) =
     accepted_by handed relayed (passed_in g now frame (is_some handed) (is_some relayed))
 governed g now frame answer = answer
+
+-- whether the packet of a frame was delivered before, and is remembered
+abbrev pub is_echo_in : Governor → ℕ → Option Transmission → Bool
+is_echo_in g now (Some t) = is_echo g.delivered now t
+is_echo_in g now None = false
+
+-- whether such a frame is accepted
+abbrev pub is_repeated_in : Governor → ℕ → Option Transmission → Answer Transmission → Bool
+is_repeated_in g now frame (model.Answer.Accepted handed relayed) = is_echo_in g now frame
+is_repeated_in g now frame answer = false
 
 -- a step of the station, of whose answer that is kept which passes
 abbrev pub governed_step : Governor → ℕ → Call → Step → Step

@@ -135,6 +135,7 @@ impl Governor {
             None => Passed {
                 delivers: handed,
                 forwards: false,
+                is_repeated: false,
             },
         }
     }

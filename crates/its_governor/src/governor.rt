@@ -5,10 +5,10 @@ ghost use Rattle.its_headers.specs.Seen.{Seen};
 ghost use Rattle.its_governor.specs.Governing.{IsNewGovernor, room_in, draw_from, source_room};
 ghost use Rattle.its_governor.specs.Governing.{source_drawn, is_echo, may_forward, passed_of};
 ghost use Rattle.its_governor.specs.Governing.{after_forwarding, after_delivery, after_judging};
-ghost use Rattle.its_governor.specs.Governing.{IsDraw, IsDrawOf};
+ghost use Rattle.its_governor.specs.Governing.{IsDraw, IsDrawOf, has_room_for, id_of};
 
 use crate::bucket::Bucket;
-use crate::memory::DeliveryMemory;
+use crate::memory::{DeliveryMemory, PacketId};
 use crate::rate::Limits;
 use crate::sources::SourceBuckets;
 use its_gnvalue::{GnAddress, NoMemory};
@@ -20,7 +20,7 @@ use std::alloc::Global;
 pub struct WithheldCounts {
     /// Frames that the station would have forwarded.
     pub suppressed: u64,
-    /// Payloads that were delivered before.
+    /// Packets that were delivered before, and so were neither delivered nor forwarded.
     pub repeated: u64,
     /// Own packets: the calls were refused.
     pub over_rate: u64,
@@ -42,6 +42,8 @@ pub struct Passed {
     pub delivers: bool,
     /// Whether it is forwarded.
     pub forwards: bool,
+    /// Whether it was delivered before, and is remembered: then it passes neither way.
+    pub is_repeated: bool,
 }
 
 /// The limits of a station, and what is left of them.
@@ -105,27 +107,35 @@ impl Governor {
         ensures once { IsTrue (is_echo self.old.delivered now (F.frame frame.now)) →
             IsFalse result.delivers }
         ensures open { IsTrue (may_forward self.old now (F.frame frame.now)) →
-            result ≡ record { delivers = accepted.handed; forwards = accepted.sent } }
+            result ≡ record {
+              delivers = accepted.handed;
+              forwards = accepted.sent;
+              is_repeated = false;
+            } }
         ensures deliveries { self.old.delivered ≡ None → result.delivers ≡ accepted.handed }
         ensures room { IsDraw self.old.forward result.forwards now self.new.forward }
         ensures source { IsDrawOf self.old.sources (F.frame frame.now).pdu.vector.address
             result.forwards now self.new.sources }
     {
-        let forwards = accepted.sent && self.may_forward(now, frame);
-        let delivers = accepted.handed && !self.is_echo(now, frame);
+        let is_repeated = self.is_echo(now, frame);
+        let forwards = accepted.sent && !is_repeated && self.has_room_for(now, frame);
+        let delivers = accepted.handed && !is_repeated;
         self.note_forwarding(now, frame.vector().address(), accepted.sent, forwards);
-        self.note_delivery(now, frame, accepted.handed, delivers);
-        Passed { delivers, forwards }
+        self.note_delivery(now, frame, is_repeated, delivers);
+        Passed {
+            delivers,
+            forwards,
+            is_repeated,
+        }
     }
 
-    /// Whether a packet may be forwarded.
-    fn may_forward<'a, F: ReceivedFrame<'a>>(&self, now: u64, frame: &F) -> bool
-        ensures { result ≡ may_forward self.now now (F.frame frame.now) }
+    /// Whether the limits have room for a packet that is to be forwarded.
+    fn has_room_for<'a, F: ReceivedFrame<'a>>(&self, now: u64, frame: &F) -> bool
+        ensures { result ≡ has_room_for self.now now (F.frame frame.now) }
     {
         frame.hops_left() <= self.hop_cap
             && has_room(&self.forward, now)
             && self.source_has_room(now, frame.vector().address())
-            && !self.is_echo(now, frame)
     }
 
     /// Whether the bucket of a source has room.
@@ -142,10 +152,8 @@ impl Governor {
     fn is_echo<'a, F: ReceivedFrame<'a>>(&self, now: u64, frame: &F) -> bool
         ensures { result ≡ is_echo self.now.delivered now (F.frame frame.now) }
     {
-        match (&self.delivered, frame.number()) {
-            (Some(delivered), Some(number)) => {
-                delivered.holds(frame.vector().address(), number, now)
-            }
+        match (&self.delivered, id_of(frame)) {
+            (Some(delivered), Some(id)) => delivered.holds(&id, now),
             _ => false,
         }
     }
@@ -164,20 +172,20 @@ impl Governor {
         }
     }
 
-    /// Remembers a packet that is delivered, and counts one that was before.
+    /// Remembers a packet that is delivered, and counts one that was delivered before.
     fn note_delivery<'a, F: ReceivedFrame<'a>>(
         &mut self,
         now: u64,
         frame: &F,
-        handed: bool,
+        is_repeated: bool,
         delivers: bool,
     )
         ensures { self.new
-            ≡ after_delivery self.old now (F.frame frame.now) handed delivers }
+            ≡ after_delivery self.old now (F.frame frame.now) is_repeated delivers }
     {
         if delivers {
             self.remember(now, frame);
-        } else if handed {
+        } else if is_repeated {
             self.counts.repeated = self.counts.repeated.saturating_add(1);
         }
     }
@@ -186,9 +194,8 @@ impl Governor {
     fn remember<'a, F: ReceivedFrame<'a>>(&mut self, now: u64, frame: &F)
         ensures { self.new ≡ after_delivery self.old now (F.frame frame.now) true true }
     {
-        if let (Some(delivered), Some(number)) = (&mut self.delivered, frame.number()) {
-            let until = now.saturating_add(frame.lifetime().millis());
-            delivered.note(frame.vector().address(), number, until);
+        if let (Some(delivered), Some(id)) = (&mut self.delivered, id_of(frame)) {
+            delivered.note(id, now.saturating_add(frame.lifetime().millis()));
         }
     }
 
@@ -204,6 +211,21 @@ impl Governor {
         ensures { self.new ≡ record self.old { own = draw_from self.old.own now } }
     {
         draw(&mut self.own, now);
+    }
+}
+
+/// What tells the packet of a frame from all others, if it has a sequence number.
+fn id_of<'a, F: ReceivedFrame<'a>>(frame: &F) -> Option<PacketId>
+    ensures { result ≡ id_of (F.frame frame.now) }
+{
+    let vector = frame.vector();
+    match frame.number() {
+        Some(number) => Some(PacketId {
+            source: vector.address(),
+            number,
+            timestamp: vector.tst(),
+        }),
+        None => None,
     }
 }
 

@@ -10,8 +10,8 @@
 //! let mut governor = Governor::new(alloc, &Limits::CHANNEL)?;
 //!
 //! match governor.receive(&mut station, now, octets) {
-//!     Ok(Outcome::Accepted { handed, sent }) => {}
-//!     Ok(Outcome::Ignored(_)) => {}
+//!     Ok(GovernedOutcome::Passed(Outcome::Accepted { handed, sent })) => {}
+//!     Ok(GovernedOutcome::Passed(Outcome::Ignored(_)) | GovernedOutcome::Repeated) => {}
 //!     Err(refused) => log.push(refused.code())?,
 //! }
 //! ```
@@ -37,7 +37,8 @@ mod sources;
 pub use answer::GovernedReply;
 pub use bucket::Bucket;
 pub use governor::{Accepted, Governor, Passed, WithheldCounts};
-pub use memory::{DeliveredPacket, DeliveryMemory};
+pub use memory::{DeliveredPacket, DeliveryMemory, PacketId};
 pub use rate::{Limits, Rate};
+pub use receive::GovernedOutcome;
 pub use run::GovernedRan;
 pub use sources::{SourceBuckets, SourceDraw};

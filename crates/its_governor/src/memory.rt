@@ -12,12 +12,23 @@ use std::marker::Model;
 /// How many packets are kept.
 const PACKETS: usize = 1024;
 
-/// A packet for an area that was delivered: its source, its sequence number, and the first moment
-/// at which its lifetime is over.
+/// What tells a packet for an area from all other packets, and what no forwarder changes: its source,
+/// its sequence number and the time stamp of its position vector. A source that was restarted uses
+/// its sequence numbers again, but with newer time stamps.
+#[derive(Clone, Copy, Debug, PartialEq, Eq)]
+pub struct PacketId {
+    /// The address of the source.
+    pub source: GnAddress,
+    /// The sequence number.
+    pub number: u16,
+    /// The time stamp of the source's position vector, in milliseconds modulo 2^32.
+    pub timestamp: u32,
+}
+
+/// A packet for an area that was delivered, and the first time at which its lifetime is over.
 #[derive(Clone, Copy, Debug, PartialEq, Eq)]
 pub struct DeliveredPacket {
-    pub(crate) source: GnAddress,
-    pub(crate) number: u16,
+    pub(crate) id: PacketId,
     pub(crate) until: u64,
 }
 
@@ -45,30 +56,31 @@ impl DeliveryMemory {
         Ok(DeliveryMemory { packets })
     }
 
-    /// Whether the packet of this source and number was delivered, and its lifetime isn't over.
-    pub fn holds(&self, source: GnAddress, number: u16, now: u64) -> bool
-        ensures { result ≡ is_held self.now source number now }
+    /// Whether this packet was delivered, and its lifetime isn't over.
+    pub fn holds(&self, id: &PacketId, now: u64) -> bool
+        ensures { result ≡ is_held self.now id.now now }
     {
         let (newer, older) = self.packets.as_slices();
-        is_among(newer, source, number, now) || is_among(older, source, number, now)
+        is_among(newer, id, now) || is_among(older, id, now)
     }
 
-    /// Keeps a packet that was delivered. Where 1024 packets were kept the oldest goes. It takes no
+    /// Keeps a packet that was delivered. If 1024 packets were kept, the oldest goes. It takes no
     /// memory.
-    pub fn note(&mut self, source: GnAddress, number: u16, until: u64)
-        ensures { self.new ≡ with_packet source number until self.old }
+    pub fn note(&mut self, id: PacketId, until: u64)
+        ensures { self.new ≡ with_packet id until self.old }
     {
-        self.packets.push_front(DeliveredPacket {
-            source,
-            number,
-            until,
-        });
+        self.packets.push_front(DeliveredPacket { id, until });
     }
 }
 
 /// Whether a packet that still lives is among these.
-fn is_among(packets: &[DeliveredPacket], source: GnAddress, number: u16, now: u64) -> bool
-    ensures { result ≡ list_any (is_packet source number now) packets.now }
+fn is_among(packets: &[DeliveredPacket], id: &PacketId, now: u64) -> bool
+    ensures { result ≡ list_any (is_packet id.now now) packets.now }
 {
-    packets.iter().any(|p| p.source == source && p.number == number && now < p.until)
+    packets.iter().any(|p| {
+        p.id.source == id.source
+            && p.id.number == id.number
+            && p.id.timestamp == id.timestamp
+            && now < p.until
+    })
 }

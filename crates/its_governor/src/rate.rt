@@ -9,6 +9,26 @@ pub struct Rate {
     pub per_second: u32,
 }
 
+impl Rate {
+    /// All frames that a station forwards, with `Limits::CHANNEL`.
+    pub const CHANNEL_FORWARD: Rate = Rate {
+        burst: 50,
+        per_second: 100,
+    };
+
+    /// The frames of each source that it forwards.
+    pub const CHANNEL_SOURCE: Rate = Rate {
+        burst: 20,
+        per_second: 20,
+    };
+
+    /// The station's own packets.
+    pub const CHANNEL_OWN: Rate = Rate {
+        burst: 50,
+        per_second: 50,
+    };
+}
+
 /// The limits on what a station sends. `None` is no limit.
 #[derive(Clone, Copy, Debug, PartialEq, Eq)]
 pub struct Limits {
@@ -20,8 +40,9 @@ pub struct Limits {
     pub own: Option<Rate>,
     /// A packet with more hops left than this is not forwarded. 255 is no limit.
     pub hop_cap: u8,
-    /// Whether a packet for an area that was delivered is not delivered again within its lifetime,
-    /// as long as it is among the last 1024 of them.
+    /// Whether a packet for an area that was delivered is neither delivered nor forwarded again
+    /// within its lifetime, as long as it is among the last 1024 of them. Its copies have the same
+    /// source, sequence number and time stamp.
     pub delivers_once: bool,
 }
 
@@ -39,18 +60,9 @@ impl Limits {
     /// of it. So 100 frames per second are 2.5 % of the channel, and ten stations in reach of each
     /// other that all forward take a quarter of it. A source has a fifth of that.
     pub const CHANNEL: Limits = Limits {
-        forward: Some(Rate {
-            burst: 50,
-            per_second: 100,
-        }),
-        source: Some(Rate {
-            burst: 20,
-            per_second: 20,
-        }),
-        own: Some(Rate {
-            burst: 50,
-            per_second: 50,
-        }),
+        forward: Some(Rate::CHANNEL_FORWARD),
+        source: Some(Rate::CHANNEL_SOURCE),
+        own: Some(Rate::CHANNEL_OWN),
         hop_cap: 10,
         delivers_once: true,
     };

@@ -345,7 +345,10 @@ fn forwarded_frames_hops_and_echoes_have_limits() {
     }
     assert_eq!(vec![false, true, true, false], passed);
     let echo = b.receive(10, &second, &mut relay).unwrap();
-    assert_eq!((None, None, None), (echo.ignored, echo.delivered, echo.relay));
+    assert_eq!(
+        (Some(IgnoreReason::Repeated), None, None),
+        (echo.ignored, echo.delivered, echo.relay)
+    );
     let counts = b.counts();
     assert_eq!((3, 1, 0), (counts.suppressed, counts.repeated, counts.over_rate));
     assert_eq!((4, 2), (counts.delivered, counts.relayed));

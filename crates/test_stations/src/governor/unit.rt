@@ -2,7 +2,7 @@
 
 use its_geometry::Area;
 use its_gnvalue::{GnAddress, Lifetime, Place, TrafficClass};
-use its_governor::{Governor, Limits};
+use its_governor::{GovernedOutcome, Governor, Limits};
 use its_loctable::SortedTable;
 use its_station::{GbcRequest, Outcome, Station};
 use std::alloc::Global;
@@ -20,6 +20,18 @@ pub(crate) struct Unit {
 pub(crate) struct Heard {
     pub(crate) delivered: bool,
     pub(crate) relay: Option<Vec<u8>>,
+    pub(crate) repeated: bool,
+}
+
+impl Heard {
+    /// Neither delivered nor forwarded.
+    fn nothing(repeated: bool) -> Heard {
+        Heard {
+            delivered: false,
+            relay: None,
+            repeated,
+        }
+    }
 }
 
 impl Unit {
@@ -46,14 +58,13 @@ impl Unit {
     /// Receives a frame.
     pub(crate) fn hear(&mut self, now: u64, octets: &[u8]) -> Heard {
         match self.governor.receive(&mut self.station, now, octets) {
-            Ok(Outcome::Accepted { handed, sent }) => Heard {
+            Ok(GovernedOutcome::Passed(Outcome::Accepted { handed, sent })) => Heard {
                 delivered: handed.is_some(),
                 relay: sent,
+                repeated: false,
             },
-            Ok(Outcome::Ignored(_)) | Err(_) => Heard {
-                delivered: false,
-                relay: None,
-            },
+            Ok(GovernedOutcome::Repeated) => Heard::nothing(true),
+            Ok(GovernedOutcome::Passed(Outcome::Ignored(_))) | Err(_) => Heard::nothing(false),
         }
     }
 

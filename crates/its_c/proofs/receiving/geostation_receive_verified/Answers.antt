@@ -6,8 +6,9 @@ use Rattle.its_c.specs.Status.{status_in}
 use Rattle.its_station.specs.Steps.{IsStepOf}
 use Rattle.its_governor.specs.declared.governor.Governor.{Governor}
 use Rattle.its_governor.specs.Governing.{after_call, governed_verified_step, verified_frame}
-use Rattle.its_c.specs.Told.{ShowsReceived}
-use Rattle.its_c.specs.declared.layout.Reception.{Reception}
+use Rattle.std.specs.Prelude.{OnOk}
+use Rattle.its_c.specs.Told.{governed_verified_reception}
+use Rattle.its_c.proofs.Repeats.{shown_as}
 use Rattle.its_c.proofs.Limits.{same_governor, ok_fact, ok_of_status, err_part}
 use Rattle.its_c.proofs.Opens.{held_model, is_there, stays_open}
 use Rattle.its_c.proofs.receiving.geostation_receive_verified.Goals as goal
@@ -20,7 +21,7 @@ invariant_of-s c =
           c.deref_mut.result.now c.hear_verified-said.new.station
           (λ m. governed_verified_step c.deref_mut-2.result.now c.args.now call
           (verified_step m c.args.now call)) c.args.s.now.held.station
-          c.put-2.new.self.station (λ m rep. (c.hear_verified-said.ensures.step.3 m rep).0)
+          c.put-2.new.self.station (λ m rep. (c.hear_verified-said.ensures.step.2 m rep).0)
           (err_part c.hear_verified-said.result _ _ c.hear_verified-said.ensures.unchanged)
           (search rules) (search rules) c.args.s.now.represents;
       governs = is_there c.put.new.self.value c.hear_verified-said.new.governor (search rules);
@@ -36,7 +37,7 @@ returns-clause-step c = λ long.
       found.1,
       λ m g model has. let rep = held_model c.args.s.now.held.station c.deref_mut.result.now m
           (search rules) model in
-          let done = found.3 m rep in
+          let done = found.2 m rep in
           let step = verified_step m c.args.now call in
           let same = same_governor c.args.s.now.governor.value h g (search rules) has in (
             record {
@@ -47,9 +48,12 @@ returns-clause-step c = λ long.
                   c.hear_verified-said.new.station (governed_verified_step x c.args.now call step))
                   same done.0;
               code = search rules;
-              shown = subst (λ (heard : Reception). ShowsReceived c.args.plain.now heard
-                  c.told_outcome.new.reception c.told_outcome.new.relay said)
-                  found.2 c.told_outcome.ensures.shown;
+              shown = shown_as said c.args.plain.now c.hear_verified-said.new.heard
+                  (governed_verified_reception g c.args.now call step.answer)
+                  c.told_outcome.new.reception c.told_outcome.new.relay
+                  (subst (λ (x : Governor). OnOk said (c.hear_verified-said.new.heard
+                  ≡ governed_verified_reception x c.args.now call step.answer)) same done.2)
+                  c.told_outcome.ensures.shown;
               counts = search rules;
             },
             λ zero.

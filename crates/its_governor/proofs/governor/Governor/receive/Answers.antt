@@ -1,6 +1,6 @@
 use Rattle.its_model.specs.Calls.{Receive}
 use Rattle.its_linkframe.specs.Frames.{transmission_of}
-use Rattle.its_station.proofs.Deliveries.{delivered_end}
+use Rattle.its_governor.proofs.Passing.{passed_end}
 use Rattle.its_governor.proofs.governor.Governor.receive.Goals as goal
 
 pub returns-in-Ok-clause-step : goal.returns-in-Ok-clause-step
@@ -12,7 +12,7 @@ returns-in-Ok-clause-step g c = (
 
 pub returns-in-Ok-clause-payload : goal.returns-in-Ok-clause-payload
 returns-in-Ok-clause-payload g c =
-    delivered_end
+    passed_end
     (transmission_of c.in-Ok.view) c.args.frame.now c.in-Ok.ensures.found c.receive_frame.result
     c.receive_frame.ensures.payload
 

@@ -16,4 +16,5 @@ returns-in-Err-clause-step g c = λ s rep.
       refused_step c.args.self.now c.args.now call c.in-Err.refused c.receive_verified_frame.new.self
           (station_step s c.args.now call) (c.in-Err.ensures.step s rep),
       tt,
+      tt,
     )
