@@ -3,8 +3,8 @@
 `GeoNetworking` is bound to EtherType 0x8947: of Ethernet, of a VLAN tag, of SNAP (IEEE 802.11,
 radiotap) and of a Linux cooked capture. `BTPB` is bound to `GeoNetworking`. The Basic Header, the
 Common Header and the extended header of EN 302 636-4-1 are one layer. Its last fields depend on the
-packet type. Of a secured packet only the Basic Header is read, of another type than beacon, GAC, GBC and
-SHB only the Basic Header and the Common Header. The rest is `Raw`.
+packet type. A secured packet is read up to its Basic Header, and a packet of another type than beacon,
+GAC, GBC and SHB up to its Common Header. The rest is `Raw`.
 
 `fuzz` works as scapy's `fuzz`, but it keeps the fields that a receiver checks first. So more
 packets get past these checks.
