@@ -15,6 +15,7 @@ use cap_records::{
     Place, RecordFault, RecordVisitor, Records, RefusedCapture, Selection, each_record,
     open_records,
 };
+use cmd_quoting::OneLine;
 use cmd_reporting::{CommandFault, Fault, Io, OutputFormat, Status, open};
 use its_linkframe::{FrameView, Source};
 use std::alloc::{AllocError, Global};
@@ -36,7 +37,7 @@ pub struct Showing {
 #[derive(Debug, Drop, Error)]
 pub(crate) enum ShowFault<'a> {
     /// Times were to be printed in UTC, and the file has no epoch.
-    #[error("geostation: {0}: no epoch")]
+    #[error("geostation: {}: no epoch", OneLine(*.0))]
     NoEpoch(&'a str),
     /// What ends any command.
     #[error("{0}")]
