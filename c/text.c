@@ -40,12 +40,12 @@ static const char *kind_text(uint32_t kind) {
         "a reserved bit that is set",
         "no hop left",
         "a next header other than none and BTP-B",
-        "an unsupported header type",
+        "an unsupported header type, or one that does not go with the next header",
         "a sub-type that the header type does not have",
         "more hops left than the maximum",
         "a payload length out of range",
         "a group address, or a position out of range",
-        "an area out of range",
+        "an area out of range, or a circle with a second distance or an angle",
     };
     return kind >= 1 && kind <= 12 ? texts[kind - 1] : "no packet in the frame";
 }

@@ -7,6 +7,7 @@ either order of octets, whole, cut at each octet and with what is wrong in them.
 
 from __future__ import annotations
 
+import gzip
 import struct
 from dataclasses import dataclass
 from typing import Iterator
@@ -78,6 +79,13 @@ def packet(ticks: int, frame: bytes, interface: int = 0) -> bytes:
     length = 32 + len(padded)
     head = struct.pack("<7I", 6, length, interface, ticks >> 32, ticks & 0xFFFFFFFF, size, size)
     return head + padded + struct.pack("<I", length)
+
+
+def simple(frame: bytes) -> bytes:
+    """The block of a frame without a time stamp."""
+    size, padded = len(frame), frame + bytes(-len(frame) % 4)
+    length = 16 + len(padded)
+    return struct.pack("<3I", 3, length, size) + padded + struct.pack("<I", length)
 
 
 def option(code: int, value: bytes) -> bytes:
@@ -235,6 +243,16 @@ FINE_TICKS = (
     + packet(130, b"z", 2)
 )
 
+SIMPLE_AND_LATER = (
+    SECTION + interface(6, offset=1000) + simple(b"abc") + packet(7, b"x") + simple(b"")
+)
+
+
+def left_out(count: int) -> str:
+    """The lines of the first records, of a link layer that is not read."""
+    return "".join(f"geostation: record {number}: link type\n" for number in range(count))
+
+
 CONVERTED = [
     Converted("three octets to pcap", THREE, "pcap", PCAP_HEADER + OF_THREE),
     Converted("three octets", THREE, "pcapng", SECTION + interface(6) + packet(2_007_999, b"abc")),
@@ -342,5 +360,50 @@ CONVERTED = [
         "pcapng",
         SECTION + interface(3, link=147) + interface(3) + packet(2, b"y", 1),
         "geostation: record 0: link type\n",
+    ),
+    # A packet without a time stamp is at 0, which an interface with an offset does not count.
+    Converted(
+        "a simple packet",
+        SECTION + interface(6) + simple(b"abc"),
+        "pcapng",
+        SECTION + interface(6) + packet(0, b"abc"),
+    ),
+    Converted("simple packets beside an offset", SIMPLE_AND_LATER, "pcapng", SIMPLE_AND_LATER),
+    Converted(
+        "simple packets beside an offset to pcap",
+        SIMPLE_AND_LATER,
+        "pcap",
+        classic(False, (0, 0, b"abc"), (1000, 7, b"x"), (0, 0, b"")),
+    ),
+    Converted(
+        "a simple packet of a second section",
+        SIMPLE_AND_LATER + SECTION + interface(6, offset=-5) + simple(b"lost"),
+        "pcapng",
+        SIMPLE_AND_LATER + interface(6, offset=-5),
+        "geostation: record 3: moment\n",
+    ),
+    # Of more than 20 records that are left out the number follows.
+    Converted(
+        "20 records of another link layer",
+        SECTION + interface(3, link=147) + packet(1, b"x") * 20,
+        "pcapng",
+        SECTION + interface(3, link=147),
+        left_out(20),
+    ),
+    Converted(
+        "21 records of another link layer",
+        SECTION + interface(3, link=147) + packet(1, b"x") * 21,
+        "pcapng",
+        SECTION + interface(3, link=147),
+        left_out(21),
+        "geostation: 21 records left out\n",
+    ),
+    # Without a format a gzip file is none; the file that is written has no record.
+    Converted(
+        "gzip",
+        gzip.compress(TWO_RECORDS),
+        "capture",
+        b"",
+        "geostation: capture: C2 at record 0\n",
     ),
 ]

@@ -25,12 +25,12 @@ SENTENCES = {
     "G4": "a reserved bit that is set",
     "G5": "no hop left",
     "G6": "a next header other than none and BTP-B",
-    "G7": "an unsupported header type",
+    "G7": "an unsupported header type, or one that does not go with the next header",
     "G8": "a sub-type that the header type does not have",
     "G9": "more hops left than the maximum",
     "G10": "a payload length out of range",
     "G11": "a group address, or a position out of range",
-    "G12": "an area out of range",
+    "G12": "an area out of range, or a circle with a second distance or an angle",
 }
 
 # A beacon of a station at (0, 0), a single-hop broadcast of `hi` to port 2002, and a geobroadcast

@@ -74,12 +74,12 @@ PACKET_TEXTS = {
     4: "a reserved bit that is set",
     5: "no hop left",
     6: "a next header other than none and BTP-B",
-    7: "an unsupported header type",
+    7: "an unsupported header type, or one that does not go with the next header",
     8: "a sub-type that the header type does not have",
     9: "more hops left than the maximum",
     10: "a payload length out of range",
     11: "a group address, or a position out of range",
-    12: "an area out of range",
+    12: "an area out of range, or a circle with a second distance or an angle",
 }
 
 

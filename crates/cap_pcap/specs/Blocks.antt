@@ -1,7 +1,7 @@
 -- The blocks of a pcapng file. Each begins with its type and its length, which stands at its end
 -- again; a section header says the order of octets for the blocks behind it.
 use Rattle.std.specs.Prelude.{◌≡◌, ◌≢◌, ℕ, ◌+◌, ◌-◌, ◌*◌, ◌^◌, ◌%◌, ◌≤◌, ◌⊎◌, ◌==◌, min}
-use Rattle.std.specs.Prelude.{List, drop, if◌then◌else◌, Some, None, false}
+use Rattle.std.specs.Prelude.{List, drop, if◌then◌else◌, Option, Some, None, false}
 use Rattle.std.specs.List.{slice_get}
 use Rattle.byteorder.specs.Endian.{big_number}
 use Rattle.cap_pcap.specs.declared.blocks.Block.{Block}
@@ -146,6 +146,10 @@ simple_lengths o i room =
     field 4 (IsSimpleLength o i room)
     (λ w. ¬ FitsRecord room (simple_length i.snap (number_in o 4 w)))
 
+-- its ticks: none if the interface adds seconds to ticks
+abbrev pub ticks_of_zero : ℕ → Option ℕ
+ticks_of_zero offset = if offset == 0 then Some 0 else None
+
 -- a simple packet: a record of the first interface, at moment 0
 unfoldable pub simple : Endianness → List Interface → ℕ → List ℕ → Layout Block
 simple o is keep kept =
@@ -156,7 +160,7 @@ simple o is keep kept =
     (λ _. behind (closing o (n - 16 - lengths.1) n)
     (λ _. gives (blocks.Record (record {
       moment = 0;
-      fine = record { nanos = 0; finer = false; ticks = 0 };
+      fine = record { nanos = 0; finer = false; ticks = ticks_of_zero i.info.head.offset };
       interface = i.number;
       captured = lengths.1;
       wire = lengths.0;

@@ -1,6 +1,6 @@
 -- The moments of a pcapng file: ticks of an interface, and seconds that are added to each.
 use Rattle.std.specs.Prelude.{◌≡◌, ℕ, ◌+◌, ◌-◌, ◌*◌, ◌/◌, ◌%◌, ◌^◌, ◌<◌, ◌≤◌, ◌⊎◌}
-use Rattle.std.specs.Prelude.{nat_lt, if◌then◌else◌}
+use Rattle.std.specs.Prelude.{nat_lt, if◌then◌else◌, Some}
 use Rattle.cap_pcap.specs.declared.record.FineTime.{FineTime}
 
 -- the ticks of a second, by the octet of `if_tsresol`: a power of 10, or of 2 where it is 128 and
@@ -41,5 +41,5 @@ abbrev pub fine_in : ℕ → ℕ → FineTime
 fine_in ticks timestamp = record {
   nanos = timestamp * 1000000000 / ticks % 1000000;
   finer = nat_lt 0 (timestamp * 1000000000 % ticks);
-  ticks = timestamp;
+  ticks = Some timestamp;
 }

@@ -105,12 +105,12 @@ abbrev pub fine_of : Unit → ℕ → ℕ → FineTime
 fine_of units.Micro seconds fraction = record {
   nanos = fraction % 1000 * 1000;
   finer = false;
-  ticks = 1000000 * seconds + fraction;
+  ticks = Some (1000000 * seconds + fraction);
 }
 fine_of units.Nano seconds fraction = record {
   nanos = fraction % 1000000;
   finer = false;
-  ticks = 1000000000 * seconds + fraction;
+  ticks = Some (1000000000 * seconds + fraction);
 }
 
 -- the captured length of the record at the head of the octets

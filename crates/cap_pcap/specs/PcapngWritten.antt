@@ -1,6 +1,7 @@
 -- pcapng as it is written: numbers with their lowest octet first, and one section.
 use Rattle.std.specs.Prelude.{◌≡◌, ℕ, ◌+◌, ◌-◌, ◌/◌, ◌%◌, ◌^◌, ◌<◌, ◌≤◌, Bool}
-use Rattle.std.specs.Prelude.{List, [], ◌∷◌, ◌++◌, length, take, Option, ◌==◌, if◌then◌else◌}
+use Rattle.std.specs.Prelude.{List, [], ◌∷◌, ◌++◌, length, take, Option, Some, None, ◌==◌}
+use Rattle.std.specs.Prelude.{if◌then◌else◌}
 use Rattle.byteorder.specs.Endian.{little_bytes}
 use Rattle.its_linkframe.specs.Devices.{AppendsPrefix}
 use Rattle.cap_pcap.specs.declared.info.InterfaceHead.{InterfaceHead}
@@ -72,11 +73,11 @@ interface_octets h name =
     ++ (resolution_octets h.resolution ++ (offset_of h.offset
     ++ interface_end (interface_size (length name) h.offset))))))
 
--- how many octets a packet with a frame of so many has
+-- how many octets an enhanced packet with a frame of so many has
 abbrev pub packet_size : ℕ → ℕ
 packet_size n = 32 + (n + padding_size n)
 
--- a packet before its frame: block type 6, the block's length, the interface, the timestamp's upper
+-- an enhanced packet before its frame: block type 6, the block's length, the interface, the timestamp's upper
 -- and lower 32 bits, the frame's length twice: captured and on the wire
 unfoldable pub packet_head : ℕ → ℕ → ℕ → List ℕ
 packet_head interface ticks n =
@@ -84,11 +85,39 @@ packet_head interface ticks n =
     ++ little_bytes 4 (ticks / 2 ^ 32) ++ little_bytes 4 (ticks % 2 ^ 32)
     ++ little_bytes 4 n ++ little_bytes 4 n
 
--- a packet
-abbrev pub packet_octets : ℕ → ℕ → List ℕ → List ℕ
-packet_octets interface ticks frame =
+-- an enhanced packet
+abbrev pub enhanced_octets : ℕ → ℕ → List ℕ → List ℕ
+enhanced_octets interface ticks frame =
     (packet_head interface ticks (length frame) ++ frame)
     ++ (padding_of frame ++ little_bytes 4 (packet_size (length frame)))
+
+-- how many octets a simple packet with a frame of so many has
+abbrev pub simple_size : ℕ → ℕ
+simple_size n = 16 + (n + padding_size n)
+
+-- a simple packet before its frame: block type 3, the block's length, and the frame's on the wire
+unfoldable pub simple_head : ℕ → List ℕ
+simple_head n = little_bytes 4 3 ++ little_bytes 4 (simple_size n) ++ little_bytes 4 n
+
+-- a simple packet
+abbrev pub simple_octets : List ℕ → List ℕ
+simple_octets frame =
+    (simple_head (length frame) ++ frame)
+    ++ (padding_of frame ++ little_bytes 4 (simple_size (length frame)))
+
+-- a packet: a simple one where it has no time stamp
+abbrev pub packet_octets : ℕ → Option ℕ → List ℕ → List ℕ
+packet_octets interface (Some ticks) frame = enhanced_octets interface ticks frame
+packet_octets interface None frame = simple_octets frame
+
+-- a packet without a time stamp is one of the first interface
+abbrev pub HasBlock : ℕ → Option ℕ → Type 0
+HasBlock interface (Some ticks) = Unit {0}
+HasBlock interface None = interface ≡ 0
+
+abbrev pub LacksBlock : ℕ → Option ℕ → Type 0
+LacksBlock interface (Some ticks) = ⊥
+LacksBlock interface None = 0 < interface
 
 -- A writer: whether a call of its device failed, how many interfaces it wrote, what octets its sink
 -- has, where they are known, and how many calls of the sink failed.
@@ -135,14 +164,16 @@ IsInterfaceFault l name old new faults.Io =
 IsInterfaceFault l name old new faults.Failed = new ≡ old
 
 -- what a fault says of a record of an interface: one that was not written comes first
-abbrev pub IsPacketFault : ℕ → ℕ → List ℕ → Writing → Writing → PutFault → Type 0
-IsPacketFault interface moment frame old new faults.Length =
+abbrev pub IsPacketFault : ℕ → Option ℕ → List ℕ → Writing → Writing → PutFault → Type 0
+IsPacketFault interface ticks frame old new faults.Length =
     (interface < old.interfaces) × (LONGEST_CAPTURED < length frame) × (new ≡ old)
-IsPacketFault interface moment frame old new faults.Moment = ⊥
-IsPacketFault interface moment frame old new faults.Interface =
-    (old.interfaces ≤ interface) × (new ≡ old)
-IsPacketFault interface moment frame old new faults.Name = ⊥
-IsPacketFault interface moment frame old new faults.Io =
+IsPacketFault interface ticks frame old new faults.Moment =
     (interface < old.interfaces) × (length frame ≤ LONGEST_CAPTURED)
-    × IsLost (packet_octets interface moment frame) old new
-IsPacketFault interface moment frame old new faults.Failed = new ≡ old
+    × LacksBlock interface ticks × (new ≡ old)
+IsPacketFault interface ticks frame old new faults.Interface =
+    (old.interfaces ≤ interface) × (new ≡ old)
+IsPacketFault interface ticks frame old new faults.Name = ⊥
+IsPacketFault interface ticks frame old new faults.Io =
+    (interface < old.interfaces) × (length frame ≤ LONGEST_CAPTURED)
+    × HasBlock interface ticks × IsLost (packet_octets interface ticks frame) old new
+IsPacketFault interface ticks frame old new faults.Failed = new ≡ old

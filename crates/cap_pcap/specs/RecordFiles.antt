@@ -8,6 +8,7 @@ use Rattle.its_linkframe.specs.Writing as captures
 use Rattle.cap_pcap.specs.InterfaceHeads.{millis_head}
 use Rattle.cap_pcap.specs.PcapWritten.{file_header, record_of, IsLate}
 use Rattle.cap_pcap.specs.PcapngWritten.{section_octets, interface_octets, packet_octets}
+use Rattle.cap_pcap.specs.PcapngWritten.{HasBlock, LacksBlock}
 use Rattle.cap_pcap.specs.PcapngWritten as sections
 use Rattle.cap_pcap.specs.Writing as outputs
 use Rattle.cap_pcap.specs.declared.format.Format.{Format}
@@ -130,33 +131,35 @@ frame_octets formats.Pcap interface stamp frame = record_of stamp.moment stamp.f
 frame_octets formats.Pcapng interface stamp frame = packet_octets interface stamp.ticks frame
 
 -- a file of so many interfaces has a place for it
-abbrev pub HasPlace : Format → ℕ → ℕ → ℕ → List ℕ → Type 0
-HasPlace formats.Capture n interface moment frame = IsFrameLength (length frame)
-HasPlace formats.Pcap n interface moment frame =
-    (length frame ≤ LONGEST_CAPTURED) × (moment / 1000 < 2 ^ 32)
-HasPlace formats.Pcapng n interface moment frame =
-    (interface < n) × (length frame ≤ LONGEST_CAPTURED)
+abbrev pub HasPlace : Format → ℕ → ℕ → Stamp → List ℕ → Type 0
+HasPlace formats.Capture n interface stamp frame = IsFrameLength (length frame)
+HasPlace formats.Pcap n interface stamp frame =
+    (length frame ≤ LONGEST_CAPTURED) × (stamp.moment / 1000 < 2 ^ 32)
+HasPlace formats.Pcapng n interface stamp frame =
+    (interface < n) × (length frame ≤ LONGEST_CAPTURED) × HasBlock interface stamp.ticks
 
 -- what speaks against it: in pcap its length comes before its moment, in pcapng its interface
--- before its length
-abbrev pub RefusesFrame : Format → ℕ → ℕ → ℕ → List ℕ → PutFault → Type 0
-RefusesFrame formats.Capture n interface moment frame faults.Length =
+-- before its length, and last that it has no ticks of an interface but the first
+abbrev pub RefusesFrame : Format → ℕ → ℕ → Stamp → List ℕ → PutFault → Type 0
+RefusesFrame formats.Capture n interface stamp frame faults.Length =
     ¬ IsFrameLength (length frame)
-RefusesFrame formats.Capture n interface moment frame fault = ⊥
-RefusesFrame formats.Pcap n interface moment frame faults.Length =
+RefusesFrame formats.Capture n interface stamp frame fault = ⊥
+RefusesFrame formats.Pcap n interface stamp frame faults.Length =
     LONGEST_CAPTURED < length frame
-RefusesFrame formats.Pcap n interface moment frame faults.Moment =
-    (length frame ≤ LONGEST_CAPTURED) × IsLate moment
-RefusesFrame formats.Pcap n interface moment frame fault = ⊥
-RefusesFrame formats.Pcapng n interface moment frame faults.Interface = n ≤ interface
-RefusesFrame formats.Pcapng n interface moment frame faults.Length =
+RefusesFrame formats.Pcap n interface stamp frame faults.Moment =
+    (length frame ≤ LONGEST_CAPTURED) × IsLate stamp.moment
+RefusesFrame formats.Pcap n interface stamp frame fault = ⊥
+RefusesFrame formats.Pcapng n interface stamp frame faults.Interface = n ≤ interface
+RefusesFrame formats.Pcapng n interface stamp frame faults.Length =
     (interface < n) × (LONGEST_CAPTURED < length frame)
-RefusesFrame formats.Pcapng n interface moment frame fault = ⊥
+RefusesFrame formats.Pcapng n interface stamp frame faults.Moment =
+    (interface < n) × (length frame ≤ LONGEST_CAPTURED) × LacksBlock interface stamp.ticks
+RefusesFrame formats.Pcapng n interface stamp frame fault = ⊥
 
 -- such a record
 abbrev pub PutsFrame : ℕ → Stamp → List ℕ → RecordFile → RecordFile
     → Result (Unit {0}) PutFault → Type 0
 PutsFrame interface stamp frame old new r =
     Writes (frame_octets old.format interface stamp frame) 0
-    (HasPlace old.format old.interfaces interface stamp.moment frame)
-    (RefusesFrame old.format old.interfaces interface stamp.moment frame) old new r
+    (HasPlace old.format old.interfaces interface stamp frame)
+    (RefusesFrame old.format old.interfaces interface stamp frame) old new r

@@ -9,10 +9,12 @@ use Rattle.its_linkframe.specs.Reading as captures
 use Rattle.its_linkframe.specs.declared.record.CaptureFault.TheVariants as capture_faults
 use Rattle.its_linkframe.specs.declared.record.TheConstants.{LONGEST_FRAME}
 use Rattle.its_linkframe.specs.declared.source.Source as sources_of
-use Rattle.cap_pcap.specs.Formats.{IsFormat}
+use Rattle.cap_pcap.specs.Formats.{IsFormat, IsGzip}
 use Rattle.cap_pcap.specs.Pcap as classic
 use Rattle.cap_pcap.specs.Pcapng as blocks
 use Rattle.cap_pcap.specs.Reading.{is_io}
+use Rattle.cap_pcap.specs.declared.fault.OpenFault.{OpenFault}
+use Rattle.cap_pcap.specs.declared.fault.OpenFault.TheVariants as open_faults
 use Rattle.cap_pcap.specs.declared.fault.SourceFault.{SourceFault}
 use Rattle.cap_pcap.specs.declared.fault.SourceFault.TheVariants as faults
 use Rattle.cap_pcap.specs.declared.info.InterfaceInfo.{InterfaceInfo}
@@ -35,7 +37,7 @@ abbrev pub StepsCapture : captures.Reading → captures.Reading → List ℕ →
     → Type 0
 StepsCapture was now frame (Ok (steps.Record h)) =
     (h.captured ≡ length frame) × (h.wire ≡ length frame) × (h.layer ≡ Some layers.Bare)
-    × (h.fine ≡ record { nanos = 0; finer = false; ticks = h.moment }) × (h.interface ≡ 0)
+    × (h.fine ≡ record { nanos = 0; finer = false; ticks = Some h.moment }) × (h.interface ≡ 0)
     × IsCaptured (captured_at h.moment frame)
     × Consumes was.rest now.rest (record_octets (captured_at h.moment frame))
 StepsCapture was now frame (Ok steps.Interface) = ⊥
@@ -164,6 +166,11 @@ IsAtStart keep rest failures (sources.Pcapng r) =
 abbrev pub HasFormat : Option Format → Option (List ℕ) → Format → Type 0
 HasFormat given octets format =
     MatchOption given (IfSome octets (λ w. IsFormat (take 4 w) format)) (λ f. format ≡ f)
+
+-- why a file with these octets is not opened
+abbrev pub IsOpenFault : Option (List ℕ) → OpenFault → Type 0
+IsOpenFault octets open_faults.Io = Unit {0}
+IsOpenFault octets open_faults.Gzip = IfSome octets (λ w. IsGzip (take 4 w))
 
 -- A file that is opened of a source with these octets: all of them are read, those that were looked
 -- at too.

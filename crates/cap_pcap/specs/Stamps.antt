@@ -1,5 +1,5 @@
 -- The time of a record as each format has it.
-use Rattle.std.specs.Prelude.{ℕ, ◌+◌, ◌*◌, ◌/◌, ◌%◌}
+use Rattle.std.specs.Prelude.{ℕ, ◌+◌, ◌*◌, ◌/◌, ◌%◌, Some}
 use Rattle.cap_pcap.specs.declared.pcap.Unit.{Unit}
 use Rattle.cap_pcap.specs.declared.pcap.Unit.TheVariants as units
 use Rattle.cap_pcap.specs.declared.record.RecordHeader.{RecordHeader}
@@ -7,7 +7,7 @@ use Rattle.cap_pcap.specs.declared.stamp.Stamp.{Stamp}
 
 -- a time in whole milliseconds: in classic pcap millionths of a second
 abbrev pub stamp_of : ℕ → Stamp
-stamp_of moment = record { moment = moment; fraction = moment % 1000 * 1000; ticks = moment }
+stamp_of moment = record { moment = moment; fraction = moment % 1000 * 1000; ticks = Some moment }
 
 -- what is below the second, in the unit of a file: what is finer is cut
 abbrev pub fraction_in : Unit → ℕ → ℕ → ℕ

@@ -7,6 +7,7 @@ ghost use Rattle.cap_pcap.specs.Blocks.{section_head, section, interface, named,
 ghost use Rattle.cap_pcap.specs.Interfaces.{plain};
 ghost use Rattle.cap_pcap.specs.Blocks.{FitsRecord, packet, first, simple_length, simple_lengths};
 ghost use Rattle.cap_pcap.specs.Blocks.{simple, other, kind_of_block, block_of, magic_of};
+ghost use Rattle.cap_pcap.specs.Blocks.{ticks_of_zero};
 ghost use Rattle.cap_pcap.specs.Layouts.{IsAnswerOf, number_that};
 ghost use Rattle.cap_pcap.specs.Reading.{is_io};
 ghost use Rattle.cap_pcap.specs.declared.fault.SourceFault.TheVariants as faults;
@@ -416,13 +417,20 @@ fn simple_block<S: Source>(
         fine: FineTime {
             nanos: 0,
             finer: false,
-            ticks: 0,
+            ticks: ticks_of_zero(interface.info.head.offset),
         },
         interface: interface.number,
         captured,
         wire,
         layer: interface.info.layer,
     }))
+}
+
+/// The ticks of a simple packet, whose moment is 0: none if its interface adds seconds to ticks.
+fn ticks_of_zero(offset: u64) -> Option<u64>
+    ensures { result ≡ ticks_of_zero offset }
+{
+    if offset == 0 { Some(0) } else { None }
 }
 
 /// How many octets of a frame a simple packet has: at most the snap length, where that is not 0.

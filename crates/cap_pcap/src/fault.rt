@@ -22,6 +22,15 @@ pub enum SourceFault {
     Capture(CaptureFault),
 }
 
+/// Why a file is not opened as one with records.
+#[derive(Clone, Copy, Debug, PartialEq, Eq)]
+pub enum OpenFault {
+    /// A call of the device failed.
+    Io,
+    /// It is a file that gzip compressed, by its first octets.
+    Gzip,
+}
+
 impl SourceFault {
     /// What logs and the program's lines show: `P1` to `P3`, `C1` to `C5`.
     pub fn code(&self) -> &'static str

@@ -118,6 +118,6 @@ pub(crate) fn fine_time_of(interface: &Interface, timestamp: u64) -> FineTime
     FineTime {
         nanos: (scaled / ticks % 1_000_000) as u32,
         finer: scaled % ticks > 0,
-        ticks: timestamp,
+        ticks: Some(timestamp),
     }
 }

@@ -25,7 +25,7 @@ mod stamp;
 mod transfer;
 
 pub use cap_linklayers::{LONGEST_RECORD, LinkFault, LinkLayer, frame_start, link_layer};
-pub use fault::SourceFault;
+pub use fault::{OpenFault, SourceFault};
 pub use format::{Format, format_of};
 pub use info::{InterfaceHead, InterfaceInfo};
 pub use name::{InterfaceName, LONGEST_NAME};

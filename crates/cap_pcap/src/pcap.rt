@@ -308,6 +308,6 @@ fn fine_time_at(unit: Unit, seconds: u32, fraction: u32) -> FineTime
     FineTime {
         nanos,
         finer: false,
-        ticks: second * u64::from(seconds) + u64::from(fraction),
+        ticks: Some(second * u64::from(seconds) + u64::from(fraction)),
     }
 }

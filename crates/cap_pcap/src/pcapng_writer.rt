@@ -10,6 +10,8 @@ ghost use Rattle.cap_pcap.specs.PcapngWritten.{interface_end, name_head, interfa
 ghost use Rattle.cap_pcap.specs.PcapngWritten.{resolution_octets, offset_octets};
 ghost use Rattle.cap_pcap.specs.PcapngWritten.{name_head_room, offset_room};
 ghost use Rattle.cap_pcap.specs.PcapngWritten.{packet_size, packet_head, packet_octets};
+ghost use Rattle.cap_pcap.specs.PcapngWritten.{enhanced_octets, simple_head, simple_octets};
+ghost use Rattle.cap_pcap.specs.PcapngWritten.{simple_size, HasBlock};
 ghost use Rattle.cap_pcap.specs.PcapngWritten.{IsSectionFault, IsInterfaceFault, IsPacketFault};
 ghost use Rattle.cap_pcap.specs.Writing.{is_io_failure, IsStartFault};
 ghost use Rattle.cap_pcap.specs.declared.put_fault.PutFault.TheVariants as put_faults;
@@ -30,6 +32,9 @@ const SECTION: [u8; 28] = [
 
 /// The type of an interface block.
 const INTERFACE: u32 = 1;
+
+/// The type of a simple packet block.
+const SIMPLE: u32 = 3;
 
 /// The type of an enhanced packet block.
 const PACKET: u32 = 6;
@@ -55,11 +60,17 @@ const OPTION_HEAD: u32 = 4;
 /// The octets of the option `if_tsoffset`.
 const OFFSET_SIZE: u32 = 12;
 
-/// The octets of a packet before its frame.
+/// The octets of an enhanced packet before its frame.
 const HEAD: usize = 28;
 
-/// The octets of a packet beside its frame and the padding of that.
+/// The octets of an enhanced packet beside its frame and the padding of that.
 const PACKET_SIZE: u32 = 32;
+
+/// The octets of a simple packet before its frame.
+const SIMPLE_HEAD: usize = 12;
+
+/// The octets of a simple packet beside its frame and the padding of that.
+const SIMPLE_SIZE: u32 = 16;
 
 /// Octets of padding.
 const PADDING: [u8; 3] = [0; 3];
@@ -145,12 +156,14 @@ impl<W: Sink> PcapngWriter<W> {
     }
 
     /// Writes a record of these octets, whole, as one of this interface, whose ticks the timestamp
-    /// counts. An interface that was not written is refused before more than 262144 octets.
-    pub fn put(&mut self, interface: u32, ticks: u64, frame: &[u8]) -> Result<(), PutFault>
+    /// counts. Without ticks it is a simple packet, which the format has for the first interface
+    /// alone. An interface that was not written is refused before more than 262144 octets, and that
+    /// before ticks that are missing.
+    pub fn put(&mut self, interface: u32, ticks: Option<u64>, frame: &[u8]) -> Result<(), PutFault>
         ensures stored { OnOk result (Appends self.old.contents self.new.contents
             (packet_octets interface ticks frame.now)) }
         ensures fits { OnOk result ((interface < self.old.interfaces)
-            × (length frame.now ≤ LONGEST_CAPTURED)) }
+            × (length frame.now ≤ LONGEST_CAPTURED) × HasBlock interface ticks) }
         ensures same { self.new.interfaces ≡ self.old.interfaces }
         ensures fault { IfErr result
             (IsPacketFault interface ticks frame.now self.old self.new) }
@@ -166,13 +179,11 @@ impl<W: Sink> PcapngWriter<W> {
         if frame.len() > LONGEST_CAPTURED as usize {
             return Err(PutFault::Length);
         }
-        let size = frame.len() as u32;
-        let padding = padding_after(size);
-        let block = PACKET_SIZE + (size + padding);
-        let head = head_for(interface, ticks, block, size);
-        let mut tail = [0; TAIL];
-        self.output
-            .write(&[&head, frame, tail_in(&mut tail, padding, block)])
+        match ticks {
+            Some(ticks) => write_enhanced(&mut self.output, interface, ticks, frame),
+            None if interface == 0 => write_simple(&mut self.output, frame),
+            None => Err(PutFault::Moment),
+        }
     }
 
     /// The sink, with what it has.
@@ -299,7 +310,65 @@ fn write_interface<W: Sink>(
     ])
 }
 
-/// What goes before a frame.
+/// Writes an enhanced packet of this interface, with this timestamp.
+fn write_enhanced<W: Sink>(
+    output: &mut Output<W>,
+    interface: u32,
+    ticks: u64,
+    frame: &[u8],
+) -> Result<(), PutFault>
+    requires { length frame.now ≤ LONGEST_CAPTURED }
+    ensures stored { OnOk result (Appends output.old.contents output.new.contents
+        (enhanced_octets interface ticks frame.now)) }
+    ensures fault { IfErr result
+        (IsStartFault (enhanced_octets interface ticks frame.now) output.old output.new) }
+    ensures counts { output.new.failures
+        ≡ output.old.failures + (if is_io_failure result then 1 else 0) }
+    ensures failed { (result ≡ Err put_faults.Failed) ↔ IsTrue output.old.failed }
+    ensures breaks { output.new.failed ≡ (output.old.failed || is_io_failure result) }
+{
+    let size = frame.len() as u32;
+    let padding = padding_after(size);
+    let block = PACKET_SIZE + (size + padding);
+    let head = head_for(interface, ticks, block, size);
+    let mut tail = [0; TAIL];
+    output.write(&[&head, frame, tail_in(&mut tail, padding, block)])
+}
+
+/// Writes a simple packet.
+fn write_simple<W: Sink>(output: &mut Output<W>, frame: &[u8]) -> Result<(), PutFault>
+    requires { length frame.now ≤ LONGEST_CAPTURED }
+    ensures stored { OnOk result
+        (Appends output.old.contents output.new.contents (simple_octets frame.now)) }
+    ensures fault { IfErr result
+        (IsStartFault (simple_octets frame.now) output.old output.new) }
+    ensures counts { output.new.failures
+        ≡ output.old.failures + (if is_io_failure result then 1 else 0) }
+    ensures failed { (result ≡ Err put_faults.Failed) ↔ IsTrue output.old.failed }
+    ensures breaks { output.new.failed ≡ (output.old.failed || is_io_failure result) }
+{
+    let size = frame.len() as u32;
+    let padding = padding_after(size);
+    let block = SIMPLE_SIZE + (size + padding);
+    let head = simple_head_for(block, size);
+    let mut tail = [0; TAIL];
+    output.write(&[&head, frame, tail_in(&mut tail, padding, block)])
+}
+
+/// What goes before the frame of a simple packet.
+#[tactic(auto, unfolding(crate::specs::PcapngWritten::simple_head))]
+fn simple_head_for(block: u32, size: u32) -> [u8; SIMPLE_HEAD]
+    requires { block ≡ simple_size size }
+    ensures { result ≡ simple_head size }
+{
+    let mut head = [0; SIMPLE_HEAD];
+    LittleEndian::write_u32(&mut head, SIMPLE);
+    LittleEndian::write_u32(&mut head[4..], block);
+    LittleEndian::write_u32(&mut head[8..], size);
+    head
+}
+
+/// What goes before the frame of an enhanced packet.
 #[tactic(auto, unfolding(crate::specs::PcapngWritten::packet_head))]
 fn head_for(interface: u32, ticks: u64, block: u32, size: u32) -> [u8; HEAD]
     requires { block ≡ packet_size size }

@@ -1,6 +1,6 @@
 //! Whether a record has a place in a file that is written.
 
-ghost use Rattle.std.specs.Prelude.{◌≡◌, ◌↔◌, ◌≤◌, IsTrue, MatchResult, Some, length};
+ghost use Rattle.std.specs.Prelude.{◌≡◌, ◌+◌, ◌↔◌, ◌≤◌, IsTrue, MatchResult, Some, length};
 ghost use Rattle.its_linkframe.specs.Captures.{IsFrameLength};
 ghost use Rattle.cap_pcap.specs.PcapWritten.{IsLate};
 ghost use Rattle.cap_pcap.specs.Places.{IsLayerFor, refusal_of, allows_layer};
@@ -10,6 +10,7 @@ use crate::format::Format;
 use crate::pcap::LONGEST_CAPTURED;
 use crate::put_fault::PutFault;
 use crate::record::{RecordFault, RecordHeader};
+use crate::stamp::Stamp;
 use cap_linklayers::LinkLayer;
 use its_linkframe::LONGEST_FRAME;
 
@@ -42,14 +43,20 @@ fn allows(only: Option<LinkLayer>, own: LinkLayer) -> bool
     }
 }
 
-/// Whether a file of this format has a place for such a record, of its first interface where the
-/// format has interfaces.
+/// Whether a file of this format has a place for such a record of this interface, which it has where
+/// the format has interfaces.
 ///
 /// `Length` for more than 262144 octets, in a capture for none or more than 1468, before `Moment`
-/// for one whose second is 2^32 or more in classic pcap.
-pub fn has_place(format: Format, moment: u64, octets: &[u8]) -> Result<(), PutFault>
-    ensures { MatchResult result (λ _. HasPlace format 1 0 moment octets.now)
-        (RefusesFrame format 1 0 moment octets.now) }
+/// for one whose second is 2^32 or more in classic pcap, and in pcapng for one without ticks of
+/// another interface than the first.
+pub fn has_place(
+    format: Format,
+    interface: u32,
+    stamp: Stamp,
+    octets: &[u8],
+) -> Result<(), PutFault>
+    ensures { MatchResult result (λ _. HasPlace format (interface + 1) interface stamp octets.now)
+        (RefusesFrame format (interface + 1) interface stamp octets.now) }
 {
     let fits = match format {
         Format::Capture => is_frame_length(octets),
@@ -58,7 +65,12 @@ pub fn has_place(format: Format, moment: u64, octets: &[u8]) -> Result<(), PutFa
     if !fits {
         return Err(PutFault::Length);
     }
-    if format == Format::Pcap && is_late(moment) {
+    let has_moment = match format {
+        Format::Capture => true,
+        Format::Pcap => !is_late(stamp.moment),
+        Format::Pcapng => interface == 0 || stamp.ticks.is_some(),
+    };
+    if !has_moment {
         return Err(PutFault::Moment);
     }
     Ok(())

@@ -14,8 +14,9 @@ pub struct FineTime {
     pub nanos: u32,
     /// Whether the file has a fraction of a nanosecond too.
     pub finer: bool,
-    /// The time as the file has it: ticks of the record's interface.
-    pub ticks: u64,
+    /// The time as the file has it: ticks of the record's interface. `None` of a Simple Packet Block
+    /// whose interface has an `if_tsoffset`: its moment is 0, which that interface may not count.
+    pub ticks: Option<u64>,
 }
 
 /// What is told of a record beside its octets.

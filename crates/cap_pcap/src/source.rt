@@ -1,24 +1,25 @@
 //! Files with records of any format, read through one call.
 
 ghost use Rattle.std.specs.Prelude.{◌≡◌, ℕ, ◌-◌, ◌^◌, ◌<◌, false, List, Result, IfOk, IfErr};
-ghost use Rattle.std.specs.Prelude.{None, Err, vec_capacity};
+ghost use Rattle.std.specs.Prelude.{None, Err, IfSome, take, vec_capacity};
 ghost use Rattle.its_linkframe.specs.declared.record.CaptureFault.TheVariants as captures;
 ghost use Rattle.cap_pcap.specs.Peeked.{left_of};
 ghost use Rattle.cap_pcap.specs.Sources.{GivesCaptured, GivesClassic, GivesBlock, Gives};
 ghost use Rattle.cap_pcap.specs.Sources.{LacksCaptured, LacksClassic, LacksBlock, Lacks};
 ghost use Rattle.cap_pcap.specs.Sources.{format_of_source, layer_of_source, newest_of_source};
-ghost use Rattle.cap_pcap.specs.Sources.{IsAtStart, IsOpened};
+ghost use Rattle.cap_pcap.specs.Formats.{IsGzip};
+ghost use Rattle.cap_pcap.specs.Sources.{IsAtStart, IsOpened, IsOpenFault};
 ghost use Rattle.cap_pcap.specs.declared.fault.SourceFault.TheVariants as faults;
 
-use crate::fault::SourceFault;
-use crate::format::{Format, format_of};
+use crate::fault::{OpenFault, SourceFault};
+use crate::format::{Format, format_of, is_gzip};
 use crate::info::InterfaceInfo;
 use crate::pcap::PcapReader;
 use crate::pcapng::PcapngReader;
 use crate::peeked::Peeked;
 use crate::record::{FineTime, RecordHeader, Step};
 use cap_linklayers::LinkLayer;
-use its_linkframe::{CaptureFault, CaptureReader, Source};
+use its_linkframe::{CaptureReader, Source};
 use std::alloc::Global;
 use std::marker::Model;
 
@@ -111,7 +112,7 @@ impl<R: Source> RecordSource for CaptureSource<R> {
                     fine: FineTime {
                         nanos: 0,
                         finer: false,
-                        ticks: moment,
+                        ticks: Some(moment),
                     },
                     interface: 0,
                     captured: size,
@@ -137,24 +138,29 @@ pub enum AnySource<S: Source> {
 impl<S: Source + Drop> AnySource<S> {
     /// A file of this format, or, where none is given, of the one that its first four octets say.
     /// The first `keep` octets of a frame are kept at most, but for a capture, of which all are.
-    /// Memory is taken from `alloc`. C3 where a call of the device failed.
+    /// Memory is taken from `alloc`. Where no format is given, `Io` if a call of the device failed,
+    /// and `Gzip` for a file that gzip compressed.
     pub fn open(
         alloc: Global,
         source: S,
         format: Option<Format>,
         keep: usize,
-    ) -> Result<AnySource<S>, SourceFault>
+    ) -> Result<AnySource<S>, OpenFault>
         requires { S.failed source < 2 ^ 64 - 1 }
         ensures opened { IfOk result (IsOpened format keep (S.remaining source) (S.failed source)) }
-        ensures fault { IfErr result
-            (λ f. (f ≡ faults.Capture captures.Io) × (format ≡ None)) }
+        ensures plain { IfOk result (λ _. format ≡ None
+            → IfSome (S.remaining source) (λ w. ¬ IsGzip (take 4 w))) }
+        ensures fault { IfErr result (λ f. (format ≡ None) × IsOpenFault (S.remaining source) f) }
     {
         match format {
             Some(format) => Ok(AnySource::of(alloc, Peeked::new(source), format, keep)),
             None => {
                 let Some(peeked) = Peeked::peek(source) else {
-                    return Err(SourceFault::Capture(CaptureFault::Io));
+                    return Err(OpenFault::Io);
                 };
+                if is_gzip(peeked.peeked()) {
+                    return Err(OpenFault::Gzip);
+                }
                 let format = format_of(peeked.peeked());
                 Ok(AnySource::of(alloc, peeked, format, keep))
             }

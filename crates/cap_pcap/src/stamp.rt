@@ -13,8 +13,9 @@ pub struct Stamp {
     pub moment: u64,
     /// What classic pcap has below the second, in the unit of the file.
     pub fraction: u32,
-    /// What pcapng has, in ticks of the record's interface.
-    pub ticks: u64,
+    /// What pcapng has, in ticks of the record's interface. `None` of a packet without a time stamp,
+    /// whose moment is 0.
+    pub ticks: Option<u64>,
 }
 
 impl Stamp {
@@ -26,7 +27,7 @@ impl Stamp {
         Stamp {
             moment,
             fraction: (moment % 1000) as u32 * 1000,
-            ticks: moment,
+            ticks: Some(moment),
         }
     }
 }

@@ -31,6 +31,15 @@ const AREA_ADDRESS_END: usize = 24;
 
 const ADDRESS_END: usize = 20;
 
+/// Where the fields of a packet for an area begin, from the payload length to the last reserved
+/// octets. Those before have an octet each, or half of one.
+const AREA_FIELDS: [usize; 17] = [
+    LENGTH, 10, 11, 12, 14, 16, 24, 28, 32, 36, 38, 40, 44, 48, 50, 52, 54,
+];
+
+/// Where those of another packet do.
+const OTHER_FIELDS: [usize; 10] = [LENGTH, 10, 11, 12, 20, 24, 28, 32, 34, 36];
+
 /// The octets of a port.
 const PORT: usize = 2;
 
@@ -41,9 +50,10 @@ pub(crate) const CUT: RecordFault = RecordFault::Record(cap_pcap::RecordFault::C
 #[derive(Debug, Drop)]
 pub(crate) struct CutFrame<'a> {
     /// The frame. Its missing octets are those of a packet with places, a payload and a time stamp
-    /// of 0, and so say nothing.
+    /// of 0, and so say nothing. So are those of a field that isn't wholly there.
     pub(crate) frame: FrameView<'a>,
-    /// How many of its octets there are: the source's address is among them.
+    /// How many of its octets there are, without those of such a field: the source's address is
+    /// among them.
     pub(crate) known: usize,
 }
 
@@ -79,16 +89,46 @@ pub(crate) fn cut_frame_of<'a>(
     if known < PACKET {
         return Err(CUT);
     }
+    let known = clear_cut_field(room, known);
     let length = complete(room, known);
     read_front(&room[..length], known)
 }
 
 /// Puts the octets into the room, and 0 behind them. Returns how many there are.
-fn put_front(octets: &[u8], room: &mut [u8; LONGEST_FRAME]) -> usize {
+fn put_front(octets: &[u8], room: &mut [u8; LONGEST_FRAME]) -> usize
+    ensures { result ≤ 1468 }
+{
     let known = octets.len().min(room.len());
     room.fill(0);
     room[..known].copy_from_slice(&octets[..known]);
     known
+}
+
+/// Puts 0 in place of the octets of a field that isn't wholly there, in a frame of which so many
+/// octets are. Returns how many there are without them.
+fn clear_cut_field(room: &mut [u8; LONGEST_FRAME], known: usize) -> usize
+    requires { (14 ≤ known) × (known ≤ 1468) }
+    ensures { result ≤ known }
+{
+    let start = PACKET + field_start(room[PACKET + TYPE], known - PACKET);
+    room[start..known].fill(0);
+    start
+}
+
+/// Where the field begins of which this octet of a packet is one. Each octet of a payload is a field
+/// by itself.
+fn field_start(kind: u8, octet: usize) -> usize
+    ensures { result ≤ octet }
+{
+    let (fields, end) = match kind / 16 {
+        3 | 4 => (AREA_FIELDS.as_slice(), AREA_PAYLOAD),
+        _ => (OTHER_FIELDS.as_slice(), SHB_PAYLOAD),
+    };
+    if octet >= end {
+        return octet;
+    }
+    let start = fields.iter().rev().copied().find(|field| *field <= octet);
+    start.unwrap_or(octet).min(octet)
 }
 
 /// Completes a frame of which so many octets are there, and returns its length.

@@ -18,4 +18,4 @@ pub use refused_capture::RefusedCapture;
 pub use signed::{
     FramePlace, PlainPart, SecuredFacts, bring_inner, find_plain, reads_secured, traits_inside,
 };
-pub use walk::{Place, RecordVisitor, Selection, Walked, each_record, open_records};
+pub use walk::{Place, RecordVisitor, Records, Selection, Walked, each_record, open_records};

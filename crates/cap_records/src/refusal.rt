@@ -1,7 +1,9 @@
 //! Why a record or a capture is refused: a code, and a sentence for a person.
 
-ghost use Rattle.std.specs.Prelude.{◌≡◌, IfOk, IfErr, IsTrue, IsFalse};
+ghost use Rattle.std.specs.Prelude.{◌≡◌, IfOk, IfErr, IsTrue, IsFalse, true};
+ghost use Rattle.its_linkframe.specs.declared.record.CaptureFault.TheVariants as captures;
 ghost use Rattle.cap_pcap.specs.Codes.{code_of};
+ghost use Rattle.cap_pcap.specs.declared.fault.SourceFault.TheVariants as sources;
 ghost use Rattle.cap_records.specs.FileFaults.{EndsCommand, IsToldInLine};
 ghost use Rattle.cap_records.specs.RecordFrames.{IsSecured, IsTold, is_other};
 ghost use Rattle.cap_records.specs.declared.refusal.RecordFault.TheVariants as faults;
@@ -10,7 +12,7 @@ use crate::messages::MessageFault;
 use cap_pcap::{Format, LinkFault, SourceFault};
 use cmd_reporting::Fault;
 use cmd_text::frames::{FrameReason, SecuredReason};
-use cmd_text::lines::{GZIP, GzipFile};
+use cmd_text::lines::GzipFile;
 use its_faults::FaultKind;
 use its_linkframe::{CaptureFault, FrameFault, PACKET, SecuredFault};
 use std::alloc::AllocError;
@@ -168,7 +170,7 @@ pub struct FileFault {
     /// Whether the file begins as one of no format that is read. Without a format it is read as a
     /// capture, which has no first octets of its own.
     begins_as_none: bool,
-    /// Whether the file begins as gzip's.
+    /// Whether the file is gzip's.
     is_gzip: bool,
 }
 
@@ -199,15 +201,15 @@ impl FileFault {
         }
     }
 
-    /// The same of a file of this format, whose first record has this moment, if it has a record: a
-    /// capture begins with that moment, so a file of gzip is known by it.
-    pub(crate) fn begun(self, format: Format, first: Option<u64>) -> FileFault
-        ensures { result.fault ≡ self.fault }
+    /// The fault of a file that gzip compressed: its code is that of a file of no format that is
+    /// read.
+    pub fn gzip() -> FileFault
+        ensures { (result.fault ≡ sources.Capture captures.Length) × (result.is_gzip ≡ true) }
     {
-        let begins = first.is_some_and(|moment| moment.to_be_bytes().starts_with(&GZIP));
         FileFault {
-            is_gzip: begins && format == Format::Capture,
-            ..self
+            fault: SourceFault::Capture(CaptureFault::Length),
+            begins_as_none: true,
+            is_gzip: true,
         }
     }
 

@@ -1,11 +1,12 @@
 //! The walk over the records of a file.
 
-ghost use Rattle.std.specs.Prelude.{◌≡◌, ◌≤◌, Bool, Option, IfOk, IfErr, IsTrue, None, true, take};
+ghost use Rattle.std.specs.Prelude.{◌≡◌, ◌≤◌, ◌<◌, ◌-◌, ◌^◌, Bool, Option, IfOk, IfErr, IsTrue};
+ghost use Rattle.std.specs.Prelude.{None, Some, true, take};
 ghost use Rattle.cap_records.specs.Choosing.{selects};
 ghost use Rattle.cap_records.specs.declared.choosing.Traits.{Traits};
 ghost use Rattle.cap_linklayers.specs.declared.link.TheConstants.{LONGEST_RECORD};
 ghost use Rattle.cap_records.specs.RecordFrames.{traits_read, other_read};
-ghost use Rattle.cap_records.specs.Walks.{walk_status, AreTraitsOf, Chooses};
+ghost use Rattle.cap_records.specs.Walks.{walk_status, walked_after, AreTraitsOf, Chooses};
 ghost use Rattle.cmd_reporting.specs.declared.fault.Fault.TheVariants.{CannotRead};
 
 use crate::choosing::Choice;
@@ -14,7 +15,9 @@ use crate::frame::{RecordFrame, frame_of, traits_of};
 use crate::refusal::{FileFault, RecordFault};
 use crate::signed::{SecuredFacts, signed_frame_of};
 use cap_linklayers::LinkFacts;
-use cap_pcap::{AnySource, Format, LONGEST_RECORD, RecordHeader, RecordSource, SourceFault, Step};
+use cap_pcap::{
+    AnySource, Format, LONGEST_RECORD, OpenFault, RecordHeader, RecordSource, SourceFault, Step,
+};
 use cmd_reporting::{Fault, Status, is_standard};
 use its_linkframe::{Counted, FrameView, LONGEST_FRAME, Source};
 use std::alloc::{AllocError, Global};
@@ -230,6 +233,37 @@ impl Walked {
         }
     }
 
+    /// Returns the counts after a further record.
+    fn after(self, visited: Visited) -> Walked
+        requires { (self.read < 2 ^ 64 - 1) × (self.records ≤ self.read)
+            × (self.refused ≤ self.records) }
+        ensures { result ≡ walked_after self visited }
+    {
+        let (records, refused) = match visited {
+            Visited::Passed => (0, 0),
+            Visited::Frame => (1, 0),
+            Visited::Refused => (1, 1),
+        };
+        Walked {
+            records: self.records + records,
+            refused: self.refused + refused,
+            fault: self.fault,
+            read: self.read + 1,
+        }
+    }
+
+    /// Returns the counts with the fault that ended the walk.
+    fn ended_by(self, fault: FileFault) -> Walked
+        ensures counts { (result.records ≡ self.records) × (result.refused ≡ self.refused)
+            × (result.read ≡ self.read) }
+        ensures fault { result.fault ≡ Some fault }
+    {
+        Walked {
+            fault: Some(fault),
+            ..self
+        }
+    }
+
     /// The exit status of a command that did nothing but this walk.
     pub fn status(self) -> Status
         ensures { result ≡ walk_status self }
@@ -242,6 +276,22 @@ impl Walked {
     }
 }
 
+/// A file that is open.
+#[derive(Drop)]
+pub enum Records<S: Source> {
+    /// Its records are read one after the other.
+    Source(AnySource<S>),
+    /// It has none: gzip compressed it.
+    Gzip,
+}
+
+impl<S: Source> Records<S> {
+    /// Whether it is a capture of this project's own.
+    pub fn is_capture(&self) -> bool {
+        matches!(self, Records::Source(AnySource::Capture(_)))
+    }
+}
+
 /// Opens the file of this name that the reader gives, in this format, or in that which its first
 /// four octets tell. `CannotRead` where a read failed.
 pub fn open_records<'a, R: Read + Drop>(
@@ -249,55 +299,48 @@ pub fn open_records<'a, R: Read + Drop>(
     file: &'a str,
     format: Option<Format>,
     reader: R,
-) -> Result<AnySource<Counted<R>>, Fault<'a>>
+) -> Result<Records<Counted<R>>, Fault<'a>>
     ensures fault { IfErr result (λ f. (f ≡ CannotRead file.entry) × (format ≡ None)) }
 {
     match AnySource::open(alloc, Counted::new(reader), format, LONGEST_RECORD) {
-        Ok(source) => Ok(source),
-        Err(_) => Err(Fault::CannotRead(file)),
+        Ok(source) => Ok(Records::Source(source)),
+        Err(OpenFault::Gzip) => Ok(Records::Gzip),
+        Err(OpenFault::Io) => Err(Fault::CannotRead(file)),
     }
 }
 
-/// Visits each record of the source that is chosen, in order. All are read into one buffer, which
+/// Visits each record of the file that is chosen, in order. All are read into one buffer, which
 /// has room for all that is kept of one. The file has this name; where it is standard input, what
-/// was printed is written out before each read.
+/// was printed is written out before each read. No record of a gzip file is visited.
 ///
 /// `CannotRead` where a read failed, `OutOfMemory` where an allocation did, and what a visit answers.
 pub fn each_record<'a, S: Source + Drop, V: RecordVisitor, W: Write>(
     alloc: Global,
     file: &'a str,
     selection: &Selection,
-    source: &mut AnySource<S>,
+    records: &mut Records<S>,
     visitor: &mut V,
     out: &mut W,
 ) -> Result<Walked, Fault<'a>>
     ensures { IfOk result (λ walked. walked.refused ≤ walked.records) }
 {
+    let Records::Source(source) = records else {
+        return Ok(Walked::begin().ended_by(FileFault::gzip()));
+    };
     let mut octets = Vec::with_capacity(alloc, LONGEST_RECORD)?;
     let waits = is_standard(file);
-    let ended = walk(selection, waits, source, &mut octets, visitor, out);
-    let (walked, first, fault) = ended?;
+    let (walked, fault) = walk(selection, waits, source, &mut octets, visitor, out)?;
     match fault {
         Some(fault) => {
-            let begun = match first {
-                Some((moment, _)) => Some(moment),
-                None => None,
-            };
             let fault = FileFault::of(fault, file, walked.read, selection.format)?;
-            Ok(Walked {
-                records: walked.records,
-                refused: walked.refused,
-                fault: Some(fault.begun(source.format(), begun)),
-                read: walked.read,
-            })
+            Ok(walked.ended_by(fault))
         }
         None => Ok(walked),
     }
 }
 
 /// Visits each record that is chosen, until as many are as are wanted, or the source ends or has a
-/// fault, which is returned, behind the moment of the first record. Where reads may wait, what was
-/// printed is written out before each.
+/// fault, which is returned. Where reads may wait, what was printed is written out before each.
 fn walk<'a, S: RecordSource, V: RecordVisitor, W: Write>(
     selection: &Selection,
     waits: bool,
@@ -305,7 +348,7 @@ fn walk<'a, S: RecordSource, V: RecordVisitor, W: Write>(
     octets: &mut Vec<u8>,
     visitor: &mut V,
     out: &mut W,
-) -> Result<(Walked, Option<(u64, u32)>, Option<SourceFault>), Fault<'a>>
+) -> Result<(Walked, Option<SourceFault>), Fault<'a>>
     ensures { IfOk result (λ ended. ended.0.refused ≤ ended.0.records) }
 {
     let mut walked = Walked::begin();
@@ -315,7 +358,7 @@ fn walk<'a, S: RecordSource, V: RecordVisitor, W: Write>(
     // 11 octets at least, so that many are over 2^67 octets.
     for step in 0..u64::MAX {
         if selection.count == Some(walked.records) {
-            return Ok((walked, first, None));
+            return Ok((walked, None));
         }
         if waits {
             out.flush()?;
@@ -324,27 +367,19 @@ fn walk<'a, S: RecordSource, V: RecordVisitor, W: Write>(
             Ok(Step::Record(head)) => {
                 let place = Place::of(walked.read, &head, first, octets.as_slice());
                 first = Some((place.first, place.first_nanos));
-                walked.read += 1;
                 let visited = if selection.partial && is_cut(&head) {
                     visit_cut(selection, place, &head, octets, &mut room, visitor, out)?
                 } else {
                     visit(selection, place, &head, octets, visitor, out)?
                 };
-                match visited {
-                    Visited::Passed => {}
-                    Visited::Frame => walked.records += 1,
-                    Visited::Refused => {
-                        walked.records += 1;
-                        walked.refused += 1;
-                    }
-                }
+                walked = walked.after(visited);
             }
             Ok(Step::Interface | Step::Passed) => {}
-            Ok(Step::End) => return Ok((walked, first, None)),
-            Err(fault) => return Ok((walked, first, Some(fault))),
+            Ok(Step::End) => return Ok((walked, None)),
+            Err(fault) => return Ok((walked, Some(fault))),
         }
     }
-    Ok((walked, first, None))
+    Ok((walked, None))
 }
 
 /// Visits a record, if it is chosen.

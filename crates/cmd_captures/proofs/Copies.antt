@@ -10,6 +10,7 @@ use Rattle.std.specs.Io.KnownBytes.{Appends}
 use Rattle.cap_records.specs.declared.choosing.Choice.{Choice}
 use Rattle.cap_pcap.specs.RecordFiles.{RecordFile, StartsOn, AddsInterfaceOn, PutsFrame, HasPlace}
 use Rattle.cap_pcap.specs.RecordFiles.{RefusesFrame}
+use Rattle.cap_pcap.specs.PcapngWritten.{HasBlock, LacksBlock}
 use Rattle.cap_pcap.specs.Words.{word_of}
 use Rattle.cap_pcap.specs.declared.fault.SourceFault.{SourceFault}
 use Rattle.cap_pcap.specs.declared.format.Format.{Format}
@@ -25,7 +26,7 @@ use Rattle.cap_pcap.specs.declared.sink.SinkFault.TheVariants as faults
 use Rattle.cmd_reporting.specs.declared.status.Status.{Status}
 use Rattle.cmd_captures.specs.Conversions.{Target, IsFileFault, IsLeftOut, HasText}
 use Rattle.cmd_captures.specs.Conversions.{WritesText, PutsRecord, WritesMet, WritesSteps, Went}
-use Rattle.cmd_captures.specs.Conversions.{IsTextFault}
+use Rattle.cmd_captures.specs.Conversions.{IsTextFault, RefusesIn}
 use Rattle.cap_pcap.specs.Places.{IsLayerFor}
 use Rattle.cmd_captures.specs.declared.written.PutRefusal.{PutRefusal}
 use Rattle.cmd_captures.specs.declared.written.PutRefusal.TheVariants as refusals
@@ -107,38 +108,44 @@ adds_fault formats.Pcapng l name old new puts.Failed p = tt
 
 -- ---- a record
 
+-- a packet without a time stamp is of the first interface or of another one
+no_block : (i : ℕ) (ticks : Option ℕ) → HasBlock i ticks → LacksBlock i ticks → ⊥
+no_block i (Some n) has lacks = lacks
+no_block i None has lacks = omega (arith, has, lacks)
+
 -- where the file has a place for a record, only the file itself fails
-refused_no_place : (f : Format) (n i moment : ℕ) (text : List ℕ) (fault : PutFault)
-    → HasPlace f 1 0 moment text → RefusesFrame f n i moment text fault → IsFileFault fault
-refused_no_place formats.Capture n i moment text puts.Length place p = absurd (p place)
-refused_no_place formats.Capture n i moment text puts.Moment place p = absurd p
-refused_no_place formats.Capture n i moment text puts.Interface place p = tt
-refused_no_place formats.Capture n i moment text puts.Name place p = tt
-refused_no_place formats.Capture n i moment text puts.Io place p = tt
-refused_no_place formats.Capture n i moment text puts.Failed place p = tt
-refused_no_place formats.Pcap n i moment text puts.Length place p = absurd (omega (arith, place.0, p))
-refused_no_place formats.Pcap n i moment text puts.Moment place p = absurd (omega (arith, place.1, p.1))
-refused_no_place formats.Pcap n i moment text puts.Interface place p = tt
-refused_no_place formats.Pcap n i moment text puts.Name place p = tt
-refused_no_place formats.Pcap n i moment text puts.Io place p = tt
-refused_no_place formats.Pcap n i moment text puts.Failed place p = tt
-refused_no_place formats.Pcapng n i moment text puts.Length place p =
+refused_no_place : (f : Format) (n i : ℕ) (stamp : Stamp) (text : List ℕ) (fault : PutFault)
+    → HasPlace f (i + 1) i stamp text → RefusesFrame f n i stamp text fault → IsFileFault fault
+refused_no_place formats.Capture n i stamp text puts.Length place p = absurd (p place)
+refused_no_place formats.Capture n i stamp text puts.Moment place p = absurd p
+refused_no_place formats.Capture n i stamp text puts.Interface place p = tt
+refused_no_place formats.Capture n i stamp text puts.Name place p = tt
+refused_no_place formats.Capture n i stamp text puts.Io place p = tt
+refused_no_place formats.Capture n i stamp text puts.Failed place p = tt
+refused_no_place formats.Pcap n i stamp text puts.Length place p = absurd (omega (arith, place.0, p))
+refused_no_place formats.Pcap n i stamp text puts.Moment place p = absurd (omega (arith, place.1, p.1))
+refused_no_place formats.Pcap n i stamp text puts.Interface place p = tt
+refused_no_place formats.Pcap n i stamp text puts.Name place p = tt
+refused_no_place formats.Pcap n i stamp text puts.Io place p = tt
+refused_no_place formats.Pcap n i stamp text puts.Failed place p = tt
+refused_no_place formats.Pcapng n i stamp text puts.Length place p =
     absurd (omega (arith, place.1, p.1))
-refused_no_place formats.Pcapng n i moment text puts.Moment place p = absurd p
-refused_no_place formats.Pcapng n i moment text puts.Interface place p = tt
-refused_no_place formats.Pcapng n i moment text puts.Name place p = tt
-refused_no_place formats.Pcapng n i moment text puts.Io place p = tt
-refused_no_place formats.Pcapng n i moment text puts.Failed place p = tt
+refused_no_place formats.Pcapng n i stamp text puts.Moment place p =
+    absurd (no_block i stamp.ticks place.2 p.2)
+refused_no_place formats.Pcapng n i stamp text puts.Interface place p = tt
+refused_no_place formats.Pcapng n i stamp text puts.Name place p = tt
+refused_no_place formats.Pcapng n i stamp text puts.Io place p = tt
+refused_no_place formats.Pcapng n i stamp text puts.Failed place p = tt
 
 pub put_fault : (format : Format) (i : ℕ) (stamp : Stamp) (text : List ℕ) (old new : RecordFile)
-    (fault : PutFault) → old.format ≡ format → HasPlace format 1 0 stamp.moment text
+    (fault : PutFault) → old.format ≡ format → HasPlace format (i + 1) i stamp text
     → PutsFrame i stamp text old new (Err fault) → IsFileFault fault
 put_fault format i stamp text old new puts.Length is place p =
-    refused_no_place old.format old.interfaces i stamp.moment text puts.Length
-    (subst (λ (f : Format). HasPlace f 1 0 stamp.moment text) (sym is) place) p.1
+    refused_no_place old.format old.interfaces i stamp text puts.Length
+    (subst (λ (f : Format). HasPlace f (i + 1) i stamp text) (sym is) place) p.1
 put_fault format i stamp text old new puts.Moment is place p =
-    refused_no_place old.format old.interfaces i stamp.moment text puts.Moment
-    (subst (λ (f : Format). HasPlace f 1 0 stamp.moment text) (sym is) place) p.1
+    refused_no_place old.format old.interfaces i stamp text puts.Moment
+    (subst (λ (f : Format). HasPlace f (i + 1) i stamp text) (sym is) place) p.1
 put_fault format i stamp text old new puts.Interface is place p = tt
 put_fault format i stamp text old new puts.Name is place p = tt
 put_fault format i stamp text old new puts.Io is place p = tt
@@ -156,7 +163,7 @@ text_fault l h text t next puts.Failed p = tt
 
 -- a text that the file has no place for
 pub text_refused : (l : LinkLayer) (h : RecordHeader) (text : List ℕ) (t : Target) (fault : PutFault)
-    → RefusesFrame t.file.format 1 0 h.moment text fault
+    → RefusesIn t h text fault
     → WritesText l h text t t (Err (faults.Put fault))
 text_refused l h text t puts.Length p = (p, refl)
 text_refused l h text t puts.Moment p = (p, refl)

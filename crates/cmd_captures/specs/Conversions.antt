@@ -177,6 +177,16 @@ abbrev pub refusal_to : Bool → Option LinkLayer → Option LinkLayer
 refusal_to true only = None
 refusal_to false only = only
 
+-- the file that is written has a place for such a record, of its own interface
+abbrev pub HasPlaceIn : Target → RecordHeader → List ℕ → Type 0
+HasPlaceIn t h text =
+    HasPlace t.file.format (h.interface + 1) h.interface (stamp_in t.unit h) text
+
+-- what speaks against it
+abbrev pub RefusesIn : Target → RecordHeader → List ℕ → PutFault → Type 0
+RefusesIn t h text fault =
+    RefusesFrame t.file.format (h.interface + 1) h.interface (stamp_in t.unit h) text fault
+
 abbrev pub IsLeftOut : Target → Bool → RecordHeader → List ℕ → SinkFault → Type 0
 IsLeftOut t signed h w (faults.Record f) =
     refusal_of h (refusal_to t.frames_only t.layer) ≡ Some f
@@ -184,7 +194,7 @@ IsLeftOut t signed h w (faults.Link f) =
     (t.frames_only ≡ true) × (own : LinkLayer) × IsLayerFor h None own × IsLinkFault own w f
 IsLeftOut t signed h w (faults.Put f) =
     (l : LinkLayer) × (text : List ℕ) × HasText t.frames_only t.layer signed h w l text
-    × RefusesFrame t.file.format 1 0 h.moment text f
+    × RefusesIn t h text f
 
 -- why no frame is written of a record: it is a secured one whose message isn't read
 pub record IsUnreadIn (t : Target) (signed : Bool) (h : RecordHeader) (w : List ℕ)
@@ -208,7 +218,7 @@ layer_after formats.Pcapng l old = old
 -- is all of it.
 pub record IsAdded (l : LinkLayer) (h : RecordHeader) (text added : List ℕ) (t next : Target)
     : Type 0 where
-  pub place : HasPlace t.file.format 1 0 h.moment text
+  pub place : HasPlaceIn t h text
   pub added_is : added
       ≡ headers_due t l ++ frame_octets t.file.format h.interface (stamp_in t.unit h) text
   pub appends : Appends t.file.contents next.file.contents added
@@ -371,9 +381,9 @@ abbrev pub WritesText : LinkLayer → RecordHeader → List ℕ → Target → T
 WritesText l h text t next (Ok _) =
     (added : List ℕ) × IsAdded l h text added t next
 WritesText l h text t next (Err (faults.Put puts.Length)) =
-    RefusesFrame t.file.format 1 0 h.moment text puts.Length × (next ≡ t)
+    RefusesIn t h text puts.Length × (next ≡ t)
 WritesText l h text t next (Err (faults.Put puts.Moment)) =
-    RefusesFrame t.file.format 1 0 h.moment text puts.Moment × (next ≡ t)
+    RefusesIn t h text puts.Moment × (next ≡ t)
 WritesText l h text t next (Err (faults.Put fault)) = Unit {0}
 WritesText l h text t next (Err (faults.Record fault)) = ⊥
 WritesText l h text t next (Err (faults.Link fault)) = ⊥

@@ -12,7 +12,8 @@ use crate::prompt::Prompt;
 use crate::refused_lines::UnreadRecord;
 use crate::written::{PutRefusal, Written};
 use cap_pcap::{
-    AnySource, Format, LONGEST_CAPTURED, RecordHeader, RecordSource, SinkFault, SourceFault, Step,
+    AnySource, Format, LONGEST_CAPTURED, OpenFault, RecordHeader, RecordSource, SinkFault,
+    SourceFault, Step,
 };
 use cap_records::{FileFault, RecordFault, RefusedCapture, Selection};
 use cmd_reporting::{
@@ -23,6 +24,9 @@ use its_linkframe::{Counted, Source};
 use std::alloc::Global;
 use std::io::{Read, Write};
 use std::rt::Files;
+
+/// The most records that are left out without a line of their number: each has its own line.
+const MOST_COUNTED: u64 = 20;
 
 /// What is converted, and to what.
 #[derive(Clone, Copy, Debug, PartialEq, Eq)]
@@ -123,16 +127,27 @@ fn convert_records<'a, R: Read + Drop, W: Write + Drop, E: Write>(
 {
     let conversion = converting.conversion;
     let mut written = Written::new(writer, converting.to, conversion.frames_only);
-    let reporter = Reporter {
+    let mut reporter = Reporter {
         file: conversion.file,
         target: conversion.target.name,
         read_as: selection.format,
         format: converting.format,
+        left_out: 0,
     };
     let keep = LONGEST_CAPTURED as usize;
     let ended = match AnySource::open(alloc, Counted::new(reader), selection.format, keep) {
-        Ok(mut source) => copy(alloc, reporter, selection, &mut source, &mut written, err),
-        Err(fault) => reporter.end_file(fault, 0, err),
+        Ok(mut source) => {
+            copy(
+                alloc,
+                &mut reporter,
+                selection,
+                &mut source,
+                &mut written,
+                err,
+            )
+        }
+        Err(OpenFault::Io) => Err(Fault::CannotRead(conversion.file)),
+        Err(OpenFault::Gzip) => Ok(reporter.refuse(FileFault::gzip(), 0, err)),
     };
     let is_whole = written.end();
     let losses = written.losses();
@@ -141,6 +156,7 @@ fn convert_records<'a, R: Read + Drop, W: Write + Drop, E: Write>(
     if !is_whole || flushed.is_err() {
         return Err(Fault::of_target(reporter.target));
     }
+    reporter.report_left_out(err);
     losses.report(err);
     Ok(status)
 }
@@ -149,7 +165,7 @@ fn convert_records<'a, R: Read + Drop, W: Write + Drop, E: Write>(
 /// no place in the file is reported and left out.
 fn copy<'a, S: Source + Drop, W: Write + Drop, E: Write>(
     alloc: Global,
-    reporter: Reporter<'a>,
+    reporter: &mut Reporter<'a>,
     selection: &Selection,
     source: &mut AnySource<S>,
     written: &mut Written<W>,
@@ -326,7 +342,7 @@ fn copy_record<'a, W: Write + Drop>(
 }
 
 /// What reports on standard error what is wrong with the files.
-#[derive(Clone, Copy)]
+#[derive(Drop)]
 struct Reporter<'a> {
     /// The name of the file that is read.
     file: &'a str,
@@ -336,18 +352,22 @@ struct Reporter<'a> {
     read_as: Option<Format>,
     /// How lines are printed.
     format: OutputFormat,
+    /// How many records were reported as left out.
+    left_out: u64,
 }
 
 impl<'a> Reporter<'a> {
     /// Reports what a step met after this number of records: that the record is left out, or the
     /// fault of the file.
-    fn report<E: Write>(self, met: Met, records: u64, err: &mut E) -> Result<(), Fault<'a>> {
+    fn report<E: Write>(&mut self, met: Met, records: u64, err: &mut E) -> Result<(), Fault<'a>> {
         match met {
             Met::Record(Copied::LeftOut(fault)) => {
+                self.left_out = self.left_out.saturating_add(1);
                 let left_out = LeftOut::new("record", records, fault, self.format);
                 let _ = writeln!(err, "{left_out}");
             }
             Met::Record(Copied::Unread(fault)) => {
+                self.left_out = self.left_out.saturating_add(1);
                 let unread = UnreadRecord::new(records, fault, self.format.explain);
                 let _ = writeln!(err, "{unread}");
             }
@@ -359,9 +379,16 @@ impl<'a> Reporter<'a> {
         Ok(())
     }
 
+    /// Reports how many records were left out, if that is hard to see from their lines.
+    fn report_left_out<E: Write>(&self, err: &mut E) {
+        if self.left_out > MOST_COUNTED {
+            let _ = writeln!(err, "geostation: {} records left out", self.left_out);
+        }
+    }
+
     /// Reports the fault of the file after this number of records, or why it was not read on.
     fn end_file<E: Write>(
-        self,
+        &self,
         fault: SourceFault,
         records: u64,
         err: &mut E,
@@ -369,8 +396,15 @@ impl<'a> Reporter<'a> {
         ensures { IfOk result IsCommandStatus }
     {
         let fault = FileFault::of(fault, self.file, records, self.read_as)?;
+        Ok(self.refuse(fault, records, err))
+    }
+
+    /// Reports that the file is refused after this number of records.
+    fn refuse<E: Write>(&self, fault: FileFault, records: u64, err: &mut E) -> Status
+        ensures { result ≡ Status.Refused }
+    {
         let refused = RefusedCapture::new(records, fault, self.format.explain);
         let _ = writeln!(err, "geostation: {refused}");
-        Ok(Status::Refused)
+        Status::Refused
     }
 }

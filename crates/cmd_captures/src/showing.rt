@@ -11,10 +11,11 @@ use crate::moment::{Clock, Time};
 use crate::output::Output;
 use crate::refused_lines::RefusedAt;
 use crate::rows::{RowForm, Rows};
-use cap_pcap::{AnySource, Format};
 use cap_records::{
-    Place, RecordFault, RecordVisitor, RefusedCapture, Selection, each_record, open_records,
+    Place, RecordFault, RecordVisitor, Records, RefusedCapture, Selection, each_record,
+    open_records,
 };
+use cmd_quoting::OneLine;
 use cmd_reporting::{CommandFault, Fault, Io, OutputFormat, Status, open};
 use its_linkframe::{FrameView, Source};
 use std::alloc::{AllocError, Global};
@@ -36,7 +37,7 @@ pub struct Showing {
 #[derive(Debug, Drop, Error)]
 pub(crate) enum ShowFault<'a> {
     /// Times were to be printed in UTC, and the file has no epoch.
-    #[error("geostation: {0}: no epoch")]
+    #[error("geostation: {}: no epoch", OneLine(*.0))]
     NoEpoch(&'a str),
     /// What ends any command.
     #[error("{0}")]
@@ -147,18 +148,18 @@ where
         IfErr result (λ fault. IsCommandStatus (show_fault_status fault)) }
 {
     let reader = open(rt, file, input)?;
-    let mut source = open_records(rt.alloc(), file, selection.format, reader)?;
-    if showing.time == Time::Utc && source.format() == Format::Capture {
+    let mut records = open_records(rt.alloc(), file, selection.format, reader)?;
+    if showing.time == Time::Utc && records.is_capture() {
         return Err(ShowFault::NoEpoch(file));
     }
-    Ok(show_opened(rt.alloc(), file, &mut source, selection, showing, io)?)
+    Ok(show_opened(rt.alloc(), file, &mut records, selection, showing, io)?)
 }
 
 /// The same of a file that is open.
 fn show_opened<'a, S: Source + Drop, W: Write, E: Write>(
     alloc: Global,
     file: &'a str,
-    source: &mut AnySource<S>,
+    records: &mut Records<S>,
     selection: &Selection,
     showing: &Showing,
     io: &mut Io<W, E>,
@@ -167,22 +168,22 @@ fn show_opened<'a, S: Source + Drop, W: Write, E: Write>(
 {
     let clock = Clock::new(showing.time);
     let Some(fields) = &showing.fields else {
-        return show_lines(alloc, file, source, selection, clock, io);
+        return show_lines(alloc, file, records, selection, clock, io);
     };
     if io.format.json {
         let rows = Rows::new(alloc, fields.as_slice(), RowForm::Object, clock)?;
-        return show_objects(alloc, file, source, selection, rows, io);
+        return show_objects(alloc, file, records, selection, rows, io);
     }
     let rows = Rows::new(alloc, fields.as_slice(), RowForm::Csv, clock)?;
     rows.write_heads(&mut io.out)?;
-    show_rows(alloc, file, source, selection, rows, io)
+    show_rows(alloc, file, records, selection, rows, io)
 }
 
 /// A line for each record.
 fn show_lines<'a, S: Source + Drop, W: Write, E>(
     alloc: Global,
     file: &'a str,
-    source: &mut AnySource<S>,
+    records: &mut Records<S>,
     selection: &Selection,
     clock: Clock,
     io: &mut Io<W, E>,
@@ -198,7 +199,7 @@ fn show_lines<'a, S: Source + Drop, W: Write, E>(
             None
         },
     };
-    let walked = each_record(alloc, file, selection, source, &mut visitor, &mut io.out)?;
+    let walked = each_record(alloc, file, selection, records, &mut visitor, &mut io.out)?;
     visitor.output.end(&walked, &mut io.out)?;
     Ok(walked.status())
 }
@@ -215,7 +216,7 @@ fn rows_of_cut(alloc: Global, clock: Clock) -> Result<Rows, AllocError> {
 fn show_objects<'a, S: Source + Drop, W: Write, E: Write>(
     alloc: Global,
     file: &'a str,
-    source: &mut AnySource<S>,
+    records: &mut Records<S>,
     selection: &Selection,
     rows: Rows,
     io: &mut Io<W, E>,
@@ -224,7 +225,7 @@ fn show_objects<'a, S: Source + Drop, W: Write, E: Write>(
 {
     let mut visitor = rows;
     let mut output = Output::new(alloc, io.format)?;
-    let walked = each_record(alloc, file, selection, source, &mut visitor, &mut io.out)?;
+    let walked = each_record(alloc, file, selection, records, &mut visitor, &mut io.out)?;
     output.end(&walked, &mut io.out)?;
     Ok(walked.status())
 }
@@ -233,7 +234,7 @@ fn show_objects<'a, S: Source + Drop, W: Write, E: Write>(
 fn show_rows<'a, S: Source + Drop, W: Write, E: Write>(
     alloc: Global,
     file: &'a str,
-    source: &mut AnySource<S>,
+    records: &mut Records<S>,
     selection: &Selection,
     rows: Rows,
     io: &mut Io<W, E>,
@@ -241,7 +242,7 @@ fn show_rows<'a, S: Source + Drop, W: Write, E: Write>(
     ensures { IfOk result IsCommandStatus }
 {
     let mut visitor = rows;
-    let walked = each_record(alloc, file, selection, source, &mut visitor, &mut io.out)?;
+    let walked = each_record(alloc, file, selection, records, &mut visitor, &mut io.out)?;
     if let Some(fault) = walked.fault {
         let refused = RefusedCapture::new(walked.read, fault, io.format.explain);
         let _ = writeln!(io.err, "geostation: {refused}");

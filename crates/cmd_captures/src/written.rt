@@ -153,10 +153,10 @@ impl<W: Write + Drop> Written<W> {
         ensures { WritesText layer head.now octets.now self.old self.new result }
     {
         let format = self.format();
-        has_place(format, head.moment, octets)?;
+        let stamp = head.stamp(self.unit);
+        has_place(format, head.interface, stamp, octets)?;
         self.layer = layer_with(format, layer, self.layer);
         self.begin(layer)?;
-        let stamp = head.stamp(self.unit);
         self.sink.put_frame(head.interface, stamp, octets)?;
         self.losses.add_time(format, self.unit, &head.fine);
         Ok(())

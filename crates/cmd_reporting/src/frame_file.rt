@@ -1,6 +1,6 @@
 //! A file of frames, written as they are given.
 
-ghost use Rattle.std.specs.Prelude.{◌≡◌, ◌^◌, ◌<◌, IfOk, None, Ok, is_ok};
+ghost use Rattle.std.specs.Prelude.{◌≡◌, ◌^◌, ◌<◌, IfOk, IfSome, None, Ok, is_ok};
 ghost use Rattle.cmd_reporting.specs.Statuses.{IsCommandStatus};
 ghost use Rattle.cmd_reporting.specs.FrameFiles.{HasNewInterface, IsBegun, IsNoted, IsEnded};
 
@@ -192,6 +192,7 @@ pub fn end_frames<'a, F: Write + Drop>(
     requires { IfOk ended IsCommandStatus }
     ensures status { IfOk result IsCommandStatus }
     ensures none { frames.entry ≡ None → result ≡ ended.entry }
+    ensures ended { IfSome frames.entry (λ file. IfOk result (IsEnded file ended.entry)) }
     ensures done { result ≡ Ok Status.Done → ended.entry ≡ Ok Status.Done }
 {
     match frames {

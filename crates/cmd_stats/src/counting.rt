@@ -123,12 +123,12 @@ where
     let alloc = rt.alloc();
     let reader = open(rt, file, input)?;
     let mut counts = Counts::new(alloc);
-    let mut source = open_records(alloc, file, selection.format, reader)?;
+    let mut records = open_records(alloc, file, selection.format, reader)?;
     let walked = each_record(
         alloc,
         file,
         selection,
-        &mut source,
+        &mut records,
         &mut counts,
         &mut io.out,
     )?;

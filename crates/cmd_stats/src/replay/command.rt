@@ -8,7 +8,7 @@ ghost use Rattle.cmd_stats.specs.Units.{IsUnit};
 use crate::replay::printing::Printer;
 use crate::replay::replaying::replay_records;
 use crate::replay::unit::Unit;
-use cap_records::{FileFault, RefusedCapture, Selection, open_records};
+use cap_records::{FileFault, Records, Selection, open_records};
 use cmd_reporting::{
     Fault, FrameFile, FrameTarget, Io, Status, Target, WriterFault, create_frames, end_frames,
     frame_target, is_standard, keep_apart, open,
@@ -107,13 +107,14 @@ fn replay_lines<'a, R: Read + Drop, F: Write + Drop, W: Write, E: Write>(
     ensures { IfOk result IsCommandStatus }
 {
     let (file, selection) = (replay.file, &replay.selection);
-    let mut source = open_records(alloc, file, selection.format, reader)?;
+    let Records::Source(mut source) = open_records(alloc, file, selection.format, reader)? else {
+        return printer.refuse(FileFault::gzip(), 0);
+    };
     let mut station = replay.unit.begin(alloc)?;
     let replayed = replay_records(alloc, &mut station, selection, &mut source, printer)?;
     let Some(fault) = replayed.fault else {
         return Ok(Status::Done);
     };
     let fault = FileFault::of(fault, file, replayed.read, selection.format)?;
-    printer.line(&RefusedCapture::new(replayed.read, fault, printer.io.format.explain))?;
-    Ok(Status::Refused)
+    printer.refuse(fault, replayed.read)
 }

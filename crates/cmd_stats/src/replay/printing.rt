@@ -1,8 +1,11 @@
 //! The lines of a replay, and the file of its frames.
 
+ghost use Rattle.std.specs.Prelude.{◌≡◌, IfOk};
+
 use crate::replay::heard::{Heard, HeardSink};
 use crate::replay::lines::ReplayLine;
-use cmd_reporting::{Fault, FrameFile, Io};
+use cap_records::{FileFault, RefusedCapture};
+use cmd_reporting::{Fault, FrameFile, Io, Status};
 use cmd_text::json_lines::JsonLine;
 use its_station::Reply;
 use serde::Serialize;
@@ -51,6 +54,15 @@ impl<'p, 't, W: Write, E: Write, F: Write + Drop> Printer<'p, 't, W, E, F> {
             self.io.out.flush()?;
         }
         Ok(())
+    }
+
+    /// Writes the line of the capture, which is refused by this fault after this number of records. The
+    /// errors are those of `line`.
+    pub(crate) fn refuse<'f>(&mut self, fault: FileFault, records: u64) -> Result<Status, Fault<'f>>
+        ensures { IfOk result (λ status. status ≡ Status.Refused) }
+    {
+        self.line(&RefusedCapture::new(records, fault, self.io.format.explain))?;
+        Ok(Status::Refused)
     }
 
     /// Counts a frame that goes on, and writes it to the file.

@@ -1,6 +1,6 @@
 //! Sentences for a person beside the codes of lines.
 
-use its_faults::{FrameFault, SecuredFault};
+use its_faults::{Fault as PacketFault, FaultKind, FrameFault, SecuredFault};
 use std::fmt;
 
 /// A space and a sentence in parentheses, after the code of a line; or nothing.
@@ -24,9 +24,30 @@ pub struct FrameReason(pub FrameFault);
 impl fmt::Display for FrameReason {
     fn fmt<W: fmt::Write>(&self, f: &mut fmt::Formatter<W>) -> fmt::Result {
         match self.0 {
-            FrameFault::Packet(fault) => write!(f, "{fault}"),
+            FrameFault::Packet(fault) => write!(f, "{}", PacketReason(fault)),
             fault => write!(f, "{fault}"),
         }
+    }
+}
+
+/// Why octets are no packet, as a sentence. Where a code has several causes, it names them all.
+#[derive(Clone, Copy)]
+struct PacketReason(PacketFault);
+
+impl fmt::Display for PacketReason {
+    fn fmt<W: fmt::Write>(&self, f: &mut fmt::Formatter<W>) -> fmt::Result {
+        let PacketReason(fault) = self;
+        let kind = fault.kind;
+        write!(f, "{kind}{}, at octet {}", other_causes(kind), fault.at)
+    }
+}
+
+/// What else may be wrong, behind what the code says.
+fn other_causes(kind: FaultKind) -> &'static str {
+    match kind {
+        FaultKind::HeaderType => ", or one that does not go with the next header",
+        FaultKind::Area => ", or a circle with a second distance or an angle",
+        _ => "",
     }
 }
 
@@ -38,7 +59,9 @@ pub struct SecuredReason(pub SecuredFault);
 impl fmt::Display for SecuredReason {
     fn fmt<W: fmt::Write>(&self, f: &mut fmt::Formatter<W>) -> fmt::Result {
         match self.0 {
-            SecuredFault::Packet(fault) | SecuredFault::Inner(fault) => write!(f, "{fault}"),
+            SecuredFault::Packet(fault) | SecuredFault::Inner(fault) => {
+                write!(f, "{}", PacketReason(fault))
+            }
             fault => write!(f, "{fault}"),
         }
     }

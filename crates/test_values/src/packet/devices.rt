@@ -97,7 +97,7 @@ fn read_failing(alloc: Global, format: Format, octets: &[u8], calls: u64) -> [An
     let device = Counted::new(Slow { octets, calls });
     match AnySource::open(alloc, device, Some(format), 2) {
         Ok(source) => end_of(&eight_of(alloc, source)),
-        Err(fault) => [Err(fault); 2],
+        Err(_) => [Err(SourceFault::Capture(CaptureFault::Io)); 2],
     }
 }
 

@@ -4,7 +4,7 @@ use Rattle.cap_pcap.proofs.Layouts.{behind-fault, behind-answer, first-fault}
 use Rattle.cap_pcap.proofs.Layouts.{gives-value}
 use Rattle.cap_pcap.proofs.Layouts.{frame-read, frame-cut}
 use Rattle.cap_pcap.proofs.Firsts.{first-read, first-wrong}
-use Rattle.cap_pcap.specs.Blocks.{simple}
+use Rattle.cap_pcap.specs.Blocks.{simple, ticks_of_zero}
 use Rattle.cap_pcap.specs.declared.blocks.Block.{Block}
 use Rattle.cap_pcap.specs.declared.blocks.Block.TheVariants as blocks
 use Rattle.cap_pcap.proofs.blocks.simple_block.Goals as goal
@@ -64,7 +64,11 @@ returns-clause-answer g c =
     (behind-answer _ _ tt (Ok _) _ _ _ c.in_ok-end_block.ensures.answer
     (gives-value {A = Block} (blocks.Record (record {
       moment = 0;
-      fine = record { nanos = 0; finer = false; ticks = 0 };
+      fine = record {
+        nanos = 0;
+        finer = false;
+        ticks = ticks_of_zero c.in_ok-interface.interface.info.head.offset;
+      };
       interface = c.in_ok-interface.interface.number;
       captured = c.in_ok-wire.captured;
       wire = c.in_ok-wire.wire;
