@@ -3,6 +3,7 @@
 ghost use Rattle.std.specs.Prelude.{◌≡◌};
 
 use crate::limit::TooLarge;
+use cmd_quoting::OneLine;
 use cmd_reporting::{Cause, CommandFault, Fault, OutputFormat, Status, WriterFault};
 use cmd_text::frames::Explanation;
 use sim_runs::RunFault;
@@ -18,7 +19,7 @@ pub(crate) enum PageFault<'a> {
     #[error("geostation: no page beside the program: --viewer names its folder")]
     NoPage,
     /// A style or a script of the page could not be read, and why, if the system said so.
-    #[error("geostation: cannot read {0}")]
+    #[error("geostation: cannot read {}", OneLine(.0.as_str()))]
     PartNotRead(String, Option<Cause>),
     /// A run or a street net is larger than a page holds.
     #[error("geostation: {0}")]

@@ -1,5 +1,6 @@
 //! How large a file may be that a page holds.
 
+use cmd_quoting::OneLine;
 use cmd_reporting::is_standard;
 use std::io::Write;
 use std::{fmt, io};
@@ -52,14 +53,10 @@ pub(crate) struct TooLarge<'a> {
 
 impl fmt::Display for TooLarge<'_> {
     fn fmt<W: fmt::Write>(&self, f: &mut fmt::Formatter<W>) -> fmt::Result {
-        let TooLarge {
-            content,
-            file,
-            page,
-        } = self;
+        let (content, file, page) = (self.content, OneLine(self.file), OneLine(self.page));
         let most = content.most() / 1_000_000;
         match content {
-            Content::Lines if is_standard(file) => write!(
+            Content::Lines if is_standard(self.file) => write!(
                 f,
                 "standard input is over {most} MB, too large for a page: save it to a file, open \
                  {page} and drop the file there"

@@ -12,6 +12,7 @@ use crate::net::{Net, open_net, write_net};
 use crate::page::{Page, open_page, write_up_to_run};
 use crate::run::{Shown, shown_of, write_run, write_too_large};
 use crate::way::Way;
+use cmd_quoting::OneLine;
 use cmd_reporting::{
     Destination, Fault, Io, NamedFile, Opened, OutputFault, ProgressWriter, Status, WriterFault,
     create, create_output, is_standard, open, refuse_same,
@@ -107,7 +108,8 @@ where
     };
     way.or_fault(out.flush())?;
     if matches!(out, Destination::File(_)) && !options.quiet {
-        let _ = writeln!(io.err, "geostation: {}: open it in a browser", way.target);
+        let page = OneLine(way.target);
+        let _ = writeln!(io.err, "geostation: {page}: open it in a browser");
     }
     Ok(status)
 }

@@ -6,6 +6,7 @@ use crate::cause::Cause;
 use crate::options::OutputFormat;
 use crate::outputs::{OutputFault, is_standard};
 use crate::status::Status;
+use cmd_quoting::OneLine;
 use cmd_text::frames::Explanation;
 use cmd_text::json_lines::JsonFault;
 use its_gnvalue::NoMemory;
@@ -35,16 +36,16 @@ pub trait CommandFault {
 #[derive(Debug, Drop, Error)]
 pub enum Fault<'a> {
     /// The file could not be opened, or a read of it failed.
-    #[error("geostation: cannot read {0}")]
+    #[error("geostation: cannot read {}", OneLine(*.0))]
     CannotRead(&'a str),
     /// The file could not be created, or a write of it failed.
-    #[error("geostation: cannot write {0}")]
+    #[error("geostation: cannot write {}", OneLine(*.0))]
     CannotWrite(&'a str),
     /// The same, and why.
-    #[error("geostation: cannot read {0}")]
+    #[error("geostation: cannot read {}", OneLine(*.0))]
     NotRead(&'a str, Cause),
     /// The file could not be created, or a write of it failed, and why.
-    #[error("geostation: cannot write {0}")]
+    #[error("geostation: cannot write {}", OneLine(*.0))]
     NotWritten(&'a str, Cause),
     /// An allocation failed.
     #[error("geostation: out of memory")]

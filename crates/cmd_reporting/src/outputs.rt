@@ -11,6 +11,7 @@ use crate::fault::CommandFault;
 use crate::options::OutputFormat;
 use crate::status::Status;
 use cap_pcap::Format;
+use cmd_quoting::OneLine;
 use std::io::Write;
 use thiserror::Error;
 
@@ -139,10 +140,10 @@ pub fn is_standard(name: &str) -> bool
 #[derive(Clone, Copy, Debug, PartialEq, Eq, Error)]
 pub enum OutputFault<'a> {
     /// Neither its name nor an argument says a format.
-    #[error("geostation: {0}: no format")]
+    #[error("geostation: {}: no format", OneLine(*.0))]
     NoFormat(&'a str),
     /// It is a file that is read, or another one that is written: their names, its own first.
-    #[error("geostation: {0} is {1}")]
+    #[error("geostation: {} is {}", OneLine(*.0), OneLine(*.1))]
     SameFile(&'a str, &'a str),
 }
 

@@ -5,6 +5,7 @@ use clap::error::ErrorKind;
 use clap::{Command, Error};
 use cmd_arguments::terminal::Console;
 use cmd_arguments::{BadArgument, add_commands, command_named};
+use cmd_quoting::OneLine;
 use cmd_reporting::OutputFormat;
 use sim_runs::VERSION;
 use std::alloc::{AllocError, Global};
@@ -22,8 +23,38 @@ fn whole<'a>(alloc: Global) -> Result<Command<'a>, AllocError> {
 }
 
 /// Reads the arguments, the program's own name first, of a program whose streams are these. An
-/// error is help or the version, where these were asked for, or why the arguments were refused.
+/// error is help or the version, where these were asked for, or why the arguments were refused. That
+/// shows each argument on one line.
 pub fn read<'a>(
+    alloc: Global,
+    arguments: &'a [String],
+    console: Console,
+) -> Result<(Subcommand<'a>, OutputFormat), Error> {
+    match read_as_given(alloc, arguments, console) {
+        Err(error) if error.use_stderr() => Err(escaped_error(alloc, arguments, console, error)?),
+        read => read,
+    }
+}
+
+/// Returns the error of these arguments, each as a line shows it. `error` is theirs as they are.
+fn escaped_error(
+    alloc: Global,
+    arguments: &[String],
+    console: Console,
+    error: Error,
+) -> Result<Error, AllocError> {
+    let mut escaped = Vec::new(alloc);
+    for argument in arguments {
+        escaped.push(format!(in alloc; "{}", OneLine(argument.as_str()))?)?;
+    }
+    Ok(match read_as_given(alloc, escaped.as_slice(), console) {
+        Err(shown) => shown,
+        Ok(_) => error,
+    })
+}
+
+/// Reads the arguments. An error shows them as they are.
+fn read_as_given<'a>(
     alloc: Global,
     arguments: &'a [String],
     console: Console,

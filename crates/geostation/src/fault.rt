@@ -1,8 +1,9 @@
 //! Arguments that are refused once they are read.
 
+use cmd_quoting::Quoted;
 use cmd_reporting::{CommandFault, Fault, OutputFormat, Status};
 use cmd_text::frames::Explanation;
-use sim_settings::keys::{Key, Quoted, SettingFault, SettingReason, WrongValue};
+use sim_settings::keys::{Key, SettingFault, SettingReason, WrongValue};
 use std::io::Write;
 use thiserror::Error;
 

@@ -6,6 +6,7 @@ ghost use Rattle.its_station.specs.Counting.{one_more};
 ghost use Rattle.its_world.specs.Entries.{was_done};
 
 use crate::late_events::late_events;
+use cmd_quoting::OneLine;
 use cmd_text::frames::Explanation;
 use its_gnvalue::NoMemory;
 use its_world::{Entry, EntryFault, Event};
@@ -65,6 +66,7 @@ impl fmt::Display for FailedEvent {
         let (number, moment) = (self.number, self.moment);
         match &self.why {
             Failure::NoVehicle(id, _) => {
+                let id = OneLine(id.as_str());
                 write!(f, "event {number}: no vehicle '{id}' at {moment} ms")
             }
             Failure::Late(until) => {

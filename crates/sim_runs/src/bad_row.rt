@@ -1,10 +1,10 @@
 //! A line of a file of moves that ends a run.
 
 use crate::in_file::InFile;
+use cmd_quoting::Quoted;
 use cmd_reporting::{CommandFault, OutputFormat, Status};
 use cmd_text::frames::Explanation;
 use sim_moves::{Word, WordReason};
-use sim_settings::keys::Quoted;
 use std::fmt;
 use std::io::Write;
 use thiserror::Error;

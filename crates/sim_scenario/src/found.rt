@@ -1,6 +1,7 @@
 //! The values that a message shows.
 
-use sim_settings::keys::{Key, Quoted, value_of};
+use cmd_quoting::Quoted;
+use sim_settings::keys::{Key, value_of};
 use std::alloc::{AllocError, Global};
 use std::fmt;
 use toml::{Table, Value};

@@ -6,6 +6,7 @@ ghost use Rattle.std.specs.Prelude.{◌≡◌, IfErr};
 use crate::fault::ScenarioFault;
 use crate::part::Part;
 use crate::table_keys::keys_of;
+use cmd_quoting::OneLine;
 use sim_settings::keys::{Key, nearest};
 use std::alloc::{AllocError, Global};
 use std::fmt;
@@ -62,7 +63,7 @@ impl fmt::Display for Tip {
 
 impl fmt::Display for UnknownKey {
     fn fmt<W: fmt::Write>(&self, f: &mut fmt::Formatter<W>) -> fmt::Result {
-        let name = self.name.as_str();
+        let name = OneLine(self.name.as_str());
         match self.part {
             None => write!(f, "unknown: {name}"),
             Some(part) if is_strict_alone(part) => write!(f, "unknown: {part}: {name}"),
@@ -153,7 +154,7 @@ impl Misspelled {
     /// The name that stands there in place of the missing key. It prints as
     /// `missing: did you mean 'range' by 'rnage'?`.
     pub(crate) fn write_reason<W: fmt::Write>(&self, f: &mut fmt::Formatter<W>) -> fmt::Result {
-        let (key, name) = (self.missing, self.name.as_str());
+        let (key, name) = (self.missing, OneLine(self.name.as_str()));
         write!(f, "missing: did you mean '{key}' by '{name}'?")
     }
 

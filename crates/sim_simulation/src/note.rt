@@ -3,6 +3,7 @@
 ghost use Rattle.std.specs.Prelude.{◌≡◌};
 ghost use Rattle.sim_simulation.specs.Notes.{is_told};
 
+use cmd_quoting::OneLine;
 use serde::Serialize;
 use sim_scenario::events::AddressedEvent;
 use std::fmt;
@@ -58,7 +59,7 @@ impl fmt::Display for NoteText<'_> {
             Note::Came { station } => write!(f, "- {moment} {station} came"),
             Note::Left { station } => write!(f, "- {moment} {station} left"),
             Note::Lost { station, frame } => write!(f, "- {moment} {station} lost {frame}"),
-            Note::Absent { id, .. } => write!(f, "- {moment} - absent {id}"),
+            Note::Absent { id, .. } => write!(f, "- {moment} - absent {}", OneLine(id)),
             Note::Made { .. } | Note::Heard { .. } => Ok(()),
         }
     }

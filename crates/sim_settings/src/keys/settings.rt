@@ -9,9 +9,9 @@ use crate::keys::fault::KeyFault;
 use crate::keys::fields::Fields;
 use crate::keys::key::{AIR_KEYS, Key};
 use crate::keys::meant::nearest;
-use crate::keys::shown::Quoted;
 use crate::keys::values::{truth, whole};
 use crate::keys::wrong::WrongValue;
+use cmd_quoting::{OneLine, Quoted};
 use std::alloc::{AllocError, Global};
 use std::fmt;
 use thiserror::Error;
@@ -32,7 +32,7 @@ pub struct AirSettings {
 /// A key that is none of the air's, or whose value the air doesn't take. Its text is what follows
 /// `geostation: ` on standard error.
 #[derive(Clone, Copy, Debug, PartialEq, Eq, Error)]
-#[error("--set: {word}")]
+#[error("--set: {}", OneLine(*.word))]
 pub struct SettingFault<'a> {
     /// The key, as it was given.
     pub word: &'a str,

@@ -1,7 +1,7 @@
 //! What is wrong with the value of a key.
 
 use crate::keys::key::Key;
-use crate::keys::shown::NotOneOf;
+use crate::keys::not_one_of::NotOneOf;
 use crate::keys::verb::{Verb, Verbs};
 use std::fmt;
 
