@@ -545,6 +545,8 @@ class World:
         self.moves = None if moves is None else Moves(moves, self.making.get("begin", 0))
         self.known: dict[str, int] = {}
         self.last: dict[str, int] = {}
+        # A frame for each of its deliveries that the end of the run cut off.
+        self.undelivered: list[int] = []
 
     def run(self) -> Iterator[Told]:
         """The events of the run, each with its entry, and its notes, done as they are asked for."""
@@ -640,6 +642,14 @@ class AirRun:
             return self.air["until"]
         return inf if row is not None else self.greatest + 10000
 
+    def undelivered(self) -> list[int]:
+        """The frames whose deliveries still wait at `until`, a frame for each delivery. Without
+        `until` a run with moves says nothing of them."""
+        if "until" not in self.air and self.world.moves is not None:
+            return []
+        own = (event for _, place, event, _ in self.waiting if place >= self.of_file)
+        return [event["frame"] for event in own if event["do"] == "deliver"]
+
     def next_leave(self) -> tuple[int, int] | None:
         """The moment and the station of the first leave that is due."""
         world, gone = self.world, self.world.making.get("gone", 1000)
@@ -659,6 +669,7 @@ class AirRun:
             if first is not None:
                 moments.append((first[0], EVENTS if first[1] < self.of_file else OWNS))
             if not moments or min(moments)[0] > self.until(row):
+                self.world.undelivered = self.undelivered()
                 return
             now, kind = min(moments)
             if kind == ROWS:

@@ -30,7 +30,7 @@ from pathlib import Path
 
 import air
 
-REASONS = ["unheard", "lost", "ignored", "refused", "full", "outside", "closed"]
+REASONS = ["unheard", "cut", "lost", "ignored", "refused", "full", "outside", "closed"]
 # Of no station and of no frame: such an event is no delivery.
 NO_DELIVERY = ("refused M3", "refused M4")
 HEADS = {
@@ -86,6 +86,8 @@ class Run:
     happened: list[Happened] = field(default_factory=list)
     stations: list[tuple[str, int, int, bool]] = field(default_factory=list)
     is_whole: bool = True
+    # A frame for each of its deliveries that the end of the run cut off.
+    undelivered: list[int] = field(default_factory=list)
 
     def add_station(self, station: air.Station, ident: str, is_present: bool) -> None:
         self.stations.append((ident, station.vector.address, station.table.capacity, is_present))
@@ -115,6 +117,7 @@ def run_scenario(scenario: dict, moves: bytes | None) -> Run | None:
                 run.happened.append(of_note(told))
     except air.BadRow:
         run.is_whole = False
+    run.undelivered = world.undelivered
     return run
 
 
@@ -154,6 +157,8 @@ class Send:
     firsts: dict[int, int] = field(default_factory=dict)
     # How far it came at each station of its audience.
     furthest: dict[int, str] = field(default_factory=dict)
+    # How many of its deliveries the end of the run cut off.
+    cut: int = 0
 
     def came(self, station: int, reason: str) -> None:
         known = self.furthest.get(station, "unheard")
@@ -161,7 +166,8 @@ class Send:
 
     def missed(self) -> list[list]:
         rest = [n for n in self.event.audience if n not in self.firsts]
-        return [[n, self.furthest.get(n, "unheard")] for n in rest]
+        nowhere = "cut" if self.cut else "unheard"
+        return [[n, self.furthest.get(n, nowhere)] for n in rest]
 
 
 class Numbers:
@@ -239,6 +245,10 @@ class Numbers:
         """The hops of a handing that so many relays led to."""
         return hops + 1
 
+    def cut_off(self) -> int:
+        """How much a delivery counts that the end of the run cut off."""
+        return 1
+
     # ---- rows
 
     def quantile(self, numbers: list[int], hundredths: int) -> int:
@@ -273,6 +283,9 @@ class Numbers:
                 if one.gave is not None:
                     send.frames += 1
                     carried[one.gave] = send, relays + 1
+        for frame in self.run.undelivered:
+            if frame in carried:
+                carried[frame][0].cut += self.cut_off()
         return sends
 
     def send_rows(self) -> list[list]:
@@ -367,6 +380,7 @@ class Numbers:
         numbers = {
             "missed": [send.missed() for send in self.sends()],
             "full tables": self.full_tables(),
+            "cut off": [send.cut for send in self.sends() if send.cut],
         }
         if self.run.is_air:
             numbers["sends"] = self.send_rows()
@@ -478,6 +492,11 @@ class HopsFromNone(Numbers):
         return hops
 
 
+class CutOffTakenForUnheard(Numbers):
+    def cut_off(self):
+        return 0
+
+
 MISTAKES = Numbers.__subclasses__()
 
 
@@ -511,6 +530,12 @@ def read_full(errors: str) -> list[int]:
     return [int(found[1]), int(found[2])] if found else []
 
 
+def read_cut_off(errors: str) -> list[int]:
+    """How many deliveries of each warning were not run, in order."""
+    found = re.findall(r"^geostation: event \d+: (\d+) deliveries of it were not run", errors, re.M)
+    return [int(count) for count in found]
+
+
 def read_written(folder: Path) -> dict[str, list]:
     """The numbers that the program wrote."""
     objects = [json.loads(line) for line in (folder / "missed.json").read_text().splitlines()]
@@ -518,6 +543,7 @@ def read_written(folder: Path) -> dict[str, list]:
         "missed": read_missed((folder / "missed").read_text()),
         "missed.json": [keys["missed"] for keys in objects if "send" in keys],
         "full tables": read_full((folder / "errors").read_text()),
+        "cut off": read_cut_off((folder / "errors").read_text()),
         "table_full": [keys["total"].get("table_full", 0) for keys in objects if "total" in keys],
     }
     for name in HEADS:
@@ -528,6 +554,8 @@ def read_written(folder: Path) -> dict[str, list]:
 def differences(numbers: dict[str, list], written: dict[str, list], is_whole: bool) -> list[str]:
     """A line for each number that isn't what the program wrote."""
     wanted = {**numbers, "missed.json": numbers["missed"]}
+    if not is_whole:
+        del wanted["cut off"]
     if is_whole:
         wanted["table_full"] = [numbers["full tables"][0] if numbers["full tables"] else 0]
     lines = []

@@ -117,6 +117,13 @@ impl<R: BufRead + Drop> Rows<R> {
         self.number
     }
 
+    /// The time of the file in the row that was read last, before `begin` too. 0 before the first row.
+    pub fn clock(&self) -> u64
+        ensures { result ≡ self.now.before }
+    {
+        self.before
+    }
+
     /// The field of the line that was read last that a word refuses, without its quotation marks.
     /// `None` for a word that refuses no field.
     pub fn refused(&self, word: Word) -> Option<&[u8]> {

@@ -14,6 +14,12 @@ abbrev pub is_delivered : Reach → Bool
 is_delivered reaches.Delivered = true
 is_delivered reach = false
 
+-- how far it came at the end of the run: where no frame of it came and the run did not make all of
+-- its deliveries, it was cut off
+abbrev pub at_end : Bool → Reach → Reach
+at_end true reaches.Unheard = reaches.Cut
+at_end is_cut reach = reach
+
 -- the packet was delivered there: where a limit is given, at most so many milliseconds after it was
 -- sent
 abbrev pub was_reached : Option ℕ → Target → Bool

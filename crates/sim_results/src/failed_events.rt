@@ -215,6 +215,15 @@ impl FailedEvents {
         self.count
     }
 
+    /// The number in the scenario of the send that came last, if one came.
+    pub(crate) fn last_send(&self) -> Option<usize> {
+        let last = self.came.checked_sub(1)?;
+        match self.sends.as_slice().get(last) {
+            Some(send) => Some(send.number),
+            None => None,
+        }
+    }
+
     /// Takes an event that was done: it counts if it is a send of the scenario and was refused.
     /// `NoMemory` if an allocation failed.
     #[inline(always)]

@@ -1,7 +1,7 @@
 //! How far a packet for an area came at a station that it is for.
 
 ghost use Rattle.std.specs.Prelude.{◌≡◌};
-ghost use Rattle.sim_results.specs.Audiences.{is_delivered};
+ghost use Rattle.sim_results.specs.Audiences.{at_end, is_delivered};
 
 use its_station::Refused;
 use its_world::{Entry, EntryFault};
@@ -13,6 +13,8 @@ use std::fmt;
 pub enum Reach {
     /// No frame of it came into its hearing.
     Unheard,
+    /// The run ended before a frame of it came, while it was on its way.
+    Cut,
     /// Each frame that it would have heard was lost.
     Lost,
     /// A frame of it came and was ignored.
@@ -64,10 +66,21 @@ impl Reach {
         matches!(self, Reach::Delivered)
     }
 
+    /// How far it came, of a packet of which the run did not make all deliveries if `is_cut`.
+    pub fn at_end(self, is_cut: bool) -> Reach
+        ensures { result ≡ at_end is_cut self }
+    {
+        match self {
+            Reach::Unheard if is_cut => Reach::Cut,
+            reach => reach,
+        }
+    }
+
     /// The word for it, as `lost`.
     fn word(self) -> &'static str {
         match self {
             Reach::Unheard => "unheard",
+            Reach::Cut => "cut",
             Reach::Lost => "lost",
             Reach::Ignored => "ignored",
             Reach::Refused => "refused",

@@ -12,7 +12,7 @@ use cmd_text::frames::Explanation;
 use its_gnvalue::NoMemory;
 use its_world::World;
 use sim_air::AirFault;
-use sim_results::{Audience, Audiences, FailedEvents, FullTables};
+use sim_results::{Audiences, Doubt, Doubts, FailedEvents, FullTables, MovesRead, Reach};
 use sim_scenario::Scenario;
 use sim_settings::{Expectation, Reached};
 use sim_simulation::{EventRecord, Note, SimulationFault};
@@ -20,14 +20,16 @@ use std::alloc::Global;
 use std::io::{BufRead, Write};
 
 /// What is found out about a run and reported at its end: full location tables, events that were
-/// not run, and expectations that are not met. A summary has a part of it too.
+/// not run, what is doubtful, and expectations that are not met. A summary has a part of it too.
 #[derive(Drop)]
 pub(crate) struct Report<'s> {
+    alloc: Global,
     scenario: &'s Scenario,
     full: FullTables,
     failed: FailedEvents,
     audiences: Audiences,
-    /// Whether an event that wasn't run makes the status `Refused`.
+    doubts: Doubts,
+    /// Whether an event that wasn't run, or a doubt, makes the status `Refused`.
     strict: bool,
 }
 
@@ -42,10 +44,12 @@ impl<'s> Report<'s> {
         let (scenario, options) = (course.scenario, course.options);
         let are_wanted = options.tells_missed(explain) || !scenario.expectations.is_empty();
         Ok(Report {
+            alloc,
             scenario,
             full: FullTables::new(),
             failed: FailedEvents::new(alloc, scenario)?,
             audiences: Audiences::new(alloc, scenario, are_wanted)?,
+            doubts: Doubts::new(alloc, scenario)?,
             strict: options.strict,
         })
     }
@@ -53,12 +57,40 @@ impl<'s> Report<'s> {
     /// Whether it uses `Note::Heard`.
     #[inline(always)]
     pub(crate) fn wants_heard_notes(&self) -> bool {
-        self.audiences.are_wanted()
+        self.audiences.are_wanted() || self.doubts.wants_heard_notes()
     }
 
-    /// Returns the audience of a packet, by its place among those that were sent, if it is known.
-    pub(crate) fn audience(&self, send: usize) -> Option<&Audience> {
-        self.audiences.get(send)
+    /// Returns the stations that a packet is for and didn't reach, each with how far it came there,
+    /// if they are known. The packet is that of this place among those that were sent. `NoMemory`
+    /// if an allocation failed.
+    pub(crate) fn missed(&self, send: usize) -> Result<Option<Vec<(usize, Reach)>>, NoMemory> {
+        let Some(audience) = self.audiences.get(send) else {
+            return Ok(None);
+        };
+        let is_cut = self.doubts.is_cut(send);
+        let mut missed = audience.missed(self.alloc)?;
+        for (_, reach) in missed.as_mut_slice() {
+            *reach = reach.at_end(is_cut);
+        }
+        Ok(Some(missed))
+    }
+
+    /// Returns what is doubtful about the run, after `finish`.
+    pub(crate) fn doubts(&self) -> &[Doubt] {
+        self.doubts.found()
+    }
+
+    /// Takes the end of a run that is whole, with its file of moves, if there is one. `NoMemory` if
+    /// an allocation failed.
+    pub(crate) fn finish<M: BufRead + Drop>(
+        &mut self,
+        moves: Option<&MovesFile<'_, M>>,
+    ) -> Result<(), NoMemory> {
+        let read = moves.map(|moves| MovesRead {
+            lines: moves.rows.line(),
+            clock: moves.rows.clock(),
+        });
+        self.doubts.end(self.scenario, read)
     }
 
     /// Returns how many receptions of a radio model met a full location table, if any did.
@@ -74,6 +106,7 @@ impl<'s> Report<'s> {
     pub(crate) fn take(&mut self, world: &World, done: &EventRecord<'_>) -> Result<(), NoMemory> {
         self.full.take(self.scenario, done);
         self.failed.take(done)?;
+        self.doubts.take(world, done, &self.failed)?;
         if self.audiences.are_wanted() {
             self.audiences.take(world, done)?;
         }
@@ -83,12 +116,13 @@ impl<'s> Report<'s> {
     /// Takes a note of the run. `NoMemory` if an allocation failed.
     pub(crate) fn take_note(&mut self, moment: u64, note: &Note<'_>) -> Result<(), NoMemory> {
         self.failed.take_note(moment, note)?;
+        self.doubts.take_note(note)?;
         self.audiences.take_note(moment, note)
     }
 
     /// Reports on a run that ended so. `moves` is its file of moves, if there is one. Returns
     /// `Refused` if a line of moves ended the run, and of a run that is done if something that is
-    /// expected isn't met or, with `strict`, if an event wasn't run.
+    /// expected isn't met or, with `strict`, if an event wasn't run or something is doubtful.
     pub(crate) fn end<'a, E: Write, M: BufRead + Drop>(
         &mut self,
         ran: Result<Status, AirFault>,
@@ -106,8 +140,8 @@ impl<'s> Report<'s> {
         }
     }
 
-    /// Reports on a run with this status: full location tables, events that weren't run, and each
-    /// expectation that isn't met. `NoMemory` if an allocation failed.
+    /// Reports on a run with this status: full location tables, events that weren't run, what is
+    /// doubtful, and each expectation that isn't met. `NoMemory` if an allocation failed.
     fn conclude<E: Write>(
         &mut self,
         status: Status,
@@ -121,9 +155,11 @@ impl<'s> Report<'s> {
         self.failed.end(self.scenario)?;
         self.report_full(err);
         self.failed.report(explain, err);
+        self.doubts.report(err);
         let are_met = self.report_unmet(explain, err);
-        let are_run = !self.strict || self.failed.count() == 0;
-        if are_met && are_run || status != Status::Done {
+        let is_clear = self.failed.count() == 0 && self.doubts.found().is_empty();
+        let is_fine = are_met && (is_clear || !self.strict);
+        if is_fine || status != Status::Done {
             Ok(status)
         } else {
             Ok(Status::Refused)

@@ -168,12 +168,20 @@ pub(crate) fn run_timeline<M: BufRead + Drop, S: EventSink>(
     }
 }
 
-/// Reports on standard error each unknown key of a scenario's document: a table of that name is
-/// ignored. A write that fails is ignored.
+/// How many unknown keys have a line.
+const MOST_UNKNOWN: usize = 20;
+
+/// Reports on standard error unknown keys of a scenario's document, of its stations and of its
+/// events, which are ignored: a line for each of the first 20, and one with the number of the
+/// others, if there are any. A write that fails is ignored.
 pub fn report_unknown<E: Write>(scenario: &Scenario, err: &mut E) {
-    for key in &scenario.unknown {
+    for key in scenario.unknown.iter().take(MOST_UNKNOWN) {
         let tip = Explanation(key.tip());
         let _ = writeln!(err, "geostation: scenario: {key}{tip}");
+    }
+    let others = scenario.unknown.len().saturating_sub(MOST_UNKNOWN);
+    if others > 0 {
+        let _ = writeln!(err, "geostation: scenario: unknown: {others} more keys");
     }
 }
 

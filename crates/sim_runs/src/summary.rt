@@ -2,10 +2,10 @@
 
 use crate::report::Report;
 use cmd_reporting::OutputFormat;
-use cmd_text::json_lines::JsonLine;
+use cmd_text::json_lines::{JsonLine, Printed};
 use its_gnvalue::NoMemory;
 use serde::Serialize;
-use sim_results::Reach;
+use sim_results::{Doubt, Reach};
 use sim_simulation::SimulationFault;
 use sim_simulation::tally::{SendSummary, Tally, Totals};
 use std::alloc::Global;
@@ -32,11 +32,12 @@ pub(crate) fn print_summary<W: Write>(
         };
     }
     for (place, send) in tally.sends().iter().enumerate() {
-        let missed = missed_of(alloc, report, place, lines.explain)?;
+        let missed = missed_of(report, place, lines.explain)?;
         writeln!(out, "{send}{}", MissedText(&missed))?;
     }
     if is_whole {
-        writeln!(out, "{}{}", tally.totals(), FullText(report.table_full()))?;
+        let (full, doubts) = (FullText(report.table_full()), DoubtsText(report.doubts().len()));
+        writeln!(out, "{}{full}{doubts}", tally.totals())?;
     }
     Ok(())
 }
@@ -51,7 +52,7 @@ fn print_objects<W: Write>(
 ) -> Result<(), SimulationFault> {
     let mut line = JsonLine::new(alloc)?;
     for (place, send) in tally.sends().iter().enumerate() {
-        let missed = missed_of(alloc, report, place, explain)?;
+        let missed = missed_of(report, place, explain)?;
         out.write_all(line.of(&SendLine { send, missed })?)?;
     }
     Ok(())
@@ -68,6 +69,7 @@ fn print_total_object<W: Write>(
     let total = CountsLine {
         counts: tally.totals(),
         table_full: report.table_full(),
+        doubts: doubts_of(alloc, report)?,
     };
     out.write_all(line.of(&TotalLine { total })?)?;
     Ok(())
@@ -78,15 +80,27 @@ type Miss = (usize, Reach);
 
 /// The stations that a packet didn't reach, if codes are explained.
 fn missed_of(
-    alloc: Global,
     report: &Report<'_>,
     send: usize,
     explain: bool,
 ) -> Result<Option<Vec<Miss>>, NoMemory> {
-    match report.audience(send) {
-        Some(audience) if explain => Ok(Some(audience.missed(alloc)?)),
-        _ => Ok(None),
+    if explain { report.missed(send) } else { Ok(None) }
+}
+
+/// What is doubtful about the run, as objects. `None` if nothing is.
+fn doubts_of<'a>(
+    alloc: Global,
+    report: &'a Report<'_>,
+) -> Result<Option<Vec<DoubtKeys<'a>>>, NoMemory> {
+    let mut doubts = Vec::new(alloc);
+    for doubt in report.doubts() {
+        doubts.push(DoubtKeys {
+            doubt: doubt.word(),
+            event: doubt.event(),
+            reason: Printed(doubt),
+        })?;
     }
+    Ok(if doubts.is_empty() { None } else { Some(doubts) })
 }
 
 /// The stations that a packet didn't reach, as ` (missed: 10 lost, 11 full)`, or nothing.
@@ -123,6 +137,19 @@ impl fmt::Display for FullText {
     }
 }
 
+/// How much is doubtful about the run, as ` doubts 3`, or nothing.
+#[derive(Clone, Copy)]
+struct DoubtsText(usize);
+
+impl fmt::Display for DoubtsText {
+    fn fmt<W: fmt::Write>(&self, f: &mut fmt::Formatter<W>) -> fmt::Result {
+        match self.0 {
+            0 => Ok(()),
+            doubts => write!(f, " doubts {doubts}"),
+        }
+    }
+}
+
 /// What the JSON of a packet for an area tells.
 #[derive(Drop, Serialize)]
 struct SendLine<'a> {
@@ -132,17 +159,29 @@ struct SendLine<'a> {
     missed: Option<Vec<Miss>>,
 }
 
-/// The counts of a run, and how many receptions met a full location table, where any did.
+/// What the JSON of a doubt tells, its keys in order.
 #[derive(Clone, Copy, Serialize)]
-struct CountsLine {
+struct DoubtKeys<'a> {
+    doubt: &'static str,
+    #[serde(skip_serializing_if = "Option::is_none")]
+    event: Option<usize>,
+    reason: Printed<&'a Doubt>,
+}
+
+/// The counts of a run, how many receptions met a full location table, if any did, and what is
+/// doubtful, if anything is.
+#[derive(Drop, Serialize)]
+struct CountsLine<'a> {
     #[serde(flatten)]
     counts: Totals,
     #[serde(skip_serializing_if = "Option::is_none")]
     table_full: Option<usize>,
+    #[serde(skip_serializing_if = "Option::is_none")]
+    doubts: Option<Vec<DoubtKeys<'a>>>,
 }
 
 /// The same, under their key.
-#[derive(Clone, Copy, Serialize)]
-struct TotalLine {
-    total: CountsLine,
+#[derive(Drop, Serialize)]
+struct TotalLine<'a> {
+    total: CountsLine<'a>,
 }

@@ -23,7 +23,8 @@ pub struct Scenario {
     pub timeline: Timeline,
     /// What is expected of the run.
     pub expectations: Vec<Expectation>,
-    /// The unknown keys of the document itself, in order. They are ignored.
+    /// The unknown keys of the document itself, of its stations and of its events, in this order.
+    /// They are ignored.
     pub unknown: Vec<UnknownKey>,
     ghost configs: { All IsConfig stations.items },
     ghost apart: { AreApart stations.items },

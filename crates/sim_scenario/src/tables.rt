@@ -82,7 +82,7 @@ impl<'a> Tables<'a> {
         let timeline = self.read_timeline(alloc, stations.as_slice())?;
         let expectations = read_expectations(alloc, self.expectations)?;
         refuse_shared(alloc, stations.as_slice())?;
-        let unknown = unknown_keys(alloc, self.document)?;
+        let unknown = unknown_keys(alloc, self.document, self.stations, self.events)?;
         Ok(Scenario {
             stations,
             present,

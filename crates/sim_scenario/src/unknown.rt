@@ -13,7 +13,7 @@ use std::fmt;
 use toml::{Table, Value};
 
 /// A key that is none of the words of its table. It prints as its place in the scenario: `air: hop`,
-/// `expect 0: sent`, or `unknown: station 3: lattitude` where only a strict reading refuses it.
+/// `expect 0: sent`, or `unknown: station 3: lattitude` if only a strict reading refuses it.
 #[derive(Debug, Drop, PartialEq, Eq)]
 pub struct UnknownKey {
     /// The part of the scenario that has it. `None` for the scenario itself.
@@ -92,16 +92,52 @@ fn first_unknown<'a>(table: &'a Table, known: &[Key]) -> Option<&'a str> {
     None
 }
 
-/// The keys of the document itself that are none of its words, in the order of their octets.
-pub(crate) fn unknown_keys(alloc: Global, document: &Table) -> Result<Vec<UnknownKey>, AllocError> {
+/// The keys of the document, of its stations and of its events that are none of their words, in this
+/// order. Those of one table are in the order of their octets.
+pub(crate) fn unknown_keys(
+    alloc: Global,
+    document: &Table,
+    stations: &[Value],
+    events: &[Value],
+) -> Result<Vec<UnknownKey>, AllocError> {
     let mut unknown = Vec::new(alloc);
-    for name in document.keys() {
-        let name = name.as_str();
-        if !is_known(name, keys_of(None)) {
-            unknown.push(UnknownKey::of(alloc, None, name)?)?;
-        }
+    add_unknown(alloc, document, None, &mut unknown)?;
+    for (number, station) in stations.iter().enumerate() {
+        add_unknown_in(alloc, station, Part::Station(number), &mut unknown)?;
+    }
+    for (number, event) in events.iter().enumerate() {
+        add_unknown_in(alloc, event, Part::Event(number), &mut unknown)?;
     }
     Ok(unknown)
+}
+
+/// Adds the unknown keys of a part of the scenario, if its value is a table.
+fn add_unknown_in(
+    alloc: Global,
+    item: &Value,
+    part: Part,
+    unknown: &mut Vec<UnknownKey>,
+) -> Result<(), AllocError> {
+    match item {
+        Value::Table(table) => add_unknown(alloc, table, Some(part), unknown),
+        _ => Ok(()),
+    }
+}
+
+/// Adds the unknown keys of a part of the scenario, or of the scenario itself.
+fn add_unknown(
+    alloc: Global,
+    table: &Table,
+    part: Option<Part>,
+    unknown: &mut Vec<UnknownKey>,
+) -> Result<(), AllocError> {
+    for name in table.keys() {
+        let name = name.as_str();
+        if !is_known(name, keys_of(part)) {
+            unknown.push(UnknownKey::of(alloc, part, name)?)?;
+        }
+    }
+    Ok(())
 }
 
 /// A key that is missing from a part of the scenario, where a key that is none of its words is near.

@@ -1,0 +1,311 @@
+//! Signs that a run isn't what its author meant.
+
+mod bounds;
+mod doubt;
+mod vehicles;
+mod warnings;
+
+pub use doubt::{BeginDoubt, BusyChannel, Doubt, RowsApart, WarningDoubt};
+
+use crate::doubts::bounds::Bounds;
+use crate::doubts::vehicles::VehicleWatch;
+use crate::doubts::warnings::WarningWatch;
+use crate::failed_events::FailedEvents;
+use cap_linklayers::airtime::air_time;
+use its_gnvalue::{NoMemory, Place};
+use its_station::OwnedGbcRequest;
+use its_world::{Entry, What, World};
+use sim_scenario::events::end_of;
+use sim_scenario::{Scenario, Timeline};
+use sim_settings::Traffic;
+use sim_settings::keys::Verb;
+use sim_simulation::{EventRecord, Note};
+use std::alloc::Global;
+use std::io::Write;
+
+/// How many of them have a line.
+const MOST_LINES: usize = 20;
+
+/// From so many vehicles on it is doubtful that all are in range of one point.
+const MANY: usize = 10;
+
+/// From so many percent of the channel on the traffic of one sender is doubtful.
+const BUSY: u64 = 3;
+
+/// The octets of the frame of an SHB without its payload: 14 of Ethernet, 4, 8 and 28 of headers, and
+/// 4 of BTP-B.
+const SHB_FRAME: u32 = 58;
+
+/// How far a file of moves was read.
+#[derive(Clone, Copy, Debug, Default, PartialEq, Eq)]
+pub struct MovesRead {
+    /// How many lines, the first one among them.
+    pub lines: u64,
+    /// The time of the file in the last row.
+    pub clock: u64,
+}
+
+/// What is doubtful about a run with a radio model, and what is seen of it until its end.
+#[derive(Drop)]
+pub struct Doubts {
+    alloc: Global,
+    /// Whether the run has a radio model: otherwise nothing is watched.
+    is_watching: bool,
+    /// Of each station, whether it is present.
+    present: Vec<bool>,
+    bounds: Bounds,
+    warnings: WarningWatch,
+    /// If stations move by a file.
+    vehicles: Option<VehicleWatch>,
+    found: Vec<Doubt>,
+    /// Whether the run went to its end.
+    is_over: bool,
+}
+
+impl Doubts {
+    /// Those of a run of the scenario that has not begun. `NoMemory` if an allocation failed.
+    pub fn new(alloc: Global, scenario: &Scenario) -> Result<Doubts, NoMemory> {
+        let mut bounds = Bounds::none();
+        for config in &scenario.stations {
+            bounds.extend(config.place);
+        }
+        let (end, delay) = end_and_delay(&scenario.timeline);
+        Ok(Doubts {
+            alloc,
+            is_watching: scenario.timeline.air().is_some(),
+            present: Vec::from_slice(alloc, scenario.present.as_slice())?,
+            bounds,
+            warnings: WarningWatch::new(alloc, end, delay),
+            vehicles: match &scenario.timeline {
+                Timeline::Moves(timeline) => Some(VehicleWatch::new(alloc, scenario, timeline)?),
+                _ => None,
+            },
+            found: Vec::new(alloc),
+            is_over: false,
+        })
+    }
+
+    /// Whether it uses `Note::Heard` of the frame that was just sent.
+    #[inline(always)]
+    pub fn wants_heard_notes(&self) -> bool {
+        self.warnings.is_late()
+    }
+
+    /// Takes an event that was done, with the world after it. `failed` has taken it before.
+    /// `NoMemory` if an allocation failed.
+    #[inline(always)]
+    pub fn take(
+        &mut self,
+        world: &World,
+        done: &EventRecord<'_>,
+        failed: &FailedEvents,
+    ) -> Result<(), NoMemory> {
+        if !self.is_watching {
+            return Ok(());
+        }
+        self.warnings.take_other(done);
+        match done.what {
+            What::MoveTo { place, .. } => {
+                self.take_move(done.station, done.moment, *place);
+                Ok(())
+            }
+            What::SendGeobroadcast(request) | What::SendGeoanycast(request) => {
+                self.take_send(world, done, request, failed)
+            }
+            _ => Ok(()),
+        }
+    }
+
+    /// Takes the move of a station.
+    fn take_move(&mut self, station: usize, moment: u64, place: Place) {
+        self.bounds.extend(place);
+        self.warnings.take_place(place);
+        if let Some(vehicles) = &mut self.vehicles {
+            vehicles.take_move(station, moment, place);
+        }
+    }
+
+    /// Takes the send of a warning, if it was sent.
+    fn take_send(
+        &mut self,
+        world: &World,
+        done: &EventRecord<'_>,
+        request: &OwnedGbcRequest,
+        failed: &FailedEvents,
+    ) -> Result<(), NoMemory> {
+        let Entry::Sent(_) = done.entry else {
+            return Ok(());
+        };
+        let event = failed.last_send().unwrap_or(done.number);
+        let present = self.present.as_slice();
+        self.warnings.take_send(world, present, done, request, event)
+    }
+
+    /// Takes a note of the run. `NoMemory` if an allocation failed.
+    pub fn take_note(&mut self, note: &Note<'_>) -> Result<(), NoMemory> {
+        match *note {
+            Note::Made { id, .. } => self.take_made(id),
+            Note::Came { station } => {
+                self.set_present(station, true);
+                Ok(())
+            }
+            Note::Left { station } => {
+                self.set_present(station, false);
+                Ok(())
+            }
+            Note::Heard { .. } => {
+                self.warnings.take_delivery();
+                Ok(())
+            }
+            Note::Lost { .. } | Note::Absent { .. } => Ok(()),
+        }
+    }
+
+    /// A row made a station.
+    fn take_made(&mut self, id: &str) -> Result<(), NoMemory> {
+        self.present.push(false)?;
+        match &mut self.vehicles {
+            Some(vehicles) => vehicles.take_made(id),
+            None => Ok(()),
+        }
+    }
+
+    /// A station comes or leaves.
+    fn set_present(&mut self, station: usize, is_present: bool) {
+        if let Some(present) = self.present.get_mut(station) {
+            *present = is_present;
+        }
+    }
+
+    /// Takes the end of the run: finds what is doubtful. `read` is how far the file of moves was
+    /// read, if there is one. `NoMemory` if an allocation failed.
+    pub fn end(&mut self, scenario: &Scenario, read: Option<MovesRead>) -> Result<(), NoMemory> {
+        self.is_over = true;
+        self.find_unknown(scenario)?;
+        if !self.is_watching {
+            return Ok(());
+        }
+        self.find_places(scenario)?;
+        if let (Timeline::Moves(timeline), Some(vehicles)) = (&scenario.timeline, &self.vehicles) {
+            let warning = first_warning(scenario);
+            vehicles.find(timeline, read.unwrap_or_default(), warning, &mut self.found)?;
+        }
+        self.find_busy(&scenario.timeline)?;
+        self.warnings.find(self.bounds, &mut self.found)
+    }
+
+    /// Adds the unknown keys of the scenario.
+    fn find_unknown(&mut self, scenario: &Scenario) -> Result<(), NoMemory> {
+        for key in &scenario.unknown {
+            let sentence = format!(in self.alloc; "scenario: {key}")?;
+            self.found.push(Doubt::UnknownKey(sentence))?;
+        }
+        Ok(())
+    }
+
+    /// Adds what is doubtful about where stations are.
+    fn find_places(&mut self, scenario: &Scenario) -> Result<(), NoMemory> {
+        let stations = self.present.len();
+        if stations > 1 && self.bounds.are_within(1) && !self.bounds.is_origin() {
+            return Ok(self.found.push(Doubt::OnePoint { stations })?);
+        }
+        let (Some(air), Some(_)) = (scenario.timeline.air(), &self.vehicles) else {
+            return Ok(());
+        };
+        let range = air.range;
+        if stations < MANY || !self.warnings.has_relayed() || !self.bounds.are_within(range) {
+            return Ok(());
+        }
+        Ok(self.found.push(Doubt::InRangeOfOnePoint { stations, range })?)
+    }
+
+    /// Adds the traffic of which one sender fills much of the channel.
+    fn find_busy(&mut self, timeline: &Timeline) -> Result<(), NoMemory> {
+        for (every, traffic) in traffic_of(timeline).iter().enumerate() {
+            let (period, percent) = (traffic.period, busy_percent(traffic));
+            if percent >= BUSY {
+                let busy = BusyChannel {
+                    every,
+                    period,
+                    percent,
+                };
+                self.found.push(Doubt::BusyChannel(busy))?;
+            }
+        }
+        Ok(())
+    }
+
+    /// What is doubtful, once the run has ended.
+    pub fn found(&self) -> &[Doubt] {
+        self.found.as_slice()
+    }
+
+    /// Whether the end of the run cut off deliveries of a warning, by its place among those that
+    /// were sent, from 0.
+    pub fn is_cut(&self, send: usize) -> bool {
+        self.is_over && self.warnings.is_cut(send)
+    }
+
+    /// Prints a line for each of the first 20 on standard error, and one with the number of the
+    /// others, if there are any. Unknown keys have theirs before the run. A write that fails is
+    /// ignored.
+    pub fn report<E: Write>(&self, err: &mut E) {
+        let mut others = 0_usize;
+        let mut lines = 0_usize;
+        for doubt in &self.found {
+            if matches!(doubt, Doubt::UnknownKey(_)) {
+                continue;
+            }
+            if lines < MOST_LINES {
+                lines += 1;
+                let _ = writeln!(err, "geostation: {doubt}");
+            } else {
+                others = others.saturating_add(1);
+            }
+        }
+        if others > 0 {
+            let _ = writeln!(err, "geostation: {others} more doubts about the run");
+        }
+    }
+}
+
+/// The last time of a run, if it is known before the run, and the delay of its frames.
+fn end_and_delay(timeline: &Timeline) -> (Option<u64>, u16) {
+    match timeline {
+        Timeline::Plain(_) => (None, 0),
+        Timeline::Air(timeline) => (
+            Some(end_of(&timeline.air, timeline.events.as_slice())),
+            timeline.air.delay,
+        ),
+        Timeline::Moves(timeline) => (timeline.air.until, timeline.air.delay),
+    }
+}
+
+/// What stations send periodically.
+fn traffic_of(timeline: &Timeline) -> &[Traffic] {
+    match timeline {
+        Timeline::Plain(_) => &[],
+        Timeline::Air(timeline) => timeline.every.as_slice(),
+        Timeline::Moves(timeline) => timeline.every.as_slice(),
+    }
+}
+
+/// How many percent of the channel one sender takes, rounded down.
+fn busy_percent(traffic: &Traffic) -> u64 {
+    let octets = SHB_FRAME + u32::from(traffic.octets);
+    air_time(octets) / (10 * u64::from(traffic.period))
+}
+
+/// The first time at which an event of a scenario with moves sends a warning.
+fn first_warning(scenario: &Scenario) -> Option<u64> {
+    let Timeline::Moves(timeline) = &scenario.timeline else {
+        return None;
+    };
+    let mut first = None;
+    for event in &timeline.events {
+        if matches!(event.action.verb(), Verb::Gbc | Verb::Gac) {
+            first = Some(event.moment.min(first.unwrap_or(u64::MAX)));
+        }
+    }
+    first
+}
