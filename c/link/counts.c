@@ -121,7 +121,7 @@ static void put_station(struct page *p, const struct geostation_counts *c) {
     labelled(p, "refused_total", "why", "Frames and calls that were refused", refused, 6);
     labelled(p, "sent_total", "kind", "The station's own packets", sent, 4);
     counter(p, "suppressed_total", "Frames not forwarded because of a limit", c->suppressed);
-    counter(p, "repeated_total", "Payloads not delivered because they were before", c->repeated);
+    counter(p, "repeated_total", "Packets withheld because they were delivered before", c->repeated);
 }
 
 static void put_link(struct page *p, const struct station *s) {
