@@ -6,7 +6,9 @@
     python3 checks/lib/air.py .. --moves FILE SCENARIO.toml the same of a run with moves
 
 It prints what `geostation sim` prints of a scenario that isn't refused, with a table `air` or
-without; of a bad line of FILE it tells on standard error, and ends with status 1. Nothing is taken
+without. On standard error it says which location tables were full, which events were not run, which
+expectations are not met and which line of FILE is bad, and it ends with the status of a run without
+`--strict`. Nothing is taken
 from the program's sources: here a frame is a record without octets, a location table a dictionary,
 a search a `min`. `checks/air` compares what the two print.
 """
@@ -547,12 +549,29 @@ class World:
         self.last: dict[str, int] = {}
         # A frame for each of its deliveries that the end of the run cut off.
         self.undelivered: list[int] = []
+        # What is said of each event of the scenario that isn't run or not sent, in order.
+        self.failed: list[str] = []
+        # The capacity of each full table that refused a packet.
+        self.full: list[int] = []
+        self.expected: list[dict] = scenario.get("expect", [])
 
     def run(self) -> Iterator[Told]:
         """The events of the run, each with its entry, and its notes, done as they are asked for."""
         if self.air is None:
-            return (Done(event, self.do(event)) for event in self.events)
+            return self.run_events()
         return AirRun(self, self.air).run()
+
+    def run_events(self) -> Iterator[Told]:
+        """A run of the events of the scenario alone."""
+        for number, event in enumerate(self.events):
+            entry = self.do(event)
+            self.note_refusal(number, event, entry)
+            yield Done(event, entry)
+
+    def note_refusal(self, number: int, event: dict, entry: Entry) -> None:
+        """An event of the scenario, of this number there, was done."""
+        if event["do"] in ("shb", "gbc", "gac") and entry.word.startswith("refused"):
+            self.failed.append(f"event {number}: {entry.word} at {event['at']} ms")
 
     def do(self, event: dict) -> Entry:
         if event["station"] >= len(self.stations):
@@ -562,6 +581,8 @@ class World:
         try:
             entry = self.stations[event["station"]].call(event["at"], event, self.frames)
         except Refused as refusal:
+            if str(refusal) == "S4":
+                self.full.append(self.stations[event["station"]].table.capacity)
             return Entry(f"refused {refusal}")
         if entry.frame is not None:
             self.frames.append(entry.frame)
@@ -657,6 +678,24 @@ class AirRun:
         return min(due, default=None)
 
     def run(self) -> Iterator[Told]:
+        """The run, and then which events of the scenario it didn't come to."""
+        try:
+            yield from self.run_all()
+        except BadRow:
+            self.note_late("the run was cut short")
+            raise
+        self.note_late("")
+
+    def note_late(self, cut: str) -> None:
+        """Those of the events that wait now, in the order of their moments."""
+        for at, number, _, _ in sorted(w for w in self.waiting if w[1] < self.of_file):
+            if at > self.air.get("until", inf):
+                late = f"{at} ms is after the run, which ends at {self.air['until']} ms"
+                self.world.failed.append(f"event {number}: {late}")
+            elif cut:
+                self.world.failed.append(f"event {number}: not run at {at} ms: {cut}")
+
+    def run_all(self) -> Iterator[Told]:
         self.put_first()
         row = self.world.next_row()
         while True:
@@ -678,8 +717,8 @@ class AirRun:
             elif kind == LEAVES:
                 yield from self.leave(now, leave[1])
             else:
-                _, _, event, own = heapq.heappop(self.waiting)
-                yield from self.run_event(now, event, own)
+                _, order, event, own = heapq.heappop(self.waiting)
+                yield from self.run_event(now, event, own, order)
 
     def run_row(self, row: Row) -> Iterator[Told]:
         world, is_new = self.world, row.id not in self.world.known
@@ -696,12 +735,15 @@ class AirRun:
         if station not in world.present:
             yield from self.come(station, row.at)
 
-    def run_event(self, now: int, event: dict, own: str | int | None) -> Iterator[Told]:
-        """An event of the scenario, or of the air's own."""
+    def run_event(
+        self, now: int, event: dict, own: str | int | None, order: int
+    ) -> Iterator[Told]:
+        """An event of the scenario, whose number there is its order, or of the air's own."""
         world = self.world
         if world.moves is not None and "id" in event:
             station = world.known.get(event["id"])
             if station not in world.present:
+                world.failed.append(f"event {order}: no vehicle '{event['id']}' at {now} ms")
                 yield Note(now, "-", f"absent {event['id']}")
                 return
             event = {**event, "station": station}
@@ -711,7 +753,7 @@ class AirRun:
             return
         if own is not None and not is_present:
             return
-        refused = yield from self.do(event)
+        refused = yield from self.do(event, order)
         if own == "tick" and not refused:
             self.put_tick(station, now, world.stations[station].beacon_from)
         if isinstance(own, int):
@@ -719,11 +761,14 @@ class AirRun:
         if event["do"] == "move" and not refused and not is_present:
             yield from self.come(station, now)
 
-    def do(self, event: dict) -> Iterator[Told]:
-        """An event of the world, and who hears its frame. Returns whether it was refused."""
+    def do(self, event: dict, order: int | None = None) -> Iterator[Told]:
+        """An event of the world, and who hears its frame. Returns whether it was refused. An event
+        of the scenario has its number there as its order."""
         world, station, now = self.world, event["station"], event["at"]
         is_heard = station in world.present
         entry = world.do(event)
+        if order is not None and order < self.of_file:
+            world.note_refusal(order, event, entry)
         yield Done(event, entry)
         if entry.frame is not None and is_heard:
             at, frame = now + self.air.get("delay", 1), len(world.frames) - 1
@@ -758,9 +803,66 @@ class AirRun:
         return [number for number in sorted(self.world.present) if near[number] and number != giver]
 
 
-def lines(world: World, notes: bool) -> Iterator[str]:
+@dataclass
+class Send:
+    """A geobroadcast or geoanycast that was sent, and what came of it."""
+
+    head: str
+    moment: int
+    audience: list[int]
+    frames: int = 0
+    hops: int = 0
+    first: dict[int, int] = field(default_factory=dict)  # the moment of a station's first handing
+
+    def line(self) -> str:
+        last = max([self.moment, *self.first.values()]) - self.moment
+        reached = f"{self.head} inside {len(self.audience)} delivered {len(self.first)}"
+        return f"{reached} frames {self.frames} hops {self.hops} last {last}"
+
+    def reached(self, within: float) -> int:
+        """How many of those that it is for it reached in so many milliseconds."""
+        return sum(self.first.get(n, inf) - self.moment <= within for n in self.audience)
+
+
+def audience(world: World, sender: int, port: int, area: Area) -> list[int]:
+    """The other stations that are present and in an area, with a port open."""
+    others = [(n, world.stations[n]) for n in sorted(world.present) if n != sender]
+    return [n for n, s in others if port in s.ports and area.holds(s.vector.place)]
+
+
+def watched(world: World, sends: list[Send]) -> Iterator[Told]:
+    """The run, with what comes of each packet for an area."""
+    # For each frame the send that it is of, None for a beacon or an shb, and its hops so far.
+    origins: list[tuple[Send | None, int]] = []
     number = 0
     for told in world.run():
+        yield told
+        if not isinstance(told, Done):
+            continue
+        event, entry = told
+        word, gave = entry.word.split()[0], entry.frame is not None
+        send, hops = None, 0
+        if word == "accepted":
+            send, hops = origins[event["frame"]]
+        elif word == "sent" and event["do"] in ("gbc", "gac"):
+            at, station, do, port = (event[key] for key in ("at", "station", "do", "port"))
+            area = read_area(event, world.stations[station].vector.place)
+            head = f"send {number} {at} {station} {do} port {port}"
+            send = Send(head, at, audience(world, station, port, area))
+            sends.append(send)
+        if gave:
+            origins.append((send, hops + 1))
+        if send is not None:
+            send.frames += gave
+            if entry.handed is not None:
+                send.hops = max(send.hops, hops)
+                send.first.setdefault(event["station"], event["at"])
+        number += 1
+
+
+def lines(run: Iterator[Told], world: World, notes: bool) -> Iterator[str]:
+    number = 0
+    for told in run:
         if isinstance(told, Hidden):
             continue
         if isinstance(told, Note):
@@ -782,70 +884,72 @@ def lines(world: World, notes: bool) -> Iterator[str]:
         yield " ".join(str(word) for word in words)
 
 
-@dataclass
-class Send:
-    """A geobroadcast or geoanycast that was sent, and what came of it."""
-
-    head: str
-    moment: int
-    frames: int = 0
-    hops: int = 0
-    first: dict[int, int] = field(default_factory=dict)  # the moment of a station's first handing
-
-    def line(self) -> str:
-        last = max([self.moment, *self.first.values()]) - self.moment
-        reached = f"{self.head} delivered {len(self.first)}"
-        return f"{reached} frames {self.frames} hops {self.hops} last {last}"
-
-
-def audience(world: World, sender: int, port: int, area: Area) -> list[int]:
-    """The other stations that are present and in an area, with a port open."""
-    others = [(n, world.stations[n]) for n in sorted(world.present) if n != sender]
-    return [n for n, s in others if port in s.ports and area.holds(s.vector.place)]
-
-
-def summary(world: World) -> Iterator[str]:
-    sends: list[Send] = []
-    # For each frame the send that it is of, None for a beacon or an shb, and its hops so far.
-    origins: list[tuple[Send | None, int]] = []
+def summary(run: Iterator[Told], world: World, sends: list[Send]) -> Iterator[str]:
     total: Counter[str] = Counter()
     bad = None
     try:
-        events = (told for told in world.run() if isinstance(told, Done))
-        for number, (event, entry) in enumerate(events):
-            gave, handed = entry.frame is not None, entry.handed is not None
-            word = "duplicates" if entry.word == "ignored duplicate" else entry.word.split()[0]
-            total.update({"events": 1, "frames": gave, "deliveries": handed, word: 1})
-            total["full"] += entry.word == "refused S4"
-            send, hops = None, 0
-            if word == "accepted":
-                send, hops = origins[event["frame"]]
-            elif word == "sent" and event["do"] in ("gbc", "gac"):
-                at, station, do, port = (event[key] for key in ("at", "station", "do", "port"))
-                area = read_area(event, world.stations[station].vector.place)
-                inside = len(audience(world, station, port, area))
-                send = Send(f"send {number} {at} {station} {do} port {port} inside {inside}", at)
-                sends.append(send)
-            if gave:
-                origins.append((send, hops + 1))
-            if send is not None:
-                send.frames += gave
-                if handed:
-                    send.hops = max(send.hops, hops)
-                    send.first.setdefault(event["station"], event["at"])
+        for told in run:
+            if isinstance(told, Done):
+                entry = told.entry
+                gave, handed = entry.frame is not None, entry.handed is not None
+                is_duplicate = entry.word == "ignored duplicate"
+                word = "duplicates" if is_duplicate else entry.word.split()[0]
+                total.update({"events": 1, "frames": gave, "deliveries": handed, word: 1})
     except BadRow as row:
         bad = row
     yield from (send.line() for send in sends)
     if bad is not None:
         raise bad
     names = ["events", "frames", "deliveries", "duplicates", "ignored", "refused"]
-    if world.air is not None and total["full"]:
-        names.append("full")
     counts = " ".join(f"{name} {total[name]}" for name in names)
-    yield f"total {counts}"
+    full = f" full {len(world.full)}" if world.air is not None and world.full else ""
+    yield f"total {counts}{full}"
 
 
-def main(arguments: list[str]) -> None:
+def unmet(world: World, sends: list[Send]) -> Iterator[str]:
+    """What is said of each expectation that isn't met."""
+    for number, keys in enumerate(world.expected):
+        if keys["send"] >= len(sends):
+            yield f"expect {number}: no such send"
+            continue
+        send = sends[keys["send"]]
+        size, reached = len(send.audience), send.reached(keys.get("within", inf))
+        if reached < (size if keys["reached"] == "all" else keys["reached"]):
+            yield f"expect {number}: reached {reached} of {size}"
+
+
+def messages(world: World) -> Iterator[str]:
+    """What is said at the end of a run of full tables and of the first 20 events that weren't run
+    or sent."""
+    if world.air is not None and world.full:
+        least = f"raise capacity (least {min(world.full)})"
+        yield f"{len(world.full)} receptions met a full location table: {least}"
+    yield from world.failed[:20]
+    if len(world.failed) > 20:
+        yield f"{len(world.failed) - 20} more events were not run or refused to send"
+
+
+def show(world: World, options: list[str]) -> int:
+    """Prints a run and what is said of it. Returns the status."""
+    sends: list[Send] = []
+    run = watched(world, sends)
+    if "--summary" in options:
+        printed = summary(run, world, sends)
+    else:
+        printed = lines(run, world, "--notes" in options)
+    ended = []
+    try:
+        for text in printed:
+            print(text)
+        ended.extend(unmet(world, sends))
+    except BadRow as row:
+        ended.append(str(row))
+    for text in (*messages(world), *ended):
+        print(f"geostation: {text}", file=sys.stderr)
+    return 1 if ended else 0
+
+
+def main(arguments: list[str]) -> int:
     moves = None
     if "--moves" in arguments:
         place = arguments.index("--moves")
@@ -856,14 +960,11 @@ def main(arguments: list[str]) -> None:
     with open(name, "rb") as file:
         scenario = tomllib.load(file)
     try:
-        world = World(scenario, moves)
-        told = summary(world) if "--summary" in options else lines(world, "--notes" in options)
-        for text in told:
-            print(text)
+        return show(World(scenario, moves), options)
     except BadRow as row:
         print(f"geostation: {row}", file=sys.stderr)
-        sys.exit(1)
+        return 1
 
 
 if __name__ == "__main__":
-    main(sys.argv[1:])
+    sys.exit(main(sys.argv[1:]))

@@ -4,7 +4,7 @@
 
 FOLDER has what the program wrote of the scenario: `sends`, `stations` and `load` (no such file
 without an air), `missed` and `missed.json` (the summary with `--explain`, as lines and as JSON),
-and `errors` (what it wrote on standard error beside `missed`). This prints each number that differs
+`errors` (what it wrote on standard error beside `missed`) and `status` (of these two runs). This prints each number that differs
 from the one that is computed here, and ends with status 1 if one does.
 
     python3 checks/lib/run_numbers.py --self-test FOLDER SCENARIO.toml [MOVES.csv]
@@ -88,6 +88,7 @@ class Run:
     is_whole: bool = True
     # A frame for each of its deliveries that the end of the run cut off.
     undelivered: list[int] = field(default_factory=list)
+    expected: list[dict] = field(default_factory=list)
 
     def add_station(self, station: air.Station, ident: str, is_present: bool) -> None:
         self.stations.append((ident, station.vector.address, station.table.capacity, is_present))
@@ -99,7 +100,7 @@ def run_scenario(scenario: dict, moves: bytes | None) -> Run | None:
         world = air.World(scenario, moves)
     except air.BadRow:
         return None
-    run = Run(world.air is not None)
+    run = Run(world.air is not None, expected=scenario.get("expect", []))
     for number, station in enumerate(world.stations):
         run.add_station(station, "", number in world.present)
     count = 0
@@ -376,8 +377,24 @@ class Numbers:
             return []
         return [len(full), self.least([self.run.stations[station][2] for station in full])]
 
+    def is_met(self, keys: dict) -> bool:
+        """Whether a run does what is expected of it."""
+        sends = self.sends()
+        if keys["send"] >= len(sends):
+            return False
+        send = sends[keys["send"]]
+        limit = keys.get("within", float("inf"))
+        reached = sum(send.firsts.get(n, limit + 1) <= limit for n in send.event.audience)
+        wanted = len(send.event.audience) if keys["reached"] == "all" else keys["reached"]
+        return reached >= wanted
+
+    def status(self) -> int:
+        """The status of the run."""
+        return int(not self.run.is_whole or not all(map(self.is_met, self.run.expected)))
+
     def all(self) -> dict[str, list]:
         numbers = {
+            "status": [self.status(), self.status()],
             "missed": [send.missed() for send in self.sends()],
             "full tables": self.full_tables(),
             "cut off": [send.cut for send in self.sends() if send.cut],
@@ -487,6 +504,11 @@ class ReachedBesideTheAudience(Numbers):
         return len(send.firsts)
 
 
+class ExpectationsIgnored(Numbers):
+    def is_met(self, keys):
+        return True
+
+
 class HopsFromNone(Numbers):
     def depth(self, hops):
         return hops
@@ -540,6 +562,7 @@ def read_written(folder: Path) -> dict[str, list]:
     """The numbers that the program wrote."""
     objects = [json.loads(line) for line in (folder / "missed.json").read_text().splitlines()]
     written = {
+        "status": [int(line) for line in (folder / "status").read_text().split()],
         "missed": read_missed((folder / "missed").read_text()),
         "missed.json": [keys["missed"] for keys in objects if "send" in keys],
         "full tables": read_full((folder / "errors").read_text()),
@@ -595,7 +618,7 @@ def main(arguments: list[str]) -> int:
         run = run_scenario(tomllib.load(file), Path(moves[0]).read_bytes() if moves else None)
     written = read_written(Path(folder))
     if run is None:
-        return int(any(rows for rows in written.values()))
+        return int(written.pop("status") != [1, 1] or any(rows for rows in written.values()))
     right = Numbers(run).all()
     lines = differences(right, written, run.is_whole)
     if lines:

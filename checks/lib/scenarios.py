@@ -300,7 +300,10 @@ SUMO = {
     "at": ("timestep_time", 3), "lat": ("vehicle_y", 7), "lon": ("vehicle_x", 7),
     "speed": ("vehicle_speed", 2), "heading": ("vehicle_angle", 1), "id": ("vehicle_id", 0),
 }  # fmt: skip
-IDS = ["v1", "v2", "bus 7", "tram", "flow.0", "Ä-9", "a,b", 'say "hi"', "x;y", "0", "i" * 64]
+# Some are the beginnings of others.
+IDS = [
+    "v1", "v10", "v", "bus 7", "bus", "tram", "flow.0", "Ä-9", "a,b", 'say "hi"', "x;y", "0", "i" * 64,
+]  # fmt: skip
 # What no column takes.
 BAD = {
     "at": ["", "-1", "1x", "9" * 20, "4611686018427387905"],
@@ -444,12 +447,26 @@ class MovesMaker(Maker):
         lines.insert(place, line)
 
 
+def expectations(name):
+    """What is expected of the run of a scenario, by draws of its own. Most have none."""
+    draw, parts = random.Random(name), [""]
+    for _ in range(draw.choice([0, 0, 1, 2])):
+        parts += ["[[expect]]", f"send = {draw.choice([0, 0, 1, 2, 40])}"]
+        parts.append(f"reached = {draw.choice([0, 1, 2, 5, json.dumps('all'), json.dumps('all')])}")
+        parts += [f"within = {draw.choice([0, 1, 8, 500, 30000])}"] if draw.randrange(2) else []
+    return "\n".join([*parts, ""])
+
+
+def write_scenario(folder, name, text):
+    (folder / f"{name}.toml").write_text(text + expectations(name))
+
+
 folder, count = Path(sys.argv[1]), int(sys.argv[2])
 for number in range(count):
-    (folder / f"random-{number}.toml").write_text(Maker(number).make())
+    write_scenario(folder, f"random-{number}", Maker(number).make())
     maker = MovesMaker(number)
-    (folder / f"moves-{number}.toml").write_text(maker.make())
+    write_scenario(folder, f"moves-{number}", maker.make())
     (folder / f"moves-{number}.csv").write_text(maker.csv(), newline="")
 for number in range(-(-count // 4)):
-    (folder / f"crowd-{number}.toml").write_text(CrowdMaker(number).make())
-    (folder / f"plain-{number}.toml").write_text(PlainMaker(number).make())
+    write_scenario(folder, f"crowd-{number}", CrowdMaker(number).make())
+    write_scenario(folder, f"plain-{number}", PlainMaker(number).make())

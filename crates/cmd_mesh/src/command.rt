@@ -88,7 +88,6 @@ where
     let target = frame_target(frames)?;
     let reader = open(rt, file, input)?;
     let scenario = read(rt.alloc(), file, reader, options)?;
-    report_unknown(&scenario, &mut io.err);
     if let Some(target) = target {
         keep_apart(rt, target.name, file)?;
     }
@@ -125,7 +124,6 @@ fn mesh_read<'a, R: Read + Drop, S: Sockets, W: Write, E: Write>(
     ensures { IfOk result IsCommandStatus }
 {
     let scenario = read(alloc, file, reader, options)?;
-    report_unknown(&scenario, &mut io.err);
     let frames: Option<FrameFile<'_, io::Sink>> = None;
     run_mesh(alloc, scenario, frames, options, sockets, io)
 }
@@ -159,7 +157,8 @@ fn events_of(timeline: Timeline) -> Vec<Event>
     }
 }
 
-/// Runs a scenario, and writes the frames of its stations to the file, if there is one.
+/// Reports unknown keys of a scenario, runs it, and writes the frames of its stations to the file, if
+/// there is one.
 fn run_mesh<'f, F: Write + Drop, S: Sockets, W: Write, E: Write>(
     alloc: Global,
     scenario: Scenario,
@@ -175,6 +174,7 @@ fn run_mesh<'f, F: Write + Drop, S: Sockets, W: Write, E: Write>(
         IsMeshRun (map config_of scenario.stations.items)
         (map event_of (plain_events scenario.timeline)) options.strict) }
 {
+    report_unknown(&scenario, &mut io.err);
     let Scenario {
         stations,
         timeline,

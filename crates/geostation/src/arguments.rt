@@ -31,18 +31,22 @@ pub fn read<'a>(
     console: Console,
 ) -> Result<(Subcommand<'a>, OutputFormat), Error> {
     match read_as_given(alloc, arguments, console) {
-        Err(error) if error.use_stderr() => Err(escaped_error(alloc, arguments, console, error)?),
-        read => read,
+        Ok(read) => Ok(read),
+        Err(error) => Err(shown_error(alloc, arguments, console, error)?),
     }
 }
 
-/// Returns the error of these arguments, each as a line shows it. `error` is theirs as they are.
-fn escaped_error(
+/// Returns the error of these arguments, with each of them as a line shows it. `error` is theirs as
+/// they are.
+fn shown_error(
     alloc: Global,
     arguments: &[String],
     console: Console,
     error: Error,
 ) -> Result<Error, AllocError> {
+    if !error.use_stderr() {
+        return Ok(error);
+    }
     let mut escaped = Vec::new(alloc);
     for argument in arguments {
         escaped.push(format!(in alloc; "{}", OneLine(argument.as_str()))?)?;

@@ -1,11 +1,13 @@
 //! Events of a scenario that weren't run, and sends of it that were refused.
 
-ghost use Rattle.std.specs.Prelude.{◌≡◌, IfOk, if◌then◌else◌, true};
-ghost use Rattle.sim_results.specs.FailedEvents.{is_absent};
+ghost use Rattle.std.specs.Prelude.{◌≡◌, ◌↔◌, IfOk, IfSome, IsTrue, OnOk, Some, if◌then◌else◌, true};
+ghost use Rattle.sim_results.specs.FailedEvents.{Adds, IsAsked, IsListed, IsNextSend, is_absent};
+ghost use Rattle.sim_results.specs.FailedEvents.{is_absent_send, is_send, next_send};
+ghost use Rattle.sim_scenario.specs.Verbs.{action_verb};
 ghost use Rattle.its_station.specs.Counting.{one_more};
 ghost use Rattle.its_world.specs.Entries.{was_done};
 
-use crate::late_events::late_events;
+use crate::late_events::{WhyLate, late_events};
 use cmd_quoting::OneLine;
 use cmd_text::frames::Explanation;
 use its_gnvalue::NoMemory;
@@ -47,8 +49,8 @@ impl fmt::Display for Vehicle {
 enum Failure {
     /// The vehicle of its id isn't there.
     NoVehicle(String, Vehicle),
-    /// It comes after the end of the run, which is this.
-    Late(u64),
+    /// The run doesn't come to it.
+    Late(WhyLate),
     /// The station refused to send.
     Refused(EntryFault),
 }
@@ -69,10 +71,16 @@ impl fmt::Display for FailedEvent {
                 let id = OneLine(id.as_str());
                 write!(f, "event {number}: no vehicle '{id}' at {moment} ms")
             }
-            Failure::Late(until) => {
+            Failure::Late(WhyLate::AfterUntil(until)) => {
                 write!(
                     f,
                     "event {number}: {moment} ms is after the run, which ends at {until} ms"
+                )
+            }
+            Failure::Late(WhyLate::CutShort) => {
+                write!(
+                    f,
+                    "event {number}: not run at {moment} ms: the run was cut short"
                 )
             }
             Failure::Refused(fault) => {
@@ -112,37 +120,59 @@ impl FailedEvent {
     }
 }
 
+/// Whether a station sends a packet with a payload by this word.
+fn is_send(verb: Verb) -> bool
+    ensures { result ≡ is_send verb }
+{
+    matches!(verb, Verb::Shb | Verb::Gbc | Verb::Gac)
+}
+
 /// A send that the scenario asks for.
 #[derive(Clone, Copy)]
 struct AskedSend {
     number: usize,
     moment: u64,
+    /// Its station, if the event names it by its number.
+    station: Option<usize>,
     verb: Verb,
 }
 
 impl AskedSend {
-    /// The send of an event of this number, if it is one.
-    fn of(number: usize, moment: u64, verb: Verb) -> Option<AskedSend> {
-        matches!(verb, Verb::Shb | Verb::Gbc | Verb::Gac).then_some(AskedSend {
+    /// The event of the world of this number.
+    fn of_event(number: usize, event: &Event) -> AskedSend {
+        AskedSend {
             number,
-            moment,
-            verb,
-        })
+            moment: event.moment,
+            station: Some(event.station),
+            verb: verb_of(&event.what),
+        }
     }
 
-    /// The send of an event of the world of this number, if it is one.
-    fn of_event(number: usize, event: &Event) -> Option<AskedSend> {
-        AskedSend::of(number, event.moment, verb_of(&event.what))
-    }
-
-    /// The send of an event of a scenario with moves, if it is one.
-    fn of_addressed(event: &AddressedEvent) -> Option<AskedSend> {
-        AskedSend::of(event.number, event.moment, event.action.verb())
+    /// The event of a scenario with moves.
+    fn of_addressed(event: &AddressedEvent) -> AskedSend {
+        AskedSend {
+            number: event.number,
+            moment: event.moment,
+            station: event.station(),
+            verb: event.action.verb(),
+        }
     }
 
     /// Whether an event that was done is this one. Traffic of the air comes after it at a moment.
-    fn is(&self, done: &EventRecord<'_>) -> bool {
-        done.moment == self.moment && verb_of(done.what) == self.verb
+    fn is(&self, done: &EventRecord<'_>) -> bool
+        ensures { IsTrue result ↔ IsAsked self.now done.now }
+    {
+        done.moment == self.moment && verb_of(done.what) == self.verb && self.is_at(done.station)
+    }
+
+    /// Whether the station of this number may be its own.
+    fn is_at(&self, station: usize) -> bool
+        ensures { IsTrue result ↔ IfSome self.now.station (λ own. own ≡ station) }
+    {
+        match self.station {
+            Some(own) => own == station,
+            None => true,
+        }
     }
 }
 
@@ -173,12 +203,12 @@ fn asked_sends(alloc: Global, timeline: &Timeline) -> Result<Vec<AskedSend>, NoM
     Ok(sends)
 }
 
-/// Adds a send, if it is one.
-fn push_send(sends: &mut Vec<AskedSend>, send: Option<AskedSend>) -> Result<(), NoMemory> {
-    match send {
-        Some(send) => Ok(sends.push(send)?),
-        None => Ok(()),
+/// Adds an event, if it is a send.
+fn push_send(sends: &mut Vec<AskedSend>, event: AskedSend) -> Result<(), NoMemory> {
+    if is_send(event.verb) {
+        sends.push(event)?;
     }
+    Ok(())
 }
 
 /// The events of a scenario that weren't run, and its sends that were refused: how many there are,
@@ -229,6 +259,12 @@ impl FailedEvents {
     #[inline(always)]
     pub fn take(&mut self, done: &EventRecord<'_>) -> Result<(), NoMemory>
         ensures done { was_done done.now.entry.now ≡ true → self.new.count ≡ self.old.count }
+        ensures other { ¬ IsNextSend self.old done.now → self.new ≡ self.old }
+        ensures next { IsNextSend self.old done.now → self.new.came ≡ one_more self.old.came }
+        ensures refused { (send : AskedSend) (fault : EntryFault) →
+            next_send self.old ≡ Some send → IsAsked send done.now →
+            done.now.entry.now ≡ Entry.Refused fault → OnOk result (Adds self.old self.new
+            (record { number = send.number; moment = send.moment; why = Failure.Refused fault })) }
     {
         let Some(send) = self.sends.as_slice().get(self.came).copied() else {
             return Ok(());
@@ -252,6 +288,8 @@ impl FailedEvents {
     pub fn take_note(&mut self, moment: u64, note: &Note<'_>) -> Result<(), NoMemory>
         ensures absent { IfOk result (λ _. self.new.count ≡ (if is_absent note.now
             then one_more self.old.count else self.old.count)) }
+        ensures next { self.new.came ≡ (if is_absent_send note.now
+            then one_more self.old.came else self.old.came) }
     {
         match *note {
             Note::Made { id, .. } => {
@@ -269,7 +307,8 @@ impl FailedEvents {
 
     /// A vehicle comes first at this moment.
     fn note_coming(&mut self, id: &str, moment: u64)
-        ensures { self.new.count ≡ self.old.count }
+        ensures count { self.new.count ≡ self.old.count }
+        ensures came { self.new.came ≡ self.old.came }
     {
         for failed in self.first.as_mut_slice() {
             failed.note_coming(id, moment);
@@ -283,9 +322,13 @@ impl FailedEvents {
         event: &AddressedEvent,
         has_left: bool,
     ) -> Result<(), NoMemory>
-        ensures { IfOk result (λ _. self.new.count ≡ one_more self.old.count) }
+        ensures count { IfOk result (λ _. self.new.count ≡ one_more self.old.count) }
+        ensures came { self.new.came ≡ (if is_send (action_verb event.now.action)
+            then one_more self.old.came else self.old.came) }
+        ensures listed { OnOk result ((failed : FailedEvent) × (failed.number ≡ event.now.number)
+            × (failed.moment ≡ event.now.moment) × IsListed self.old self.new failed) }
     {
-        if AskedSend::of_addressed(event).is_some() {
+        if is_send(event.action.verb()) {
             self.came = self.came.saturating_add(1);
         }
         let vehicle = if has_left {
@@ -301,14 +344,15 @@ impl FailedEvents {
         })
     }
 
-    /// Takes the end of the run of the scenario: the events after it count. `NoMemory` if an
+    /// Takes the end of the run of the scenario: the events that it doesn't come to count. `cut` is
+    /// the time of the first events that weren't run, if the run was cut short. `NoMemory` if an
     /// allocation failed.
-    pub fn end(&mut self, scenario: &Scenario) -> Result<(), NoMemory> {
-        for late in late_events(self.alloc, scenario)? {
+    pub fn end(&mut self, scenario: &Scenario, cut: Option<u64>) -> Result<(), NoMemory> {
+        for late in late_events(self.alloc, scenario, cut)? {
             self.add(FailedEvent {
                 number: late.number,
                 moment: late.moment,
-                why: Failure::Late(late.until),
+                why: Failure::Late(late.why),
             })?;
         }
         Ok(())
@@ -316,7 +360,9 @@ impl FailedEvents {
 
     /// One more.
     fn add(&mut self, failed: FailedEvent) -> Result<(), NoMemory>
-        ensures { self.new.count ≡ one_more self.old.count }
+        ensures count { self.new.count ≡ one_more self.old.count }
+        ensures came { self.new.came ≡ self.old.came }
+        ensures listed { OnOk result (IsListed self.old self.new failed.entry) }
     {
         self.count = self.count.saturating_add(1);
         if self.first.len() < MOST_LINES {

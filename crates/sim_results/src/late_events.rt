@@ -1,12 +1,43 @@
-//! Events of a scenario that come after the end of its run.
+//! Events of a scenario that its run doesn't come to.
+
+ghost use Rattle.std.specs.Prelude.{◌≡◌, ◌≤◌, ◌<◌, IfNone, IfSome, None, Some};
 
 use crate::unsent::AreaPacket;
 use its_gnvalue::NoMemory;
-use sim_scenario::events::{AddressedEvent, Addressee, FileEvent};
+use sim_scenario::events::{AddressedEvent, FileEvent};
 use sim_scenario::{Scenario, Timeline};
 use std::alloc::Global;
 
-/// An event of a scenario whose moment is after the end of the run, which `until` gives.
+/// Why a run doesn't come to an event of its scenario.
+#[derive(Clone, Copy)]
+pub(crate) enum WhyLate {
+    /// The event is after the last time that is run, which is this.
+    AfterUntil(u64),
+    /// The file of moves cut the run short before it.
+    CutShort,
+}
+
+impl WhyLate {
+    /// Why a run doesn't come to an event of this time. `until` is the last time that is run, if the
+    /// scenario gives it. `cut` is the time of the first events that weren't run, if the run was cut
+    /// short. `None` if the event was run.
+    fn of(moment: u64, until: Option<u64>, cut: Option<u64>) -> Option<WhyLate>
+        ensures after { IfSome until (λ until. until < moment →
+            result ≡ Some (WhyLate.AfterUntil until)) }
+        ensures cut { IfSome cut (λ cut. cut ≤ moment → IfSome until (λ until. moment ≤ until) →
+            result ≡ Some WhyLate.CutShort) }
+        ensures run { IfSome cut (λ cut. moment < cut) → IfSome until (λ until. moment ≤ until) →
+            result ≡ None }
+    {
+        match (until, cut) {
+            (Some(until), _) if moment > until => Some(WhyLate::AfterUntil(until)),
+            (_, Some(cut)) if moment >= cut => Some(WhyLate::CutShort),
+            _ => None,
+        }
+    }
+}
+
+/// An event of a scenario that its run doesn't come to.
 #[derive(Clone, Copy)]
 pub(crate) struct LateEvent {
     /// Its number among the events of the document, from 0.
@@ -16,67 +47,60 @@ pub(crate) struct LateEvent {
     pub(crate) station: Option<usize>,
     /// The packet for an area that it sends, if it sends one.
     pub(crate) packet: Option<AreaPacket>,
-    /// The end of the run.
-    pub(crate) until: u64,
+    pub(crate) why: WhyLate,
 }
 
 impl LateEvent {
-    /// The event or leave of this number, of a run that ends at `until`.
-    fn of(number: usize, filed: &FileEvent, until: u64) -> LateEvent {
+    /// The event or leave of this number, which isn't run for this reason.
+    fn of(number: usize, filed: &FileEvent, why: WhyLate) -> LateEvent {
         LateEvent {
             number,
             moment: filed.moment(),
             station: Some(filed.station()),
             packet: filed.event().and_then(|event| AreaPacket::of(&event.what)),
-            until,
+            why,
         }
     }
 
     /// The event or leave of a scenario with moves, whose station may be given by an id.
-    fn of_addressed(event: &AddressedEvent, until: u64) -> LateEvent {
+    fn of_addressed(event: &AddressedEvent, why: WhyLate) -> LateEvent {
         LateEvent {
             number: event.number,
             moment: event.moment,
-            station: match event.addressee {
-                Addressee::Station(station) => Some(station),
-                Addressee::Vehicle(_) => None,
-            },
+            station: event.station(),
             packet: AreaPacket::of_action(&event.action),
-            until,
+            why,
         }
     }
 }
 
-/// The events of a scenario that come after the end of its run, in the order of their moments.
-pub(crate) fn late_events(alloc: Global, scenario: &Scenario) -> Result<Vec<LateEvent>, NoMemory> {
+/// Returns the events and leaves of a scenario that its run doesn't come to, in the order of their
+/// times. `cut` is the time of the first events that weren't run, if the run was cut short. Each
+/// event of a scenario without an air is run.
+pub(crate) fn late_events(
+    alloc: Global,
+    scenario: &Scenario,
+    cut: Option<u64>,
+) -> Result<Vec<LateEvent>, NoMemory> {
     let mut late = Vec::new(alloc);
-    let Some(until) = scenario.timeline.air().and_then(|air| air.until) else {
-        return Ok(late);
-    };
-    for event in all_events(alloc, &scenario.timeline, until)? {
-        if event.moment > until {
-            late.push(event)?;
-        }
-    }
-    late.sort_by_key(|event| event.moment)?;
-    Ok(late)
-}
-
-/// All events and leaves of a timeline in a radio model.
-fn all_events(alloc: Global, timeline: &Timeline, until: u64) -> Result<Vec<LateEvent>, NoMemory> {
-    let mut all = Vec::new(alloc);
-    match timeline {
+    let until = scenario.timeline.air().and_then(|air| air.until);
+    match &scenario.timeline {
         Timeline::Plain(_) => {}
         Timeline::Air(timeline) => {
             for (number, filed) in timeline.events.iter().enumerate() {
-                all.push(LateEvent::of(number, filed, until))?;
+                if let Some(why) = WhyLate::of(filed.moment(), until, cut) {
+                    late.push(LateEvent::of(number, filed, why))?;
+                }
             }
         }
         Timeline::Moves(timeline) => {
             for event in &timeline.events {
-                all.push(LateEvent::of_addressed(event, until))?;
+                if let Some(why) = WhyLate::of(event.moment, until, cut) {
+                    late.push(LateEvent::of_addressed(event, why))?;
+                }
             }
         }
     }
-    Ok(all)
+    late.sort_by_key(|event| event.moment)?;
+    Ok(late)
 }

@@ -9,6 +9,7 @@ use crate::rows::Rows;
 use crate::send_rows::SendRows;
 use crate::station_rows::StationRows;
 use cmd_reporting::{Fault, Status};
+use its_gnvalue::NoMemory;
 use its_world::World;
 use sim_scenario::Scenario;
 use sim_simulation::{EventRecord, Note, SimulationFault};
@@ -304,6 +305,19 @@ impl<'a, W: Write + Drop> Results<'a, W> {
         take_note_in(&mut self.sends, world, moment, note)?;
         take_note_in(&mut self.stations, world, moment, note)?;
         take_note_in(&mut self.load, world, moment, note)
+    }
+
+    /// Lists the packets for an area of events that the run doesn't come to: they have rows too.
+    /// `cut` is the time of the first events that weren't run, if the run was cut short. `NoMemory`
+    /// if an allocation failed.
+    pub fn list_late(&mut self, scenario: &Scenario, cut: Option<u64>) -> Result<(), NoMemory>
+        ensures none { (self.old.sends ≡ None → self.new.sends ≡ None)
+            × (self.new.stations ≡ self.old.stations) × (self.new.load ≡ self.old.load) }
+    {
+        match &mut self.sends {
+            Some(file) => file.rows.list_late(scenario, cut),
+            None => Ok(()),
+        }
     }
 
     /// Writes the rows that are left and ends the files, after a run that ended as `ran` says,

@@ -58,7 +58,7 @@ pub(crate) struct SendRows {
     /// How many rows were written.
     written: usize,
     open: VecDeque<WaitingRow>,
-    /// The packets of events after the end of the run.
+    /// The packets of events that the run doesn't come to, once its end is known.
     late: Vec<UnsentPacket>,
 }
 
@@ -71,8 +71,23 @@ impl SendRows {
             frames: WaitingFrames::new(alloc, scenario)?,
             written: 0,
             open: VecDeque::new(alloc),
-            late: late_packets(alloc, scenario)?,
+            late: Vec::new(alloc),
         })
+    }
+
+    /// Lists the packets of events that the run doesn't come to, whose rows come last. `cut` is the
+    /// time of the first events that weren't run, if the run was cut short.
+    pub(crate) fn list_late(
+        &mut self,
+        scenario: &Scenario,
+        cut: Option<u64>,
+    ) -> Result<(), NoMemory> {
+        for event in late_events(self.alloc, scenario, cut)? {
+            if let Some(packet) = UnsentPacket::late(&event) {
+                self.late.push(packet)?;
+            }
+        }
+        Ok(())
     }
 
     /// The packet that was sent whose row has this place, if that isn't written yet.
@@ -236,15 +251,4 @@ impl Rows for SendRows {
         }
         Ok(())
     }
-}
-
-/// The packets for an area that events after the end of the run ask for.
-fn late_packets(alloc: Global, scenario: &Scenario) -> Result<Vec<UnsentPacket>, NoMemory> {
-    let mut packets = Vec::new(alloc);
-    for event in late_events(alloc, scenario)? {
-        if let Some(packet) = UnsentPacket::late(&event) {
-            packets.push(packet)?;
-        }
-    }
-    Ok(packets)
 }

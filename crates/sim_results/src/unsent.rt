@@ -1,6 +1,6 @@
 //! Packets for an area that an event of the scenario asks for, and that aren't sent.
 
-use crate::late_events::LateEvent;
+use crate::late_events::{LateEvent, WhyLate};
 use its_headers::Kind;
 use its_world::{EntryFault, What};
 use sim_scenario::events::{Action, AddressedEvent};
@@ -13,8 +13,8 @@ use std::{fmt, io};
 enum Unsent {
     /// The station of its id is absent.
     Absent,
-    /// Its moment is after the end of the run.
-    AfterUntil,
+    /// The run doesn't come to it.
+    Late(WhyLate),
     /// The station refuses it.
     Refused(EntryFault),
 }
@@ -23,7 +23,8 @@ impl fmt::Display for Unsent {
     fn fmt<W: fmt::Write>(&self, f: &mut fmt::Formatter<W>) -> fmt::Result {
         match self {
             Unsent::Absent => f.write_str("absent"),
-            Unsent::AfterUntil => f.write_str("after until"),
+            Unsent::Late(WhyLate::AfterUntil(_)) => f.write_str("after until"),
+            Unsent::Late(WhyLate::CutShort) => f.write_str("cut short"),
             Unsent::Refused(fault) => write!(f, "refused {}", fault.code()),
         }
     }
@@ -90,13 +91,13 @@ impl UnsentPacket {
         })
     }
 
-    /// The packet of an event after the end of the run.
+    /// The packet of an event that the run doesn't come to.
     pub(crate) fn late(event: &LateEvent) -> Option<UnsentPacket> {
         Some(UnsentPacket {
             moment: event.moment,
             station: event.station,
             packet: event.packet?,
-            why: Unsent::AfterUntil,
+            why: Unsent::Late(event.why),
         })
     }
 

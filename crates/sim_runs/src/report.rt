@@ -31,6 +31,8 @@ pub(crate) struct Report<'s> {
     doubts: Doubts,
     /// Whether an event that wasn't run, or a doubt, makes the status `Refused`.
     strict: bool,
+    /// The time of the last event or note, in milliseconds.
+    last: u64,
 }
 
 impl<'s> Report<'s> {
@@ -51,6 +53,7 @@ impl<'s> Report<'s> {
             audiences: Audiences::new(alloc, scenario, are_wanted)?,
             doubts: Doubts::new(alloc, scenario)?,
             strict: options.strict,
+            last: 0,
         })
     }
 
@@ -104,6 +107,7 @@ impl<'s> Report<'s> {
     /// Takes an event that was done. `NoMemory` if an allocation failed.
     #[inline(always)]
     pub(crate) fn take(&mut self, world: &World, done: &EventRecord<'_>) -> Result<(), NoMemory> {
+        self.last = done.moment;
         self.full.take(self.scenario, done);
         self.failed.take(done)?;
         self.doubts.take(world, done, &self.failed)?;
@@ -115,9 +119,24 @@ impl<'s> Report<'s> {
 
     /// Takes a note of the run. `NoMemory` if an allocation failed.
     pub(crate) fn take_note(&mut self, moment: u64, note: &Note<'_>) -> Result<(), NoMemory> {
+        self.last = moment;
         self.failed.take_note(moment, note)?;
         self.doubts.take_note(note)?;
         self.audiences.take_note(moment, note)
+    }
+
+    /// Returns the time of the first events that weren't run, if the file of moves cut the run short.
+    /// It does so after a row, and a row comes before the events of its time.
+    pub(crate) fn cut(&self, ran: &Result<Status, AirFault>) -> Option<u64> {
+        match ran {
+            Err(fault) if is_cut_short(fault) => Some(self.last),
+            _ => None,
+        }
+    }
+
+    /// Returns the scenario that is run.
+    pub(crate) fn scenario(&self) -> &'s Scenario {
+        self.scenario
     }
 
     /// Reports on a run that ended so. `moves` is its file of moves, if there is one. Returns
@@ -134,9 +153,10 @@ impl<'s> Report<'s> {
         ensures status { IfOk result IsCommandStatus }
         ensures done { result ≡ Ok Status.Done → ran ≡ Ok Status.Done }
     {
+        let cut = self.cut(&ran);
         match ran {
             Ok(status) => Ok(self.conclude(status, format.explain, err)?),
-            Err(fault) => self.report_fault(fault, moves, format, err),
+            Err(fault) => self.report_fault(fault, cut, moves, format, err),
         }
     }
 
@@ -152,7 +172,7 @@ impl<'s> Report<'s> {
         ensures status { IfOk result IsCommandStatus }
         ensures done { result ≡ Ok Status.Done → status ≡ Status.Done }
     {
-        self.failed.end(self.scenario)?;
+        self.failed.end(self.scenario, None)?;
         self.report_full(err);
         self.failed.report(explain, err);
         self.doubts.report(err);
@@ -170,8 +190,9 @@ impl<'s> Report<'s> {
     /// events that weren't run, and which line is bad. This comes before the files are ended, which
     /// may fail as well.
     fn report_fault<'a, E: Write, M: BufRead + Drop>(
-        &self,
+        &mut self,
         fault: AirFault,
+        cut: Option<u64>,
         moves: Option<&MovesFile<'a, M>>,
         format: OutputFormat,
         err: &mut E,
@@ -179,7 +200,8 @@ impl<'s> Report<'s> {
         ensures status { IfOk result IsCommandStatus }
         ensures done { result ≢ Ok Status.Done }
     {
-        if is_cut_short(&fault) {
+        if cut.is_some() {
+            self.failed.end(self.scenario, cut)?;
             self.report_full(err);
             self.failed.report(format.explain, err);
         }

@@ -147,7 +147,7 @@ impl<'s, 'a, 'o, L: EventSink + RunLines + Drop, F: Write + Drop, E: ProgressWri
         let RunSinks {
             lines,
             mut report,
-            tables,
+            mut tables,
             progress,
             frames,
             format,
@@ -156,8 +156,13 @@ impl<'s, 'a, 'o, L: EventSink + RunLines + Drop, F: Write + Drop, E: ProgressWri
         } = self;
         drop(lines);
         progress.end(err);
+        let listed = tables.list_late(report.scenario(), report.cut(&ran));
         let reported = report.end(ran, moves, format, err);
-        end_frames(frames, tables.end(reported))
+        let ended = match listed {
+            Ok(()) => reported,
+            Err(error) => Err(Fault::from(error)),
+        };
+        end_frames(frames, tables.end(ended))
     }
 }
 

@@ -9,6 +9,9 @@ use Rattle.its_model.specs.World.{What}
 use Rattle.its_model.specs.World.What.{Calls, Deliver}
 use Rattle.its_station.specs.declared.run.Call.{Call}
 use Rattle.its_station.specs.declared.run.Call.TheVariants as calls
+use Rattle.its_world.specs.Events.{what_of}
+use Rattle.sim_scenario.specs.declared.events.action.Action.{Action}
+use Rattle.sim_scenario.specs.declared.events.action.Action.TheVariants as actions
 
 -- that of what a station's own applications ask of it
 abbrev pub own_verb : OwnCall → Verb
@@ -37,3 +40,10 @@ call_verb (calls.SendGeobroadcast request) = Some verbs.Gbc
 call_verb (calls.SendGeoanycast request) = Some verbs.Gac
 call_verb (calls.Restart number) = Some verbs.Restart
 call_verb (calls.Receive frame) = None
+
+-- that of what an event of a scenario does
+abbrev pub action_verb : Action → Verb
+action_verb (actions.Happens what) = verb_of (what_of what)
+action_verb (actions.GeobroadcastAround request) = verbs.Gbc
+action_verb (actions.GeoanycastAround request) = verbs.Gac
+action_verb actions.Leaves = verbs.Leave

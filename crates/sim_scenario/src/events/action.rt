@@ -7,6 +7,7 @@ ghost use Rattle.its_world.specs.Events.{what_of};
 ghost use Rattle.sim_scenario.specs.Actions.{IsDoneAt, request_at, what_at};
 ghost use Rattle.sim_scenario.specs.Events.{FitsAction, FitsWhat, frame_at, frame_in, frame_of};
 ghost use Rattle.sim_scenario.specs.Events.{speed_in};
+ghost use Rattle.sim_scenario.specs.Verbs.{action_verb};
 
 use crate::events::around::AroundRequest;
 use crate::events::event::FileEvent;
@@ -33,7 +34,9 @@ pub enum Action {
 
 impl Action {
     /// Returns the word of the action.
-    pub fn verb(&self) -> Verb {
+    pub fn verb(&self) -> Verb
+        ensures { result ≡ action_verb self.now }
+    {
         match self {
             Action::Happens(what) => verb_of(what),
             Action::GeobroadcastAround(_) => Verb::Gbc,

@@ -93,6 +93,14 @@ pub struct AddressedEvent {
 }
 
 impl AddressedEvent {
+    /// Returns the number of its station, if the event names it by its number.
+    pub fn station(&self) -> Option<usize> {
+        match self.addressee {
+            Addressee::Station(station) => Some(station),
+            Addressee::Vehicle(_) => None,
+        }
+    }
+
     /// Returns the event or leave, as it is done by the station of this number while that station is
     /// at this position. Fails if an allocation failed.
     pub fn at(&self, alloc: Global, station: usize, place: Place) -> Result<FileEvent, AllocError>
