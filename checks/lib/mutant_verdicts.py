@@ -1,7 +1,7 @@
 """What the prover says of a crate with mutants in it, and the verdict on each mutant.
 
-- GOAL, refused: a goal of the mutant's own function is open, or the prover names values for which
-  it is false.
+- GOAL, refused: a goal of the mutant's own function is open, or the prover names values at which a
+  step of its answer is false.
 - ANSWER, not decided: what `proofs/` has for the function no longer fits. That says nothing of its
   contract: the change may be right, and proved as soon as the proof is written for it. Nor does an
   open goal, if there was an answer for the same clause whose goal has another name now, or if the
@@ -112,7 +112,8 @@ class Said:
         """Why this check can't be believed of these mutants, if it can't."""
         if self.error or not self.verdict:
             return self.error or self.last
-        unproved = {*self.goals, *self.false, *self.answers, *(it for it in self.waits if not self.waits[it])}
+        alone = (it for it in self.waits if not self.waits[it])
+        unproved = {*self.goals, *self.false, *self.answers, *alone}
         strays = unproved.difference(*(self.whole(it.function) for it in mutants))
         return f"open, and no mutant's: {', '.join(sorted(strays))}" if strays else ""
 
