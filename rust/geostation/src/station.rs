@@ -309,7 +309,7 @@ pub struct SentCounts {
 /// Counters of a station since it was created.
 #[derive(Clone, Copy, Debug, Default, PartialEq, Eq, Hash)]
 pub struct Counts {
-    /// Frames passed to [`Station::receive`].
+    /// Frames passed to [`Station::receive`] and [`Station::receive_verified`], or in JSON.
     pub received: u64,
     /// Frames whose packet was accepted.
     pub accepted: u64,
@@ -325,7 +325,8 @@ pub struct Counts {
     pub sent: SentCounts,
     /// Frames that were not forwarded because of a limit.
     pub suppressed: u64,
-    /// Payloads that were not delivered because they were delivered before.
+    /// Packets that were ignored because they were delivered before
+    /// ([`IgnoreReason::Repeated`]).
     pub repeated: u64,
     /// Calls that failed with [`Error::OverRate`].
     pub over_rate: u64,
