@@ -148,8 +148,8 @@ pub struct AreaRequest {
     /// Lifetime byte: 6 bits of multiplier, 2 bits of base (0 = 50 ms, 1 = 1 s, 2 = 10 s, 3 = 100
     /// s).
     pub lifetime: u8,
-    /// Hop limit, from 1. Stations with the default limits do not forward a packet with more than 10
-    /// hops left.
+    /// Hop limit, from 1. Stations with the default limits do not forward a packet with more than
+    /// 10 hops left.
     pub max_hops: u8,
     /// The destination area.
     pub area: Area,
