@@ -323,7 +323,7 @@ struct geostation_counts {
         uint64_t geoanycasts;   /**< GAC */
     } sent;
     uint64_t suppressed; /**< frames that were not forwarded because of a limit */
-    uint64_t repeated;   /**< packets that were withheld: #GEOSTATION_REPEATED */
+    uint64_t repeated;   /**< packets that were delivered before: #GEOSTATION_REPEATED */
     uint64_t over_rate;  /**< calls that failed with #GEOSTATION_OVER_RATE */
 };
 

@@ -145,6 +145,7 @@ for compiler in gcc clang g++ clang++; do
 done
 
 # The time stamps of the road-side unit of example.c.
+: > "$here/stamps"
 python3 "$top/checks/lib/time_stamps.py" 47013 > "$here/stamps" &
 reader=$!
 until grep -q ready "$here/stamps"; do sleep 0.05; kill -0 $reader || fail "time_stamps.py"; done

@@ -327,7 +327,7 @@ class Counts:
     """Counters of a station since it was created."""
 
     received: int
-    """Frames passed to `receive`."""
+    """Frames passed to `receive` and `receive_verified`, or in JSON."""
     accepted: int
     """Frames whose packet was accepted."""
     delivered: int
@@ -340,6 +340,6 @@ class Counts:
     suppressed: int = 0
     """Frames that were not forwarded because of a limit."""
     repeated: int = 0
-    """Payloads that were not delivered because they were delivered before."""
+    """Packets that were ignored because they were delivered before: `IgnoreReason.REPEATED`."""
     over_rate: int = 0
     """Own packets that were refused for their rate."""

@@ -148,8 +148,8 @@ pub struct AreaRequest {
     /// Lifetime byte: 6 bits of multiplier, 2 bits of base (0 = 50 ms, 1 = 1 s, 2 = 10 s, 3 = 100
     /// s).
     pub lifetime: u8,
-    /// Hop limit, from 1. Stations with the default limits do not forward a packet with more than 10
-    /// hops left.
+    /// Hop limit, from 1. Stations with the default limits do not forward a packet with more than
+    /// 10 hops left.
     pub max_hops: u8,
     /// The destination area.
     pub area: Area,
@@ -309,7 +309,7 @@ pub struct SentCounts {
 /// Counters of a station since it was created.
 #[derive(Clone, Copy, Debug, Default, PartialEq, Eq, Hash)]
 pub struct Counts {
-    /// Frames passed to [`Station::receive`].
+    /// Frames passed to [`Station::receive`] and [`Station::receive_verified`], or in JSON.
     pub received: u64,
     /// Frames whose packet was accepted.
     pub accepted: u64,
@@ -325,7 +325,8 @@ pub struct Counts {
     pub sent: SentCounts,
     /// Frames that were not forwarded because of a limit.
     pub suppressed: u64,
-    /// Payloads that were not delivered because they were delivered before.
+    /// Packets that were ignored because they were delivered before
+    /// ([`IgnoreReason::Repeated`]).
     pub repeated: u64,
     /// Calls that failed with [`Error::OverRate`].
     pub over_rate: u64,
