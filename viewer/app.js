@@ -19,7 +19,6 @@
     showFrame);
   const timeline = new geostation.timeline.Timeline(go, stepBy, (warning) => {
     chooseSend(warning);
-    sends.mark(warning + 1);
     go(state.sends[warning].event);
   });
   const strip = new geostation.strip.Strip();
@@ -432,5 +431,5 @@
   listen();
   geostation.open.inside(open, refuse);
   geostation.open.named(open, refuse);
-  geostation.app = {state, open, go, map, timeline};
+  geostation.app = {state, open, go, map, timeline, strip};
 })(globalThis.geostation ??= {});

@@ -242,7 +242,7 @@ test('lost copies are arcs of the map, from the giver to who lost them', async (
     path: way.path(found, way.tree(found, followed.sends[2]))},
   {links: 5, circles: 3, isRange: true});
   assert.equal(few.links.length, 5);
-  assert.match(few.unseen.join('; '), /^\d+ of \d+ frames; 9 circles$/);
+  assert.match(few.unseen.join('; '), /^\d+ of \d+ arcs; 9 circles$/);
 });
 
 /** What the page shows of the hundred vehicles once their warning has ended. */
@@ -267,7 +267,7 @@ test('of more frames than there is room for, those along the path are drawn, abo
     assert.deepEqual([...accepted].sort((a, b) => a - b),
       [...Array(100).keys()].filter((i) => i !== 50));
     assert.ok(links.slice(-99).every(({kind}) => kind === 'accepted'));
-    assert.match(unseen.join(), /^1,054 of 1,454 frames$/);
+    assert.match(unseen.join(), /^1,054 of 1,454 arcs$/);
     // The latest of the others have the rest of the room, in the order of the run.
     const others = links.slice(0, 301).map(({event}) => event);
     assert.deepEqual(others, [...state.deliveries].filter((event) =>
