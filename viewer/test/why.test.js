@@ -93,7 +93,7 @@ test('without notes the range of the air tells what was lost', async () => {
   const reasons = async (keys) => missed(await run(4, lines, {air: {...air, ...keys}}));
   assert.deepEqual(await reasons({}), [[1, 'lost'], [2, 'lost'], [3, 'unheard']]);
   assert.deepEqual((await reasons({until: 10})).map(([, word]) => word),
-    ['unheard', 'unheard', 'unheard']);
+    ['cut', 'cut', 'cut']);
   assert.deepEqual((await reasons({until: 11}))[0], [1, 'lost']);
   assert.deepEqual((await reasons({until: null})).map(([, word]) => word),
     ['lost', 'lost', 'unheard']);
@@ -289,3 +289,21 @@ test('of a path with more frames than there is room for, those that were forward
       state.run.events.station.values[event]));
     assert.ok(links.every(({from}) => from === 50 || ends.has(from)));
   });
+
+test('a warning whose deliveries come after the end of the run was cut, and not unheard', async () => {
+  const lines = samples.four().trimEnd().split('\n');
+  const stations = JSON.parse(lines[0]);
+  const air = {range: 500, delay: 1, loss: 0, seed: 0, beacons: false, until: 1001};
+  // The run ends at 1001 ms: what station 1 forwards then reaches station 2 at 1002 ms no more.
+  const early = lines.slice(1).filter((line) => JSON.parse(line).moment <= 1001);
+  const run = await read([JSON.stringify({...stations, air}), ...early, ''].join('\n'));
+  const [send] = way.follow(run).sends;
+  const {missed} = why.judge(run, send);
+  assert.deepEqual(missed.map(({station, reason}) => [station, reason]), [[3, 'cut']]);
+  assert.match(reason.sentence(run, send, missed[0]), /the run ended before them\.$/);
+  // With a later end nothing is under way when it comes.
+  const whole = {...air, until: 5000};
+  const later = await read([JSON.stringify({...stations, air: whole}), ...early, ''].join('\n'));
+  const [other] = way.follow(later).sends;
+  assert.deepEqual(why.judge(later, other).missed.map((miss) => miss.reason), ['unheard']);
+});
