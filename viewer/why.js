@@ -156,12 +156,12 @@
   /**
    * @param {import('./run.js').Run} run @param {import('./way.js').Send} send
    * @param {number} station @param {any} found the furthest that a frame came there
-   * @param {string | {silent: string}} told the reason, if the run's summary says it, or otherwise
+   * @param {string | {silent: string}} given the reason, if the run's summary says it, or otherwise
    *   that of a station that received no frame
    * @returns {Miss}
    */
-  function miss(run, send, station, found, told) {
-    const known = typeof told === 'string' ? told : undefined;
+  function miss(run, send, station, found, given) {
+    const known = typeof given === 'string' ? given : undefined;
     if (found) {
       const {rank, event, frame} = found;
       return {station, reason: known ?? REASONS[rank], event, frame};
@@ -169,7 +169,7 @@
     const near = run.notes.length > 0 && !known ? undefined : lostNear(run, send, station);
     if (known) return {station, reason: known, ...(known === 'lost' ? near : {})};
     if (near && run.air) return {station, reason: 'lost', ...near};
-    return {station, reason: told.silent ?? known, ...(near ? {isLikely: true, ...near} : {})};
+    return {station, reason: given.silent ?? known, ...(near ? {isLikely: true, ...near} : {})};
   }
 
   /**
