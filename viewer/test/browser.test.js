@@ -976,6 +976,6 @@ for (const [name, width, height] of SIZES) {
 }
 
 test('the page asks for nothing but its own files', () => {
-  const own = /^(file:|data:|http:\/\/127\.0\.0\.1:)/;
+  const own = /^(file:|data:|blob:|http:\/\/127\.0\.0\.1:)/;
   assert.deepEqual(page.requests.filter((url) => !own.test(url)), []);
 });
