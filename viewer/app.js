@@ -378,7 +378,8 @@
     chooseStation(undefined);
   }
 
-  function listen() {
+  /** The buttons of the map and the boxes of its legend. */
+  function listenToMap() {
     byId('zoom-in').addEventListener('click', () => map.zoom(1.5));
     byId('zoom-out').addEventListener('click', () => map.zoom(1 / 1.5));
     byId('zoom-fit').addEventListener('click', () => map.fit());
@@ -390,6 +391,10 @@
     for (const box of document.querySelectorAll('.legend input')) {
       box.addEventListener('change', drawMap);
     }
+  }
+
+  /** The fields that choose which events are listed. */
+  function listenToFilters() {
     byId('all').addEventListener('click', showAll);
     byId('station').addEventListener('input', () => {
       const typed = byId('station').value;
@@ -404,6 +409,11 @@
         listEvents();
       });
     }
+  }
+
+  function listen() {
+    listenToMap();
+    listenToFilters();
     window.addEventListener('hashchange', () => {
       const wanted = clock.eventOf(location.hash);
       if (wanted === undefined) return;

@@ -34,11 +34,6 @@
     return !isPastEnd(run, event) && isNear(run, station, event);
   }
 
-  /** Whether a station would have heard it, had the run not ended before. The same arguments. */
-  function isCutOff(run, station, event) {
-    return isPastEnd(run, event) && isNear(run, station, event);
-  }
-
   /** Whether a station is present and near enough for what another gave at an event. */
   function isNear(run, station, event) {
     const giver = run.events.station.values[event];
@@ -80,5 +75,5 @@
     return {metres: Math.sqrt(Number(heardFrom(run))) / 100, isTold: false};
   }
 
-  geostation.hearing = {distance2, isInRange, isCutOff, range};
+  geostation.hearing = {distance2, isInRange, isNear, isPastEnd, range};
 })(globalThis.geostation ??= {});

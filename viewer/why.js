@@ -177,11 +177,13 @@
    * @param {import('./run.js').Run} run @param {import('./way.js').Send} send
    */
   function isCut(run, send) {
-    return send.numbers.some((frame) => {
+    const late = send.numbers.filter((frame) =>
+      hearing.isPastEnd(run, run.frames.giver.values[frame]));
+    return late.some((frame) => {
       const event = run.frames.giver.values[frame];
       const lost = new Set(Array.from(run.lost.of(frame), (note) => run.notes.station.values[note]));
       return run.stations.some((_, station) =>
-        !lost.has(station) && hearing.isCutOff(run, station, event));
+        !lost.has(station) && hearing.isNear(run, station, event));
     });
   }
 
