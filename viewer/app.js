@@ -19,7 +19,6 @@
     showFrame);
   const timeline = new geostation.timeline.Timeline(go, stepBy, (warning) => {
     chooseSend(warning);
-    sends.mark(warning + 1);
     go(state.sends[warning].event);
   });
   const strip = new geostation.strip.Strip();
@@ -379,7 +378,8 @@
     chooseStation(undefined);
   }
 
-  function listen() {
+  /** The buttons of the map and the boxes of its legend. */
+  function listenToMap() {
     byId('zoom-in').addEventListener('click', () => map.zoom(1.5));
     byId('zoom-out').addEventListener('click', () => map.zoom(1 / 1.5));
     byId('zoom-fit').addEventListener('click', () => map.fit());
@@ -391,6 +391,10 @@
     for (const box of document.querySelectorAll('.legend input')) {
       box.addEventListener('change', drawMap);
     }
+  }
+
+  /** The fields that choose which events are listed. */
+  function listenToFilters() {
     byId('all').addEventListener('click', showAll);
     byId('station').addEventListener('input', () => {
       const typed = byId('station').value;
@@ -405,6 +409,11 @@
         listEvents();
       });
     }
+  }
+
+  function listen() {
+    listenToMap();
+    listenToFilters();
     window.addEventListener('hashchange', () => {
       const wanted = clock.eventOf(location.hash);
       if (wanted === undefined) return;
@@ -432,5 +441,5 @@
   listen();
   geostation.open.inside(open, refuse);
   geostation.open.named(open, refuse);
-  geostation.app = {state, open, go, map, timeline};
+  geostation.app = {state, open, go, map, timeline, strip};
 })(globalThis.geostation ??= {});

@@ -31,16 +31,20 @@
    * @param {import('./run.js').Run} run @param {number} station @param {number} event
    */
   function isInRange(run, station, event) {
+    return !isPastEnd(run, event) && isNear(run, station, event);
+  }
+
+  /** Whether a station is present and near enough for what another gave at an event. */
+  function isNear(run, station, event) {
     const giver = run.events.station.values[event];
     if (giver === station || !run.stations[giver]) return false;
-    if (run.air && isPastEnd(run, event)) return false;
     if (!run.isPresent(station, event - 1) || !run.isPresent(giver, event - 1)) return false;
     return distance2(run, giver, station, event) <= limit2(run);
   }
 
   /** Whether what is given at an event would come when the run is over. */
   function isPastEnd({air, events}, event) {
-    return air.until !== null && events.moment.values[event] + air.delay > air.until;
+    return Boolean(air) && air.until !== null && events.moment.values[event] + air.delay > air.until;
   }
 
   const heard = new WeakMap();
@@ -71,5 +75,5 @@
     return {metres: Math.sqrt(Number(heardFrom(run))) / 100, isTold: false};
   }
 
-  geostation.hearing = {distance2, isInRange, range};
+  geostation.hearing = {distance2, isInRange, isNear, isPastEnd, range};
 })(globalThis.geostation ??= {});

@@ -9,8 +9,8 @@
   const MOST = 60;
   /** How wide a letter is inside a mark and beside it, and how high a name is, in pixels. */
   const [NARROW, WIDE, HIGH] = [6.4, 6.9, 12];
-  /** How much larger than its radius a mark may be. */
-  const SPREAD = 1.3;
+  /** How much larger than its radius a mark is, by its role; the first one that fits. */
+  const SPREADS = [['sender', 1.8], ['missed', 1.6], ['', 1.3]];
   /** Which names have room first: those of stations with a part in the warning. */
   const RANKS = ['sender', 'chosen', 'active', 'missed', 'delivered', 'reached'];
 
@@ -49,10 +49,16 @@
     return a.left < b.right && b.left < a.right && a.top < b.bottom && b.top < a.bottom;
   }
 
+  /** How far the mark of a station reaches from its middle. @param {Item} item */
+  function reach({radius, role}) {
+    return radius * SPREADS.find(([word]) => role.includes(word))[1];
+  }
+
   /** The places at which a name may be written, the best first. @param {Item} item */
-  function choices({text, x, y, radius}) {
+  function choices(item) {
+    const {text, x, y, radius} = item;
     const inner = NARROW * text.length;
-    const [width, far] = [WIDE * text.length + 3, SPREAD * radius];
+    const [width, far] = [WIDE * text.length + 3, reach(item)];
     const [above, below] = [y - far - HIGH / 2, y + far + HIGH / 2];
     const [left, right] = [x - far - width / 2 - 1, x + far + width / 2 + 1];
     const outside = [[x, above], [x, below], [right, y], [left, y], [right, above], [left, above],
@@ -75,8 +81,8 @@
    * @returns {Map<number, {x: number, y: number, isInside: boolean}>} by station
    */
   function placed(items) {
-    const marks = items.map(({station, x, y, radius}) =>
-      ({station, box: boxAt(x, y, 2 * SPREAD * radius, 2 * SPREAD * radius)}));
+    const marks = items.map((item) => ({station: item.station,
+      box: boxAt(item.x, item.y, 2 * reach(item), 2 * reach(item))}));
     const taken = [];
     const found = new Map();
     const order = [...items].sort((a, b) => rank(a) - rank(b) || a.station - b.station);

@@ -9,7 +9,7 @@
   const SHORT = {
     closed: 'port not open', outside: 'had left the area', full: 'table full',
     refused: 'refused it', ignored: 'ignored it', lost: 'lost on the channel',
-    unheard: 'no frame in range',
+    cut: 'the run ended first', unheard: 'no frame in range',
   };
 
   /** @param {import('./why.js').Miss} miss */
@@ -25,6 +25,10 @@
   function sentence(run, send, miss) {
     const {reason, event, frame, isLikely} = miss;
     const who = `Station ${run.name(miss.station)}`;
+    if (reason === 'cut') {
+      return `${who} received no frame of it. Deliveries of its frames were not run: ` +
+        'the run ended before them.';
+    }
     if (event === undefined || isLikely) return missing(run, send, miss, who);
     const when = `frame ${frame} at ${run.moment(event)} ms`;
     const sender = run.name(run.events.station.values[run.frames.giver.values[frame]]);

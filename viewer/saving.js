@@ -50,7 +50,7 @@
     return text;
   }
 
-  /** What stands before an entry of the legend: a mark, or a piece of a line. @param {Element} key */
+  /** The key of an entry of the legend: a mark, or a piece of a line. @param {Element} key */
   function keyAt(x, y, key) {
     if (key instanceof SVGElement) {
       const mark = svg('g', {transform: `translate(${x + KEY / 2 - 4} ${y - 4})`});

@@ -10,8 +10,7 @@
   const {countUpTo} = geostation.columns;
 
   /** From the furthest that a frame came to the least. */
-  const REASONS = ['closed', 'outside', 'full', 'refused', 'ignored', 'lost', 'unheard'];
-  const UNHEARD = REASONS.indexOf('unheard');
+  const REASONS = ['closed', 'outside', 'full', 'refused', 'ignored', 'lost', 'cut', 'unheard'];
   const LOST = REASONS.indexOf('lost');
 
   /**
@@ -48,8 +47,9 @@
     const inside = standing.filter(isInside);
     const reached = inside.filter((station) => send.reached.has(station));
     const found = furthest(run, send, packet);
+    const silent = isCut(run, send) ? 'cut' : 'unheard';
     const missed = inside.filter((station) => !send.reached.has(station)).map((station) =>
-      miss(run, send, station, found.get(station), named.get(station)));
+      miss(run, send, station, found.get(station), named.get(station) ?? {silent}));
     return {standing, inside, reached, missed, deaf: standing.filter((s) => !isInside(s))};
   }
 
@@ -156,10 +156,12 @@
   /**
    * @param {import('./run.js').Run} run @param {import('./way.js').Send} send
    * @param {number} station @param {any} found the furthest that a frame came there
-   * @param {string | undefined} known the reason, if the run's summary says it
+   * @param {string | {silent: string}} given the reason, if the run's summary says it, or otherwise
+   *   that of a station that received no frame
    * @returns {Miss}
    */
-  function miss(run, send, station, found, known) {
+  function miss(run, send, station, found, given) {
+    const known = typeof given === 'string' ? given : undefined;
     if (found) {
       const {rank, event, frame} = found;
       return {station, reason: known ?? REASONS[rank], event, frame};
@@ -167,7 +169,22 @@
     const near = run.notes.length > 0 && !known ? undefined : lostNear(run, send, station);
     if (known) return {station, reason: known, ...(known === 'lost' ? near : {})};
     if (near && run.air) return {station, reason: 'lost', ...near};
-    return {station, reason: REASONS[UNHEARD], ...(near ? {isLikely: true, ...near} : {})};
+    return {station, reason: given.silent ?? known, ...(near ? {isLikely: true, ...near} : {})};
+  }
+
+  /**
+   * Whether deliveries of a send were not run, because the run ended before them.
+   * @param {import('./run.js').Run} run @param {import('./way.js').Send} send
+   */
+  function isCut(run, send) {
+    const late = send.numbers.filter((frame) =>
+      hearing.isPastEnd(run, run.frames.giver.values[frame]));
+    return late.some((frame) => {
+      const event = run.frames.giver.values[frame];
+      const lost = new Set(Array.from(run.lost.of(frame), (note) => run.notes.station.values[note]));
+      return run.stations.some((_, station) =>
+        !lost.has(station) && hearing.isNear(run, station, event));
+    });
   }
 
   /**

@@ -226,7 +226,7 @@ test('the path of a warning in a dense run, the sender above all', async () => {
   const kinds = await page.value('geostation.app.map.scene.links.map(({kind}) => kind)');
   assert.equal(kinds.length, 400);
   assert.ok(kinds.slice(-99).every((kind) => kind === 'accepted'));
-  assert.match(await text('#unseen'), /^Not drawn: 1,054 of 1,454 frames; /);
+  assert.match(await text('#unseen'), /^Not drawn: 1,054 of 1,454 arcs; /);
   const top = await page.value(`(() => {
     const sender = document.querySelector('.station.sender');
     const {x, y, width, height} = sender.getBoundingClientRect();
@@ -309,25 +309,35 @@ test('a page with a street net in it shows that beneath the run', async () => {
 test('the map is saved as SVG, with its looks in it', async () => {
   await show(samples.COMERS);
   const saved = await page.value(`(() => {
-    const text = geostation.saving.textOf(geostation.app.map);
+    const text = geostation.saving.textOf(geostation.app.map, 'at 2004 ms');
     const file = new DOMParser().parseFromString(text, 'image/svg+xml');
     const stars = [...file.querySelectorAll('path')].filter((mark) =>
       mark.getAttribute('d').split('L').length === 10);
+    const own = [...file.documentElement.children].filter(({tagName}) => tagName === 'text');
     return {faults: file.querySelectorAll('parsererror').length, text,
-      stars: stars.map((mark) => mark.getAttribute('fill'))};
+      stars: stars.map((mark) => mark.getAttribute('fill')),
+      below: own.map(({textContent}) => textContent),
+      heights: [...file.querySelectorAll('svg')].map((svg) => Number(svg.getAttribute('height'))),
+      lowest: Math.max(...own.map((text) => Number(text.getAttribute('y'))))};
   })()`);
   assert.equal(saved.faults, 0);
-  assert.deepEqual(saved.stars, ['rgb(179, 69, 14)']);
+  // The sender's, and that of the legend, which lies below the map with the caption.
+  assert.deepEqual(saved.stars, ['rgb(179, 69, 14)', 'rgb(179, 69, 14)']);
+  assert.deepEqual(saved.below, ['at 2004 ms', 'sender', 'delivered', 'accepted', 'not reached',
+    'bystander', 'away', 'first copy', 'ignored', 'refused', 'lost']);
+  const [whole, map] = saved.heights;
+  assert.ok(map < saved.lowest && saved.lowest < whole, `${saved.heights} ${saved.lowest}`);
   assert.match(saved.text, /^<\?xml version="1\.0" encoding="UTF-8"\?>\n<svg xmlns=/);
   assert.match(saved.text, /marker-end="url\(#tip-accepted\)"/);
   assert.doesNotMatch(saved.text, /var\(|class=|file:/);
-  const name = await page.value(`(() => {
-    let name;
-    HTMLAnchorElement.prototype.click = function () { name = this.download; };
+  const file = await page.value(`new Promise((done) => {
+    HTMLAnchorElement.prototype.click = async function () {
+      done([this.download, await (await fetch(this.href)).text()]);
+    };
     document.getElementById('save').click();
-    return name;
-  })()`);
-  assert.equal(name, 'comers.jsonl.svg');
+  })`);
+  assert.equal(file[0], 'comers.jsonl.svg');
+  assert.ok(file[1].includes('>comers.jsonl · at 2004 ms · warning of station 0, sent at 2000 ms<'));
   noFault();
 });
 
@@ -470,8 +480,10 @@ test('stations that come and leave: drawn faint while they are away, told by not
   await show(samples.COMERS);
   assert.equal(await page.value('document.getElementById("away").hidden'), false);
   const away = () => page.value(`[...document.querySelectorAll('.station.away')]
-    .map((dot) => Number(dot.dataset.station)).sort()`);
-  assert.deepEqual(await away(), [5, 7]);
+    .filter((dot) => dot.style.display !== 'none').map((dot) => Number(dot.dataset.station)).sort()`);
+  // Stations 5 and 7 have not come yet: they have no mark.
+  assert.deepEqual(await away(), []);
+  assert.equal(await text('#unseen'), 'Not drawn: 2 stations that have not come.');
   assert.notEqual(await page.value(
     'getComputedStyle(document.querySelector(".station.away")).strokeDasharray'), 'none');
   assert.equal(await count('.station.missed'), 1);
@@ -480,13 +492,14 @@ test('stations that come and leave: drawn faint while they are away, told by not
     ['2500 5 came present from now on', '5200 6 came present from now on']);
   await page.click('#events [data-index="0"]');
   assert.equal(await text('#present'), 'Note, 2500 ms, station 5: came, present from now on');
-  assert.deepEqual(await away(), [7]);
+  assert.deepEqual(await away(), []);
+  assert.equal(await text('#unseen'), 'Not drawn: 1 station that has not come.');
   await page.press('ArrowLeft');
   await pick('kind', 'left');
   const left = `document.querySelector('#events [data-index="0"]')`;
   assert.equal(await page.value(`getComputedStyle(${left}).flexDirection`), 'row');
   await page.click('#events [data-index="0"]');
-  assert.deepEqual(await away(), [6, 7]);
+  assert.deepEqual(await away(), [6]);
   assert.equal(await count('.station.active'), 1);
   noFault();
 });
@@ -582,12 +595,100 @@ test('marks of warnings lead to them; the load stands under the slider', async (
   await page.choose(samples.LOSS);
   await page.until('document.getElementById("load").textContent.startsWith("All")');
   assert.equal(await count('.mark'), 3);
+  assert.equal(await page.value('geostation.app.state.send'), 0);
   await page.click('.mark:nth-child(2)');
   assert.match(await text('#present'), /^Event 55, 3000 ms,/);
+  // The warning of the mark is selected: its row, its figures and its path.
+  assert.equal(await page.value('geostation.app.state.send'), 1);
+  assert.equal(await page.value('geostation.app.state.chosen.event'), 55);
+  assert.match(await text('#sends .row[aria-selected="true"]'), /^3000/);
+  assert.match(await text('.row.step.sent'), /^station \d+sent it/);
+  const axis = await page.value('geostation.app.strip.ticks');
+  assert.ok(axis.length >= 3 && axis.every(({text}) => / s$/.test(text)), JSON.stringify(axis));
   assert.equal(await text('#load'), 'All · 10 frames/s · channel busy 0.00 % (median), ' +
     '0.18 % (most) · 1.5 duplicates per delivery · largest location table 3');
   await page.click('.station[data-station="0"]');
   assert.match(await text('#load'), /^Station 0 · 10 frames\/s · channel busy 0\.18 % · /);
+  noFault();
+});
+
+test('stations have one name everywhere, and names lie apart', async () => {
+  const lines = samples.four().trimEnd().split('\n');
+  const made = ['v7', '3'].map((id, i) =>
+    ({station: 4 + i, id, address: `140002010000000${1 + i}`, lat: 36000, lon: 6000 * (i + 1)}));
+  const moves = made.map(({station, lat, lon}, i) =>
+    ({event: 8 + i, moment: 2000, station, do: 'move', lat, lon, result: 'moved'}));
+  const notes = made.map(({station}) => ({note: 'came', moment: 2000, station}));
+  const more = made.flatMap((_, i) => [made[i], moves[i], notes[i]]);
+  const file = path.join(room, 'ids.jsonl');
+  fs.writeFileSync(file, [...lines, ...more.map((line) => JSON.stringify(line))].join('\n'));
+  await show(file);
+  const named = () => page.value(`[...document.querySelectorAll('.labels text')]
+    .filter(({style}) => style.display !== 'none').map(({textContent}) => textContent).sort()`);
+  // Neither vehicle has come: the number 3 belongs to a vehicle, so station 3 has a sign.
+  assert.deepEqual(await named(), ['#3', '0', '1', '2']);
+  assert.equal(await count('.station'), 4);
+  await page.press('End');
+  assert.match(await text('#present'), /station 3: came/);
+  assert.equal(await count('.station'), 6);
+  assert.ok((await named()).includes('v7'));
+  const overlaps = await page.value(`(() => {
+    const boxes = [...document.querySelectorAll('.labels text')]
+      .filter(({style}) => style.display !== 'none').map((text) => text.getBoundingClientRect());
+    return boxes.flatMap((a, i) => boxes.slice(i + 1).filter((b) => a.left < b.right - 1 &&
+      b.left < a.right - 1 && a.top < b.bottom - 4 && b.top < a.bottom - 4)).length;
+  })()`);
+  assert.equal(overlaps, 0);
+  // The name in the field is that of the map, and typing it chooses the station.
+  await page.click('.station[data-station="4"]');
+  assert.equal(await page.value('document.getElementById("station").value'), 'v7');
+  assert.match(await text('.station[data-station="4"] title'), /^station v7, 1400/);
+  const type = (name) => page.value(`(() => {
+    const field = document.getElementById('station');
+    field.value = ${JSON.stringify(name)};
+    field.dispatchEvent(new Event('input'));
+    return geostation.app.state.station;
+  })()`);
+  assert.deepEqual([await type('3'), await type('#3'), await type('4'), await type('v')],
+    [5, 3, undefined, undefined]);
+  noFault();
+});
+
+test('a box for each kind of arc hides and shows it', async () => {
+  await show(FOUR);
+  await page.press('End');
+  const arcs = () => page.value(`Object.fromEntries(['accepted', 'duplicate', 'other'].map((kind) =>
+    [kind, geostation.app.map.scene.links.filter((link) => link.kind === kind).length]))`);
+  assert.deepEqual(await arcs(), {accepted: 3, duplicate: 2, other: 1});
+  await page.click('[data-arc="ignored"]');
+  assert.deepEqual(await arcs(), {accepted: 3, duplicate: 0, other: 0});
+  assert.equal(await text('#unseen'), '');
+  await page.click('[data-arc="accepted"]');
+  assert.equal(await count('g.link'), 0);
+  await page.click('[data-arc="ignored"]');
+  assert.deepEqual(await arcs(), {accepted: 0, duplicate: 2, other: 1});
+  await page.click('#sends [data-index="0"]');
+  assert.deepEqual(await arcs(), {accepted: 0, duplicate: 2, other: 1});
+  await page.click('[data-arc="accepted"]');
+  const saved = await page.value('geostation.saving.textOf(geostation.app.map, "")');
+  assert.match(saved, />first copy</);
+  await page.click('[data-arc="accepted"]');
+  assert.doesNotMatch(await page.value('geostation.saving.textOf(geostation.app.map, "")'),
+    />first copy</);
+  noFault();
+});
+
+test('the saved map waits for a street net that is still being read', async () => {
+  await show(FOUR);
+  const saved = await page.value(`new Promise((done) => {
+    HTMLAnchorElement.prototype.click = async function () {
+      done(await (await fetch(this.href)).text());
+    };
+    geostation.app.open(new File(['{"type":"LineString","coordinates":[[0,0],[0,0.001]]}'],
+      'a.geojson'), 'a.geojson');
+    document.getElementById('save').click();
+  })`);
+  assert.match(saved, /stroke="#d5dde6"/);
   noFault();
 });
 
@@ -639,8 +740,8 @@ test('a name with markup in it is text', async () => {
   await show(file);
   await page.press('End');
   assert.ok((await text('#present')).includes(id));
-  assert.equal(await page.value('[...document.querySelectorAll(".place-name")].at(-1).textContent'),
-    id);
+  const labels = '[...document.querySelectorAll(".place-name")].map((label) => label.textContent)';
+  assert.ok((await page.value(labels)).includes(id));
   assert.equal(await page.value('typeof globalThis.hurt'), 'undefined');
   assert.equal(await page.value('document.querySelectorAll("main script, main img").length'), 0);
   noFault();
@@ -654,7 +755,7 @@ test('10,000 stations and a million events: painted, and what is not is said', a
   const opened = Date.now() - started;
   assert.match(await text('#totals'), /^10,000 stations · 1,000,000 events/);
   assert.equal(await count('.station'), 0);
-  assert.match(await text('#unseen'), /^Not drawn: .*the numbers and trails of 10,000 stations\.$/);
+  assert.match(await text('#unseen'), /^Not drawn: .*the names and trails of 10,000 stations\.$/);
   assert.ok(await page.value(`(() => {
     const canvas = document.getElementById('canvas');
     const {data} = canvas.getContext('2d').getImageData(0, 0, canvas.width, canvas.height);
@@ -875,6 +976,6 @@ for (const [name, width, height] of SIZES) {
 }
 
 test('the page asks for nothing but its own files', () => {
-  const own = /^(file:|data:|http:\/\/127\.0\.0\.1:)/;
+  const own = /^(file:|data:|blob:|http:\/\/127\.0\.0\.1:)/;
   assert.deepEqual(page.requests.filter((url) => !own.test(url)), []);
 });

@@ -298,3 +298,66 @@ test('the page takes nothing from elsewhere and puts no data in as markup', () =
     if (name.endsWith('.js')) assert.match(text, /^\/\/! [A-Z]/, name);
   }
 });
+
+test('names lie apart from each other and from the marks of others', () => {
+  const {placed, overlap} = geostation.names;
+  let state = 7;
+  const draw = (below) => {
+    state = (state * 48271) % 2147483647;
+    return state % below;
+  };
+  const items = Array.from({length: 60}, (_, station) => ({station, text: `v${station}`,
+    x: draw(300), y: draw(300), radius: 8, role: station === 0 ? 'sender' : ''}));
+  const found = placed(items);
+  assert.ok(found.size > 20 && found.size < 60, `${found.size}`);
+  assert.ok(found.has(0));
+  const boxes = [...found].map(([station, {box}]) => ({station, box}));
+  for (const {station, box} of boxes) {
+    assert.ok(boxes.every((other) => other.station === station || !overlap(box, other.box)));
+    const others = items.filter((item) => item.station !== station);
+    assert.ok(others.every(({x, y}) =>
+      !overlap(box, {left: x - 8, right: x + 8, top: y - 8, bottom: y + 8})));
+  }
+});
+
+test('a name stands in its mark if it fits there, and the sender has room first', () => {
+  const {placed} = geostation.names;
+  const at = (station, text, x, role = '') => ({station, text, x, y: 50, radius: 8, role});
+  const [short, long] = [placed([at(0, '42', 50)]), placed([at(0, 'lorry', 50)])];
+  assert.deepEqual([short.get(0).isInside, short.get(0).x], [true, 50]);
+  assert.equal(long.get(0).isInside, false);
+  assert.ok(long.get(0).y < 50 - 8);
+  // Nine stations at one place: there is no room for all, whoever comes first.
+  const crowd = Array.from({length: 9}, (_, i) => at(i, 'vehicle', 50, i === 8 ? 'sender' : ''));
+  assert.ok(placed(crowd).has(8));
+  assert.ok(placed(crowd).size < 9);
+});
+
+test('a station that has not come has not left', async () => {
+  const run = await read('{"stations":[]}\n', ['a', 'b'].map((id, station) =>
+    JSON.stringify({station, id, address: `140002010000000${station + 1}`, lat: 0, lon: 0}) + '\n' +
+    JSON.stringify({event: station, moment: station, station, do: 'move', lat: 0, lon: 0,
+      result: 'moved'}) + '\n' +
+    JSON.stringify({note: 'came', moment: station, station}) + '\n').join(''),
+  '{"note":"left","moment":9,"station":0}\n');
+  const states = (station) => [[0, 0], [1, 0], [2, 1], [3, 1]].map(([noted, at]) =>
+    run.presence.stateOf(station, noted, at));
+  assert.deepEqual(states(0), ['expected', 'there', 'there', 'left']);
+  assert.deepEqual(states(1), ['expected', 'expected', 'there', 'there']);
+  assert.deepEqual([run.find('b'), run.find('1'), run.find('c')], [1, undefined, undefined]);
+});
+
+test('the axis has round times, as many as there is room for', () => {
+  const {ticks, speed} = geostation.clock;
+  const texts = (times, choice, most) =>
+    ticks(Float64Array.from(times), speed(choice), most).map(({text}) => text);
+  assert.deepEqual(texts([0, 30000], 'x1', 6), ['0 s', '5 s', '10 s', '15 s', '20 s', '25 s', '30 s']);
+  assert.deepEqual(texts([1900, 2600], 'x1', 4), ['2.0 s', '2.2 s', '2.4 s', '2.6 s']);
+  assert.deepEqual(texts([2000, 2004], 'x1', 9), ['2.000 s', '2.001 s', '2.002 s', '2.003 s', '2.004 s']);
+  assert.deepEqual(texts([0, 7200000], 'x10', 4), ['0 s', '2000 s', '4000 s', '6000 s']);
+  assert.deepEqual(texts([5], 'x1', 9), []);
+  const parts = ticks(Float64Array.of(0, 30000), speed('x1'), 3).map(({part}) => part);
+  assert.deepEqual(parts.map((part) => part.toFixed(2)), ['0.00', '0.33', '0.67', '1.00']);
+  // By events each event has as much room as the next, whatever its time.
+  assert.deepEqual(texts([0, 1000, 1001, 1002, 1003], '8', 3), ['0.000 s', '1.001 s', '1.003 s']);
+});

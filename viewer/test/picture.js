@@ -23,7 +23,7 @@ async function openSample(page) {
 
 /** The picture of the documents: as wide as their text, down to the stations not reached. */
 async function takeRun(page, file) {
-  await page.look(900, 660, false);
+  await page.look(900, 684, false);
   await openSample(page);
   const height = await page.value(
     'document.getElementById("missed-box").getBoundingClientRect().bottom + scrollY');

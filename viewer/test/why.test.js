@@ -93,7 +93,7 @@ test('without notes the range of the air tells what was lost', async () => {
   const reasons = async (keys) => missed(await run(4, lines, {air: {...air, ...keys}}));
   assert.deepEqual(await reasons({}), [[1, 'lost'], [2, 'lost'], [3, 'unheard']]);
   assert.deepEqual((await reasons({until: 10})).map(([, word]) => word),
-    ['unheard', 'unheard', 'unheard']);
+    ['cut', 'cut', 'cut']);
   assert.deepEqual((await reasons({until: 11}))[0], [1, 'lost']);
   assert.deepEqual((await reasons({until: null})).map(([, word]) => word),
     ['lost', 'lost', 'unheard']);
@@ -242,7 +242,7 @@ test('lost copies are arcs of the map, from the giver to who lost them', async (
     path: way.path(found, way.tree(found, followed.sends[2]))},
   {links: 5, circles: 3, isRange: true});
   assert.equal(few.links.length, 5);
-  assert.match(few.unseen.join('; '), /^\d+ of \d+ frames; 9 circles$/);
+  assert.match(few.unseen.join('; '), /^\d+ of \d+ arcs; 9 circles$/);
 });
 
 /** What the page shows of the hundred vehicles once their warning has ended. */
@@ -267,7 +267,7 @@ test('of more frames than there is room for, those along the path are drawn, abo
     assert.deepEqual([...accepted].sort((a, b) => a - b),
       [...Array(100).keys()].filter((i) => i !== 50));
     assert.ok(links.slice(-99).every(({kind}) => kind === 'accepted'));
-    assert.match(unseen.join(), /^1,054 of 1,454 frames$/);
+    assert.match(unseen.join(), /^1,054 of 1,454 arcs$/);
     // The latest of the others have the rest of the room, in the order of the run.
     const others = links.slice(0, 301).map(({event}) => event);
     assert.deepEqual(others, [...state.deliveries].filter((event) =>
@@ -289,3 +289,21 @@ test('of a path with more frames than there is room for, those that were forward
       state.run.events.station.values[event]));
     assert.ok(links.every(({from}) => from === 50 || ends.has(from)));
   });
+
+test('a warning whose deliveries come after the end of the run was cut, and not unheard', async () => {
+  const lines = samples.four().trimEnd().split('\n');
+  const stations = JSON.parse(lines[0]);
+  const air = {range: 500, delay: 1, loss: 0, seed: 0, beacons: false, until: 1001};
+  // The run ends at 1001 ms: what station 1 forwards then reaches station 2 at 1002 ms no more.
+  const early = lines.slice(1).filter((line) => JSON.parse(line).moment <= 1001);
+  const run = await read([JSON.stringify({...stations, air}), ...early, ''].join('\n'));
+  const [send] = way.follow(run).sends;
+  const {missed} = why.judge(run, send);
+  assert.deepEqual(missed.map(({station, reason}) => [station, reason]), [[3, 'cut']]);
+  assert.match(reason.sentence(run, send, missed[0]), /the run ended before them\.$/);
+  // With a later end nothing is under way when it comes.
+  const whole = {...air, until: 5000};
+  const later = await read([JSON.stringify({...stations, air: whole}), ...early, ''].join('\n'));
+  const [other] = way.follow(later).sends;
+  assert.deepEqual(why.judge(later, other).missed.map((miss) => miss.reason), ['unheard']);
+});

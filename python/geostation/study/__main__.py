@@ -69,45 +69,7 @@ def _part(text: str) -> Tuple[int, int]:
 def _parser() -> argparse.ArgumentParser:
     parser = _Parser(prog=_NAME, description="Studies over `geostation sim`.")
     commands = parser.add_subparsers(dest="command", required=True, parser_class=_Parser)
-
-    sweep = commands.add_parser("sweep", help="run a scenario over parameters and seeds")
-    sweep.add_argument(
-        "scenario",
-        metavar="SCENARIO",
-        nargs="+",
-        help="a scenario with [air]. Several are the values of the parameter scenario",
-    )
-    sweep.add_argument(
-        "--moves",
-        metavar="FILE",
-        action="append",
-        help="traces: CSV, SUMO's FCD as XML, or gzip. Several are the values of the parameter moves",
-    )
-    _add_pairs(sweep, "--set", "values of a parameter: a key of [air], penetration or a path")
-    sweep.add_argument(
-        "--tie",
-        metavar="KEY,KEY..",
-        type=lambda text: text.split(","),
-        action="append",
-        default=[],
-        help="parameters that change together",
-    )
-    sweep.add_argument(
-        "--seeds", metavar="N", type=_seeds, default=1, help="N, A-B or A,B,C [default: 1]"
-    )
-    sweep.add_argument("--out", metavar="DIR", required=True, help="folder of the results")
-    sweep.add_argument("--jobs", metavar="N", type=int, help="processes [default: processors]")
-    sweep.add_argument("--force", action="store_true", help="do all runs again")
-    sweep.add_argument("--strict", action="store_true", help="status 1 if a run has warnings")
-    sweep.add_argument(
-        "--part",
-        metavar="I/N",
-        type=_part,
-        default=(0, 1),
-        help="do each Nth run, beginning with run I, from 0",
-    )
-    sweep.add_argument("--program", metavar="PATH", help="the program [default: geostation]")
-    sweep.add_argument("-q", "--quiet", action="store_true", help="show no progress")
+    _add_sweep(commands.add_parser("sweep", help="run a scenario over parameters and seeds"))
 
     table = commands.add_parser("table", help="print the results as CSV")
     _add_results(table)
@@ -129,6 +91,40 @@ def _parser() -> argparse.ArgumentParser:
     fcd.add_argument("--seed", metavar="N", type=int, default=1, help="selects them [default: 1]")
     fcd.add_argument("--keep", metavar="ID", action="append", help="a vehicle that always has one")
     return parser
+
+
+def _add_sweep(sweep: argparse.ArgumentParser) -> None:
+    """Adds the arguments of `sweep`."""
+    scenarios = "a scenario with [air]. Several are the values of the parameter scenario"
+    sweep.add_argument("scenario", metavar="SCENARIO", nargs="+", help=scenarios)
+    traces = "traces: CSV, SUMO's FCD as XML, or gzip. Several are the values of the parameter moves"
+    sweep.add_argument("--moves", metavar="FILE", action="append", help=traces)
+    _add_pairs(sweep, "--set", "values of a parameter: a key of [air], penetration or a path")
+    ties: List[List[str]] = []
+    sweep.add_argument(
+        "--tie",
+        metavar="KEY,KEY..",
+        type=lambda text: text.split(","),
+        action="append",
+        default=ties,
+        help="parameters that change together",
+    )
+    sweep.add_argument(
+        "--seeds", metavar="N", type=_seeds, default=1, help="N, A-B or A,B,C [default: 1]"
+    )
+    sweep.add_argument("--out", metavar="DIR", required=True, help="folder of the results")
+    sweep.add_argument("--jobs", metavar="N", type=int, help="processes [default: processors]")
+    sweep.add_argument("--force", action="store_true", help="do all runs again")
+    sweep.add_argument("--strict", action="store_true", help="status 1 if a run has warnings")
+    sweep.add_argument(
+        "--part",
+        metavar="I/N",
+        type=_part,
+        default=(0, 1),
+        help="do each Nth run, beginning with run I, from 0",
+    )
+    sweep.add_argument("--program", metavar="PATH", help="the program [default: geostation]")
+    sweep.add_argument("-q", "--quiet", action="store_true", help="show no progress")
 
 
 def _add_pairs(parser: argparse.ArgumentParser, name: str, help: str) -> None:

@@ -278,7 +278,8 @@ class _Plan:
             if PENETRATION in point:
                 share, seed = float(point[PENETRATION]), int(point[SEED])
                 feed, moves = Feed(read.path, share, seed, always), ["--moves", "-"]
-        words = ["--explain", "--summary", "--json", *_FILES_OF_A_RUN, *moves, *sets]
+        # Without notices, so that each line on standard error is an error or a warning.
+        words = ["--quiet", "--explain", "--summary", "--json", *_FILES_OF_A_RUN, *moves, *sets]
         key = {
             "form": _FORM,
             "program": [program.version, program.sha256],
