@@ -93,7 +93,7 @@ impl<'s, 'a, 'o, L: EventSink + RunLines + Drop, F: Write + Drop, E: ProgressWri
         self.lines.begin(course)?;
         match run_timeline(alloc, course, self) {
             Ok(_) => {
-                self.finish(alloc, course)?;
+                end_whole(alloc, course, &mut self.report, &mut self.lines, format)?;
                 Ok(self.status(strict))
             }
             Err(fault) => {
@@ -103,18 +103,6 @@ impl<'s, 'a, 'o, L: EventSink + RunLines + Drop, F: Write + Drop, E: ProgressWri
                 Err(fault)
             }
         }
-    }
-
-    /// Takes the end of a run that went to its last event, and prints its summary.
-    fn finish<M: BufRead + Drop>(
-        &mut self,
-        alloc: Global,
-        course: &Course<'_, '_, M>,
-    ) -> Result<(), SimulationFault>
-        ensures { self.new.all_done ≡ self.old.all_done }
-    {
-        self.report.finish(course.moves.as_ref())?;
-        self.lines.end(alloc, &self.report, self.format, true)
     }
 
     /// How a command ends whose run went to its last event: `Refused` if it is strict and an event
@@ -224,6 +212,18 @@ impl<L: EventSink, F: Write + Drop, E: ProgressWriter> EventSink for RunSinks<'_
             _ => Ok(()),
         }
     }
+}
+
+/// Takes the end of a run that went to its last event, and prints what comes after its lines.
+fn end_whole<L: RunLines, M: BufRead + Drop>(
+    alloc: Global,
+    course: &Course<'_, '_, M>,
+    report: &mut Report<'_>,
+    lines: &mut L,
+    format: OutputFormat,
+) -> Result<(), SimulationFault> {
+    report.finish(course.moves.as_ref())?;
+    lines.end(alloc, report, format, true)
 }
 
 /// Whether an event was refused.

@@ -1,5 +1,6 @@
 //! What is doubtful about a run.
 
+use cmd_quoting::OneLine;
 use std::fmt;
 
 /// A sign that a run isn't what its author meant, of a mistake that changes numbers and that nothing
@@ -116,7 +117,8 @@ impl fmt::Display for Doubt {
             Doubt::SameTime { rows, id, at } => write!(
                 f,
                 "moves: {rows} rows have the id and the time of another one, \
-                the first is '{id}' at {at} ms: keep one of them"
+                the first is '{}' at {at} ms: keep one of them",
+                OneLine(id.as_str())
             ),
             Doubt::CoarsePositions { rows } => write!(
                 f,

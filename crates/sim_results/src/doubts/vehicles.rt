@@ -43,7 +43,8 @@ pub(crate) struct VehicleWatch {
     /// How many stations are the scenario's own. Those of vehicles have the numbers after them.
     own: usize,
     vehicles: Vec<Vehicle>,
-    /// The times at which an event of the scenario moves a station. No row is counted then.
+    /// The times at which an event of the scenario moves a station. Rows of these times are not
+    /// counted.
     moved: Vec<u64>,
     rows: usize,
     /// The time of the first row.
@@ -92,13 +93,13 @@ impl VehicleWatch {
         let Some(vehicle) = self.vehicles.get_mut(number) else {
             return;
         };
+        let last = vehicle.last;
+        vehicle.last = Some(moment);
+        self.first = self.first.or(Some(moment));
         if self.moved.as_slice().contains(&moment) {
             return;
         }
-        let last = vehicle.last;
-        vehicle.last = Some(moment);
         self.rows = self.rows.saturating_add(1);
-        self.first = self.first.or(Some(moment));
         self.are_coarse &= is_coarse(place);
         if let Some(last) = last {
             self.take_step(number, moment, moment.saturating_sub(last));

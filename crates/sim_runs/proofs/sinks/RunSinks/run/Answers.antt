@@ -6,7 +6,7 @@ use Rattle.its_world.specs.Entries.{was_done}
 use Rattle.sim_runs.specs.Runs.{run_status}
 use Rattle.sim_runs.proofs.Following.{run_follows}
 use Rattle.sim_runs.proofs.sinks.RunSinks.run.Goals as goal
-use Rattle.sim_runs.proofs.sinks.RunSinks.run.Goals.{in-Ok+in_ok-end-in-Ok}
+use Rattle.sim_runs.proofs.sinks.RunSinks.run.Goals.{in-Ok+in_ok-end_whole-in-Ok}
 use Rattle.sim_runs.proofs.sinks.RunSinks.run.Goals.{in-Err+then-is_cut_short+in_ok-end-in-Err}
 use Rattle.sim_runs.proofs.sinks.RunSinks.run.Goals.{in-Err+else-is_cut_short}
 
@@ -17,7 +17,7 @@ returns g c =
     let start : c.args.self.now.all_done ≡ list_all was_done [] = search rules in
     record {
       ends = elim c.match-run_timeline.branch [
-        | in-Ok+in_ok-end-in-Ok w ↦ rw w.result-is (
+        | in-Ok+in_ok-end_whole-in-Ok w ↦ rw w.result-is (
           w.status.ensures.command,
           (
             w.in-Ok.field-0,
