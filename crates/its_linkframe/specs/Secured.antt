@@ -90,6 +90,11 @@ pub record EncodesVerified (v : Verified) (w plain : List ℕ) : Type 0 where
   pub secured : EncodesSecured (sealed v.frame v.message) w
   pub packet : Encodes v.frame.pdu v.frame.hops_left (inner_octets (basic_on_air v.frame) plain)
 
+-- the octets are a secured frame, which with the plain part is a packet
+pub record IsVerified (w plain : List ℕ) : Type 0 where
+  pub verified : Verified
+  pub encodes : EncodesVerified verified w plain
+
 -- the first fault of octets that came with a plain part: of the secured frame, or else of the plain
 -- part
 abbrev pub IsVerifiedFault : List ℕ → List ℕ → SecuredFault → Type 0

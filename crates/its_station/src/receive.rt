@@ -14,7 +14,7 @@ ghost use Rattle.its_model.specs.Station.{moment_refusal};
 ghost use Rattle.its_model.specs.Station.{handing, relayed};
 ghost use Rattle.its_headers.specs.Encoding.{payload_of};
 ghost use Rattle.its_linkframe.specs.Frames.{EncodesFrame, IsFrame, transmission_of};
-ghost use Rattle.its_linkframe.specs.Secured.{Verified, EncodesVerified};
+ghost use Rattle.its_linkframe.specs.Secured.{Verified, EncodesVerified, IsVerified};
 ghost use Rattle.its_loctable.specs.Content.{Represents};
 ghost use Rattle.its_loctable.specs.Found.{Admits, IsIndexOf, verdict_of};
 ghost use Rattle.its_loctable.specs.Heard.{reception, verdict_at};
@@ -80,6 +80,9 @@ impl<S: LocationStore> Station<S> {
         ensures step { (call : Call) × IsFrameCall frame.now call
             × ((s : StationModel) → RepresentsStation self.old s →
             IsStepOf Tells result self.new (station_step s now call)) }
+        ensures memory { (s : StationModel) (t : Transmission) → RepresentsStation self.old s →
+            EncodesFrame t frame.now → result ≡ Err Refused.NoMemory →
+            (verdict s now t ≡ station.Verdict.Accept) × TakesMemory s now t }
         ensures unchanged { OnErr result (self.new ≡ self.old) }
         ensures payload { IfOk result (DeliversEndOf frame.now) }
         ensures short { IfOk result (Fits 1394) }
@@ -175,6 +178,7 @@ impl<S: LocationStore> Station<S> {
         ensures memory { (s : StationModel) (v : Verified) → RepresentsStation self.old s →
             EncodesVerified v frame.now plain.now → result ≡ Err Refused.NoMemory →
             (verdict s now v.frame ≡ station.Verdict.Accept) × TakesMemory s now v.frame }
+        ensures junk { result ≡ Err Refused.NoMemory → IsVerified frame.now plain.now }
         ensures unchanged { OnErr result (self.new ≡ self.old) }
         ensures payload { IfOk result (DeliversEndOf plain.now) }
         ensures short { IfOk result (Fits 1394) }
