@@ -27,9 +27,9 @@ namespace geostation {
 /// Reads vehicles from CSV, in the columns `at,id,lat,lon` (ms and 0.1 microdegree) or in those
 /// that SUMO's `xml2csv.py` writes for `--fcd-output.geo`. Fields are not quoted.
 ///
-/// The attribute `Interpolate` says where a vehicle is between two rows: on the straight line between
-/// them, or at the position of the first one, as in `sim`. It is read when a helper is made. So set it
-/// before, by `Config::SetDefault` or on the command line.
+/// The attribute `Interpolate` says where a vehicle is between two rows: on the straight line
+/// between them, or at the position of the first one, as in `sim`. It is read when a helper is made.
+/// So set it before, by `Config::SetDefault` or on the command line.
 class MovesHelper : public ns3::ObjectBase {
   public:
     /// A vehicle is there from its first row until `gone` after its last row. Without `Interpolate`
@@ -145,7 +145,8 @@ class MovesHelper : public ns3::ObjectBase {
                 nodes_.Add(node);
                 vehicles_.push_back({row[id], moment, moment});
             }
-            vehicles_[entry->second].to = moment + gone - (interpolates_ ? ns3::Time(0) : Instant());
+            const auto early = interpolates_ ? ns3::Time(0) : Instant();
+            vehicles_[entry->second].to = moment + gone - early;
             AddRow(nodes_.Get(entry->second), moment, plane_.ToPoint(place));
         }
     }

@@ -44,7 +44,8 @@
 
   /** Whether what is given at an event would come when the run is over. */
   function isPastEnd({air, events}, event) {
-    return Boolean(air) && air.until !== null && events.moment.values[event] + air.delay > air.until;
+    if (!air || air.until === null) return false;
+    return events.moment.values[event] + air.delay > air.until;
   }
 
   const heard = new WeakMap();

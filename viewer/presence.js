@@ -37,8 +37,8 @@
     }
 
     /**
-     * Whether a station is present, has left, or has not come until then. The arguments are those of
-     * `isThere`.
+     * Whether a station is present, has left, or has not come until then. The arguments are those
+     * of `isThere`.
      * @returns {'there' | 'left' | 'expected'}
      */
     stateOf(station, noted, at) {

@@ -116,8 +116,8 @@
     }
 
     /**
-     * The name that a station is shown by everywhere: its id, or otherwise its number. A number that
-     * is the id of another station has a sign in front.
+     * The name that a station is shown by everywhere: its id, or otherwise its number. A number
+     * that is the id of another station has a sign in front.
      * @param {number} station
      */
     name(station) {
@@ -127,7 +127,8 @@
 
     /** The station of a name. @param {string} name @returns {number | undefined} */
     find(name) {
-      const station = this.ids.get(name) ?? (/^#?\d+$/.test(name) ? Number(name.replace('#', '')) : -1);
+      const number = /^#?(\d+)$/.exec(name)?.[1];
+      const station = this.ids.get(name) ?? Number(number ?? -1);
       return this.stations[station] && this.name(station) === name ? station : undefined;
     }
   }

@@ -1,5 +1,5 @@
-//! The map as a file: SVG with its looks in it, so that other programs draw it as the page does. Below
-//! the map it has a caption and the legend.
+//! The map as a file: SVG with its looks in it, so that other programs draw it as the page does.
+//! Below the map it has a caption and the legend.
 
 (function (geostation) {
   'use strict';

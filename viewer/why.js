@@ -181,7 +181,8 @@
       hearing.isPastEnd(run, run.frames.giver.values[frame]));
     return late.some((frame) => {
       const event = run.frames.giver.values[frame];
-      const lost = new Set(Array.from(run.lost.of(frame), (note) => run.notes.station.values[note]));
+      const stations = run.notes.station.values;
+      const lost = new Set(Array.from(run.lost.of(frame), (note) => stations[note]));
       return run.stations.some((_, station) =>
         !lost.has(station) && hearing.isNear(run, station, event));
     });

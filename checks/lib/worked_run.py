@@ -2,8 +2,8 @@
 
     python3 checks/lib/worked_run.py
 
-The generator has to give the vector that its authors published, the page has to have its state and its
-numbers for seed 0, and the run of the page has to draw these numbers and to have these lines.
+The generator has to give the vector that its authors published, the page has to have its state and
+its numbers for seed 0, and the run of the page has to draw these numbers and to have these lines.
 `checks/cases` compares the same lines with the program.
 """
 

@@ -1,6 +1,6 @@
-// Prints where the vehicles of a file are: `moves FILE BEGIN UNTIL STEP` (ms), with the attributes of
-// MovesHelper. A line is `MS ID LAT LON`, in 0.1 microdegree, each STEP ms for each vehicle that is
-// there.
+// Prints where the vehicles of a file are: `moves FILE BEGIN UNTIL STEP` (ms), with the attributes
+// of MovesHelper. A line is `MS ID LAT LON`, in 0.1 microdegree, each STEP ms for each vehicle that
+// is there.
 #include "geostation-ns3-moves.hpp"
 
 #include "ns3/command-line.h"

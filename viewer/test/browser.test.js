@@ -337,7 +337,8 @@ test('the map is saved as SVG, with its looks in it', async () => {
     document.getElementById('save').click();
   })`);
   assert.equal(file[0], 'comers.jsonl.svg');
-  assert.ok(file[1].includes('>comers.jsonl · at 2004 ms · warning of station 0, sent at 2000 ms<'));
+  const caption = 'comers.jsonl · at 2004 ms · warning of station 0, sent at 2000 ms';
+  assert.ok(file[1].includes(`>${caption}<`));
   noFault();
 });
 
@@ -480,7 +481,8 @@ test('stations that come and leave: drawn faint while they are away, told by not
   await show(samples.COMERS);
   assert.equal(await page.value('document.getElementById("away").hidden'), false);
   const away = () => page.value(`[...document.querySelectorAll('.station.away')]
-    .filter((dot) => dot.style.display !== 'none').map((dot) => Number(dot.dataset.station)).sort()`);
+    .filter(({style}) => style.display !== 'none').map(({dataset}) => Number(dataset.station))
+    .sort()`);
   // Stations 5 and 7 have not come yet: they have no mark.
   assert.deepEqual(await away(), []);
   assert.equal(await text('#unseen'), 'Not drawn: 2 stations that have not come.');

@@ -351,9 +351,11 @@ test('the axis has round times, as many as there is room for', () => {
   const {ticks, speed} = geostation.clock;
   const texts = (times, choice, most) =>
     ticks(Float64Array.from(times), speed(choice), most).map(({text}) => text);
-  assert.deepEqual(texts([0, 30000], 'x1', 6), ['0 s', '5 s', '10 s', '15 s', '20 s', '25 s', '30 s']);
+  assert.deepEqual(texts([0, 30000], 'x1', 6),
+    ['0 s', '5 s', '10 s', '15 s', '20 s', '25 s', '30 s']);
   assert.deepEqual(texts([1900, 2600], 'x1', 4), ['2.0 s', '2.2 s', '2.4 s', '2.6 s']);
-  assert.deepEqual(texts([2000, 2004], 'x1', 9), ['2.000 s', '2.001 s', '2.002 s', '2.003 s', '2.004 s']);
+  assert.deepEqual(texts([2000, 2004], 'x1', 9),
+    ['2.000 s', '2.001 s', '2.002 s', '2.003 s', '2.004 s']);
   assert.deepEqual(texts([0, 7200000], 'x10', 4), ['0 s', '2000 s', '4000 s', '6000 s']);
   assert.deepEqual(texts([5], 'x1', 9), []);
   const parts = ticks(Float64Array.of(0, 30000), speed('x1'), 3).map(({part}) => part);

@@ -290,7 +290,7 @@ test('of a path with more frames than there is room for, those that were forward
     assert.ok(links.every(({from}) => from === 50 || ends.has(from)));
   });
 
-test('a warning whose deliveries come after the end of the run was cut, and not unheard', async () => {
+test('deliveries that come after the end of the run were cut, and not unheard', async () => {
   const lines = samples.four().trimEnd().split('\n');
   const stations = JSON.parse(lines[0]);
   const air = {range: 500, delay: 1, loss: 0, seed: 0, beacons: false, until: 1001};

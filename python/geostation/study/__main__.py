@@ -95,9 +95,9 @@ def _parser() -> argparse.ArgumentParser:
 
 def _add_sweep(sweep: argparse.ArgumentParser) -> None:
     """Adds the arguments of `sweep`."""
-    scenarios = "a scenario with [air]. Several are the values of the parameter scenario"
+    scenarios = "a scenario with [air]. Several are values of the parameter scenario"
     sweep.add_argument("scenario", metavar="SCENARIO", nargs="+", help=scenarios)
-    traces = "traces: CSV, SUMO's FCD as XML, or gzip. Several are the values of the parameter moves"
+    traces = "traces: CSV, SUMO's FCD as XML, or gzip. Several are values of the parameter moves"
     sweep.add_argument("--moves", metavar="FILE", action="append", help=traces)
     _add_pairs(sweep, "--set", "values of a parameter: a key of [air], penetration or a path")
     ties: List[List[str]] = []

@@ -106,8 +106,8 @@ def _is_number(value: Any) -> bool:
 
 
 def _draw_line(axes: Any, rows: List[Row], over: str, places: Dict[Any, float], n: int) -> None:
-    """Draws one line, with its intervals as bars. Rows without a value are skipped. A mark is hollow
-    if a run of its mean has warnings."""
+    """Draws one line, with its intervals as bars. Rows without a value are skipped. A mark is
+    hollow if a run of its mean has warnings."""
     shown = [row for row in rows if row["mean"] is not None]
     x = [places[row[over]] for row in shown]
     below = [0 if row["low"] is None else row["mean"] - row["low"] for row in shown]

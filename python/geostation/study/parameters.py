@@ -74,7 +74,8 @@ def plain(value: Any) -> Value:
 def check_percentage(name: str, value: Value) -> float:
     """Returns a penetration. Raises `StudyError` if it is not a percentage, or is between 0 and 1.
 
-    A value below 1 is nearly always a share. It would equip a few vehicles, and nobody would see it.
+    A value below 1 is nearly always a share. It would equip a few vehicles, and nobody would see
+    it.
     """
     if isinstance(value, (bool, str)) or not 0 <= value <= 100:
         raise StudyError(f"{name}: {value!r} is not a percentage from 0 to 100")

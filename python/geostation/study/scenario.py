@@ -87,7 +87,10 @@ def dumps(document: Mapping[str, Any]) -> str:
 
 
 def _key_of(path: str, place: Any, part: str) -> Any:
-    """Returns the key or index that a part of a path names. Raises `StudyError` if it isn't there."""
+    """Returns the key or index that a part of a path names.
+
+    Raises `StudyError` if it isn't there.
+    """
     if isinstance(place, list):
         if not (part.isascii() and part.isdigit()) or int(part) >= len(place):
             raise StudyError(f"{path}: {part} is not a number from 0 to {len(place) - 1}")
@@ -131,8 +134,8 @@ def _places_in_each(path: str, entries: List[Any], rest: List[str]) -> Iterator[
 
 
 def value_at(document: Mapping[str, Any], path: str) -> Any:
-    """Returns the value at a path such as `event.0.hops`, for `event.*.hops` that of the first event
-    that has one. Raises `StudyError` if it isn't there."""
+    """Returns the value at a path such as `event.0.hops`, for `event.*.hops` that of the first
+    event that has one. Raises `StudyError` if it isn't there."""
     place, key = next(_places(path, document, path.split(".")))
     return place[key]
 
