@@ -1,5 +1,7 @@
 //! Signs that a run isn't what its author meant.
 
+ghost use Rattle.std.specs.Prelude.{◌≡◌, vec_len};
+
 mod bounds;
 mod doubt;
 mod vehicles;
@@ -51,7 +53,7 @@ pub struct Doubts {
     alloc: Global,
     /// Whether the run has a radio model: otherwise nothing is watched.
     is_watching: bool,
-    /// Of each station, whether it is present.
+    /// Whether each station is present, by its number.
     present: Vec<bool>,
     bounds: Bounds,
     warnings: WarningWatch,
@@ -188,7 +190,8 @@ impl Doubts {
         self.find_places(scenario)?;
         if let (Timeline::Moves(timeline), Some(vehicles)) = (&scenario.timeline, &self.vehicles) {
             let warning = first_warning(scenario);
-            vehicles.find(timeline, read.unwrap_or_default(), warning, &mut self.found)?;
+            let (read, are_one) = (read.unwrap_or_default(), self.bounds.are_within(1));
+            vehicles.find(timeline, read, warning, are_one, &mut self.found)?;
         }
         self.find_busy(&scenario.timeline)?;
         self.warnings.find(self.bounds, &mut self.found)
@@ -249,7 +252,12 @@ impl Doubts {
     /// Prints a line for each of the first 20 on standard error, and one with the number of the
     /// others, if there are any. Unknown keys have theirs before the run. A write that fails is
     /// ignored.
-    pub fn report<E: Write>(&self, err: &mut E) {
+    pub fn report<E: Write>(&self, err: &mut E)
+        ensures none { vec_len self.now.found ≡ 0 → err.new ≡ err.old }
+    {
+        if self.found.is_empty() {
+            return;
+        }
         let mut others = 0_usize;
         let mut lines = 0_usize;
         for doubt in &self.found {

@@ -77,7 +77,7 @@ pub enum WarningDoubt {
     /// No station was ever in its area. How many kilometres all were away from its centre at least, if
     /// that is far.
     EmptyArea { away: Option<u64> },
-    /// No other station in its area had its port open.
+    /// No station in its area had its port open, of so many, and not all are the sender.
     ClosedPort { port: u16, stations: usize },
     /// The run ended before so many of its deliveries.
     CutOff { deliveries: usize, end: u64 },

@@ -129,13 +129,14 @@ impl VehicleWatch {
         }
     }
 
-    /// Adds what is doubtful about the rows, of which so much was read. `end` is the last time of
-    /// the run, if one was given, and `warning` the first time at which the scenario warns.
+    /// Adds what is doubtful about the rows, of which so much was read. `warning` is the first time
+    /// at which the scenario warns. `are_one` says whether all stations are always at one point.
     pub(crate) fn find(
         &self,
         timeline: &MovesTimeline,
         read: MovesRead,
         warning: Option<u64>,
+        are_one: bool,
         found: &mut Vec<Doubt>,
     ) -> Result<(), NoMemory> {
         let begin = timeline.moves.begin;
@@ -149,7 +150,7 @@ impl VehicleWatch {
         if let Some(same) = self.same {
             self.find_same(begin, same, found)?;
         }
-        if self.are_coarse && self.rows > 1 {
+        if self.are_coarse && self.rows > 1 && !are_one {
             found.push(Doubt::CoarsePositions { rows: self.rows })?;
         }
         Ok(())

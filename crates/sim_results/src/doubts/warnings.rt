@@ -1,4 +1,4 @@
-//! What becomes of the warnings of a run: the packets for an area.
+//! The warnings of a run, which are its packets for an area, and what is doubtful about them.
 
 use crate::doubts::bounds::Bounds;
 use crate::doubts::doubt::{Doubt, WarningDoubt};
@@ -48,8 +48,10 @@ struct Warning {
     lifetime: Lifetime,
     /// Whether it may take more than one hop.
     is_relayed: bool,
-    /// How many other stations were in its area when it was sent.
-    others: usize,
+    /// How many stations were in its area when it was sent.
+    inside: usize,
+    /// Whether one of them was not the sender.
+    has_others: bool,
     /// Whether one of them had its port open.
     is_open: bool,
     /// Whether a station was in its area since.
@@ -162,7 +164,8 @@ impl WarningWatch {
             port: request.port,
             lifetime: request.lifetime,
             is_relayed: request.max_hops > 1,
-            others: 0,
+            inside: 0,
+            has_others: false,
             is_open: false,
             was_entered: false,
             cut: 0,
@@ -219,10 +222,9 @@ impl Warning {
                 continue;
             }
             self.was_entered = true;
-            if number != sender {
-                self.others = self.others.saturating_add(1);
-                self.is_open |= station.is_open(self.port);
-            }
+            self.inside = self.inside.saturating_add(1);
+            self.has_others |= number != sender;
+            self.is_open |= station.is_open(self.port);
         }
     }
 
@@ -246,8 +248,9 @@ impl Warning {
 
     /// That its port was open nowhere.
     fn port_doubt(&self) -> Option<WarningDoubt> {
-        let (port, stations) = (self.port, self.others);
-        (stations > 0 && !self.is_open).then_some(WarningDoubt::ClosedPort { port, stations })
+        let (port, stations) = (self.port, self.inside);
+        let is_doubtful = self.has_others && !self.is_open;
+        is_doubtful.then_some(WarningDoubt::ClosedPort { port, stations })
     }
 
     /// That the run ended before its deliveries.
