@@ -1,6 +1,6 @@
 //! The walk over the records of a file.
 
-ghost use Rattle.std.specs.Prelude.{◌≡◌, ◌≤◌, ◌<◌, ◌-◌, ◌^◌, Bool, Option, IfOk, IfErr, IsTrue};
+ghost use Rattle.std.specs.Prelude.{◌≡◌, ◌≤◌, ◌<◌, ◌+◌, ◌-◌, ◌^◌, Bool, Option, IfOk, IfErr, IsTrue};
 ghost use Rattle.std.specs.Prelude.{None, Some, true, take};
 ghost use Rattle.cap_records.specs.Choosing.{selects};
 ghost use Rattle.cap_records.specs.declared.choosing.Traits.{Traits};
@@ -237,7 +237,9 @@ impl Walked {
     fn after(self, visited: Visited) -> Walked
         requires { (self.read < 2 ^ 64 - 1) × (self.records ≤ self.read)
             × (self.refused ≤ self.records) }
-        ensures { result ≡ walked_after self visited }
+        ensures counts { result ≡ walked_after self visited }
+        ensures bounds { (result.read ≡ self.read + 1) × (result.records ≤ result.read)
+            × (result.refused ≤ result.records) }
     {
         let (records, refused) = match visited {
             Visited::Passed => (0, 0),

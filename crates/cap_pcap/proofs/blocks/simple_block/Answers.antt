@@ -57,6 +57,7 @@ returns-in_err-end_block-clause-answer g c =
 pub returns-clause-answer : goal.returns-clause-answer
 unfolding simple
 returns-clause-answer g c =
+    rw c.ticks_of_zero.ensures
     (behind-answer _ _ c.in_ok-length.length (Ok _) _ _ _ c.in_ok-length.ensures.answer
     (behind-answer _ _ c.in_ok-interface.interface (Ok _) _ _ _ (first-read _ _ _ c.in_ok-interface.ensures)
     (behind-answer _ _ (c.in_ok-wire.wire, c.in_ok-wire.captured) (Ok _) _ _ _ c.in_ok-wire.ensures.answer
