@@ -7,13 +7,12 @@ mod doubt;
 mod vehicles;
 mod warnings;
 
-pub use doubt::{BeginDoubt, BusyChannel, Doubt, RowsApart, WarningDoubt};
-
 use crate::doubts::bounds::Bounds;
 use crate::doubts::vehicles::VehicleWatch;
 use crate::doubts::warnings::WarningWatch;
 use crate::failed_events::FailedEvents;
 use cap_linklayers::airtime::air_time;
+pub use doubt::{BeginDoubt, BusyChannel, Doubt, RowsApart, WarningDoubt};
 use its_gnvalue::{NoMemory, Place};
 use its_station::OwnedGbcRequest;
 use its_world::{Entry, What, World};
@@ -140,7 +139,8 @@ impl Doubts {
         };
         let event = failed.last_send().unwrap_or(done.number);
         let present = self.present.as_slice();
-        self.warnings.take_send(world, present, done, request, event)
+        self.warnings
+            .take_send(world, present, done, request, event)
     }
 
     /// Takes a note of the run. `NoMemory` if an allocation failed.
@@ -219,7 +219,10 @@ impl Doubts {
         if stations < MANY || !self.warnings.has_relayed() || !self.bounds.are_within(range) {
             return Ok(());
         }
-        Ok(self.found.push(Doubt::InRangeOfOnePoint { stations, range })?)
+        Ok(
+            self.found
+                .push(Doubt::InRangeOfOnePoint { stations, range })?,
+        )
     }
 
     /// Adds the traffic of which one sender fills much of the channel.

@@ -22,9 +22,7 @@ mod unsent;
 mod waiting_frames;
 
 pub use audience::{Audience, Audiences};
-pub use doubts::{
-    BeginDoubt, BusyChannel, Doubt, Doubts, MovesRead, RowsApart, WarningDoubt,
-};
+pub use doubts::{BeginDoubt, BusyChannel, Doubt, Doubts, MovesRead, RowsApart, WarningDoubt};
 pub use failed_events::FailedEvents;
 pub use full_tables::FullTables;
 pub use reach::Reach;

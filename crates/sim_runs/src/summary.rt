@@ -36,7 +36,10 @@ pub(crate) fn print_summary<W: Write>(
         writeln!(out, "{send}{}", MissedText(&missed))?;
     }
     if is_whole {
-        let (full, doubts) = (FullText(report.table_full()), DoubtsText(report.doubts().len()));
+        let (full, doubts) = (
+            FullText(report.table_full()),
+            DoubtsText(report.doubts().len()),
+        );
         writeln!(out, "{}{full}{doubts}", tally.totals())?;
     }
     Ok(())
@@ -84,7 +87,11 @@ fn missed_of(
     send: usize,
     explain: bool,
 ) -> Result<Option<Vec<Miss>>, NoMemory> {
-    if explain { report.missed(send) } else { Ok(None) }
+    if explain {
+        report.missed(send)
+    } else {
+        Ok(None)
+    }
 }
 
 /// What is doubtful about the run, as objects. `None` if nothing is.
@@ -100,7 +107,11 @@ fn doubts_of<'a>(
             reason: Printed(doubt),
         })?;
     }
-    Ok(if doubts.is_empty() { None } else { Some(doubts) })
+    Ok(if doubts.is_empty() {
+        None
+    } else {
+        Some(doubts)
+    })
 }
 
 /// The stations that a packet didn't reach, as ` (missed: 10 lost, 11 full)`, or nothing.

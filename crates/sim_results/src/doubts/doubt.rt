@@ -180,8 +180,7 @@ impl fmt::Display for BusyChannel {
 
 impl fmt::Display for RowsApart {
     fn fmt<W: fmt::Write>(&self, f: &mut fmt::Formatter<W>) -> fmt::Result {
-        let (rows, of, least, most, gone) =
-            (self.rows, self.of, self.least, self.most, self.gone);
+        let (rows, of, least, most, gone) = (self.rows, self.of, self.least, self.most, self.gone);
         write!(f, "{rows} of {of} rows come {least}")?;
         if least < most {
             write!(f, " to {most}")?;

@@ -1,7 +1,7 @@
 //! What the rows of a file of moves do with their vehicles.
 
-use crate::doubts::doubt::{BeginDoubt, Doubt, RowsApart};
 use crate::doubts::MovesRead;
+use crate::doubts::doubt::{BeginDoubt, Doubt, RowsApart};
 use its_gnvalue::{NoMemory, Place};
 use its_world::What;
 use sim_scenario::events::{Action, AddressedEvent};

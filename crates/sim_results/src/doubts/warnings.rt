@@ -111,8 +111,14 @@ impl WarningWatch {
         let Some(packet) = done.octets.and_then(PacketName::of) else {
             return;
         };
-        let is_it = |warning: &Warning| warning.packet == Some(packet);
-        self.late = self.warnings.iter().position(is_it);
+        let mut late = None;
+        for (place, warning) in self.warnings.iter().enumerate() {
+            // A station that restarts may use a number again: the last warning counts.
+            if warning.packet == Some(packet) {
+                late = Some(place);
+            }
+        }
+        self.late = late;
     }
 
     /// A delivery of the frame that was just sent is put.
