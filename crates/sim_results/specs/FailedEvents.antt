@@ -32,7 +32,7 @@ is_absent_send note = false
 
 -- the event that was done is this send: at its time, with its word, and at its station, if the
 -- scenario names that by its number
-abbrev pub IsAsked : AskedSend → EventRecord → Set
+abbrev pub IsAsked : AskedSend → EventRecord → Type 0
 IsAsked send done = (done.moment ≡ send.moment) × (verb_of (what_of done.what.now) ≡ send.verb)
     × IfSome send.station (λ own. own ≡ done.station)
 
@@ -41,15 +41,15 @@ abbrev pub next_send : FailedEvents → Option AskedSend
 next_send events = slice_get events.sends.items events.came
 
 -- the event that was done is the send that comes next
-abbrev pub IsNextSend : FailedEvents → EventRecord → Set
+abbrev pub IsNextSend : FailedEvents → EventRecord → Type 0
 IsNextSend events done = (send : AskedSend) × (next_send events ≡ Some send) × IsAsked send done
 
 -- an event is among those that have a line, if there is room for it
-abbrev pub IsListed : FailedEvents → FailedEvents → FailedEvent → Set
+abbrev pub IsListed : FailedEvents → FailedEvents → FailedEvent → Type 0
 IsListed before after failed =
     vec_len before.first < 20 → after.first.items ≡ before.first.items ++ failed ∷ []
 
 -- an event counts, and is among those that have a line, if there is room for it
-abbrev pub Adds : FailedEvents → FailedEvents → FailedEvent → Set
+abbrev pub Adds : FailedEvents → FailedEvents → FailedEvent → Type 0
 Adds before after failed =
     (after.count ≡ one_more before.count) × IsListed before after failed

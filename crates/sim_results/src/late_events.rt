@@ -29,9 +29,12 @@ impl WhyLate {
         ensures run { IfSome cut (λ cut. moment < cut) → IfSome until (λ until. moment ≤ until) →
             result ≡ None }
     {
-        match (until, cut) {
-            (Some(until), _) if moment > until => Some(WhyLate::AfterUntil(until)),
-            (_, Some(cut)) if moment >= cut => Some(WhyLate::CutShort),
+        match until {
+            Some(until) if moment > until => return Some(WhyLate::AfterUntil(until)),
+            _ => {}
+        }
+        match cut {
+            Some(cut) if moment >= cut => Some(WhyLate::CutShort),
             _ => None,
         }
     }
