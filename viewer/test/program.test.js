@@ -79,7 +79,8 @@ for (const {name, text} of [...SAMPLES, ...INSIDE]) {
       ...(hasAir ? [words.doing(event)] : []), words.entry(event)].join(' ') + '\n');
     assert.equal(lines.join(''), print(text));
     const summary = [...way.follow(run).sends.map((send) => sendLine(run, send)), totalLine(run)];
-    const printed = print(text, '--summary').replace(/ inside \d+/g, '');
+    // Doubts of a run are those of the program alone.
+    const printed = print(text, '--summary').replace(/ inside \d+| doubts \d+$/gm, '');
     assert.equal(summary.join('\n') + '\n', printed);
   });
 
