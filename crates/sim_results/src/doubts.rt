@@ -33,8 +33,8 @@ const MANY: usize = 10;
 /// From so many percent of the channel on the traffic of one sender is doubtful.
 const BUSY: u64 = 3;
 
-/// The octets of the frame of an SHB without its payload: 14 of Ethernet, 4, 8 and 28 of headers, and
-/// 4 of BTP-B.
+/// The octets of the frame of an SHB without its payload: 14 of Ethernet, 4, 8 and 28 of headers,
+/// and 4 of BTP-B.
 const SHB_FRAME: u32 = 58;
 
 /// How far a file of moves was read.
