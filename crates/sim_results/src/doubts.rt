@@ -209,7 +209,7 @@ impl Doubts {
     /// Adds what is doubtful about where stations are.
     fn find_places(&mut self, scenario: &Scenario) -> Result<(), NoMemory> {
         let stations = self.present.len();
-        if stations > 1 && self.bounds.are_within(1) && !self.bounds.is_origin() {
+        if stations > 1 && self.bounds.are_within(1) && !self.bounds.hold_origin() {
             return Ok(self.found.push(Doubt::OnePoint { stations })?);
         }
         let (Some(air), Some(_)) = (scenario.timeline.air(), &self.vehicles) else {
