@@ -33,8 +33,8 @@ const MANY: usize = 10;
 /// From so many percent of the channel on the traffic of one sender is doubtful.
 const BUSY: u64 = 3;
 
-/// The octets of the frame of an SHB without its payload: 14 of Ethernet, 4, 8 and 28 of headers, and
-/// 4 of BTP-B.
+/// The octets of the frame of an SHB without its payload: 14 of Ethernet, 4, 8 and 28 of headers,
+/// and 4 of BTP-B.
 const SHB_FRAME: u32 = 58;
 
 /// How far a file of moves was read.
@@ -209,7 +209,7 @@ impl Doubts {
     /// Adds what is doubtful about where stations are.
     fn find_places(&mut self, scenario: &Scenario) -> Result<(), NoMemory> {
         let stations = self.present.len();
-        if stations > 1 && self.bounds.are_within(1) && !self.bounds.is_origin() {
+        if stations > 1 && self.bounds.are_within(1) && !self.bounds.hold_origin() {
             return Ok(self.found.push(Doubt::OnePoint { stations })?);
         }
         let (Some(air), Some(_)) = (scenario.timeline.air(), &self.vehicles) else {

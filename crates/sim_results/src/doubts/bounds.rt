@@ -33,9 +33,9 @@ impl Bounds {
         self.east = self.east.max(lon);
     }
 
-    /// Whether all positions are the one of latitude and longitude 0, which often stands for none.
-    pub(crate) fn is_origin(self) -> bool {
-        self.south == 0 && self.north == 0 && self.west == 0 && self.east == 0
+    /// Whether latitude and longitude 0, which often stand for no position, are between them.
+    pub(crate) fn hold_origin(self) -> bool {
+        self.south <= 0 && self.north >= 0 && self.west <= 0 && self.east >= 0
     }
 
     /// Whether all positions are within so many metres of the point in their middle.

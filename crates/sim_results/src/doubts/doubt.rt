@@ -3,8 +3,8 @@
 use cmd_quoting::OneLine;
 use std::fmt;
 
-/// A sign that a run isn't what its author meant, of a mistake that changes numbers and that nothing
-/// else reports. It prints as a sentence: where it is, what is wrong, what to do.
+/// A sign that a run isn't what its author meant, of a mistake that changes numbers and that
+/// nothing else reports. It prints as a sentence: where it is, what is wrong, what to do.
 #[derive(Debug, Drop, PartialEq, Eq)]
 pub enum Doubt {
     /// A key of the scenario is unknown and ignored: the sentence of it.
@@ -27,8 +27,8 @@ pub enum Doubt {
     Warning { event: usize, why: WarningDoubt },
 }
 
-/// What is doubtful about the time at which a run begins in its file of moves. Times are those of the
-/// file, in milliseconds.
+/// What is doubtful about the time at which a run begins in its file of moves. Times are those of
+/// the file, in milliseconds.
 #[derive(Clone, Copy, Debug, PartialEq, Eq)]
 pub enum BeginDoubt {
     /// The file has no row.
@@ -74,8 +74,8 @@ pub struct BusyChannel {
 pub enum WarningDoubt {
     /// Its lifetime is shorter than a second: the octet, and what it says.
     ShortLifetime { octet: u8, millis: u64 },
-    /// No station was ever in its area. How many kilometres all were away from its centre at least, if
-    /// that is far.
+    /// No station was ever in its area. How many kilometres all were away from its centre at least,
+    /// if that is far.
     EmptyArea { away: Option<u64> },
     /// No station in its area had its port open, of so many, and not all are the sender.
     ClosedPort { port: u16, stations: usize },

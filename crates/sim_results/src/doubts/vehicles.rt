@@ -20,7 +20,7 @@ const SECOND: u64 = 1000;
 /// How long a run waits for the first row, in milliseconds, before its begin is doubtful.
 const LONGEST_WAIT: u64 = 10_000;
 
-/// A vehicle: its id, and the time of its last row.
+/// A vehicle: its id, and the time of its last row, if an event did not move a station then.
 #[derive(Drop)]
 struct Vehicle {
     id: String,
@@ -90,13 +90,14 @@ impl VehicleWatch {
         let Some(number) = station.checked_sub(self.own) else {
             return;
         };
+        let is_moved = self.moved.as_slice().contains(&moment);
+        self.first = self.first.or(Some(moment));
         let Some(vehicle) = self.vehicles.get_mut(number) else {
             return;
         };
         let last = vehicle.last;
-        vehicle.last = Some(moment);
-        self.first = self.first.or(Some(moment));
-        if self.moved.as_slice().contains(&moment) {
+        vehicle.last = (!is_moved).then_some(moment);
+        if is_moved {
             return;
         }
         self.rows = self.rows.saturating_add(1);
