@@ -362,7 +362,7 @@ impl FailedEvents {
     fn add(&mut self, failed: FailedEvent) -> Result<(), NoMemory>
         ensures count { self.new.count ≡ one_more self.old.count }
         ensures came { self.new.came ≡ self.old.came }
-        ensures listed { OnOk result (IsListed self.old self.new failed.entry) }
+        ensures listed { OnOk result (IsListed self.old self.new failed) }
     {
         self.count = self.count.saturating_add(1);
         if self.first.len() < MOST_LINES {
