@@ -92,8 +92,8 @@ fn first_unknown<'a>(table: &'a Table, known: &[Key]) -> Option<&'a str> {
     None
 }
 
-/// The keys of the document, of its stations and of its events that are none of their words, in
-/// this order. Those of one table are in the order of their octets.
+/// The keys of the document, of its stations and of its events that are none of their words, in this
+/// order. Those of one table are in the order of their octets.
 pub(crate) fn unknown_keys(
     alloc: Global,
     document: &Table,
