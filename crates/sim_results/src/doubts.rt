@@ -190,8 +190,7 @@ impl Doubts {
         self.find_places(scenario)?;
         if let (Timeline::Moves(timeline), Some(vehicles)) = (&scenario.timeline, &self.vehicles) {
             let warning = first_warning(scenario);
-            let (read, are_one) = (read.unwrap_or_default(), self.bounds.are_within(1));
-            vehicles.find(timeline, read, warning, are_one, &mut self.found)?;
+            vehicles.find(timeline, read.unwrap_or_default(), warning, &mut self.found)?;
         }
         self.find_busy(&scenario.timeline)?;
         self.warnings.find(self.bounds, &mut self.found)

@@ -1,6 +1,7 @@
 //! What the rows of a file of moves do with their vehicles.
 
 use crate::doubts::MovesRead;
+use crate::doubts::bounds::Bounds;
 use crate::doubts::doubt::{BeginDoubt, Doubt, RowsApart};
 use its_gnvalue::{NoMemory, Place};
 use its_world::What;
@@ -51,8 +52,9 @@ pub(crate) struct VehicleWatch {
     first: Option<u64>,
     apart: RowsApart,
     same: Option<SameTime>,
-    /// Whether all positions so far are multiples of 0.01 degree.
+    /// Whether all positions so far are multiples of 0.01 degree, and where they are.
     are_coarse: bool,
+    bounds: Bounds,
 }
 
 impl VehicleWatch {
@@ -76,6 +78,7 @@ impl VehicleWatch {
             },
             same: None,
             are_coarse: true,
+            bounds: Bounds::none(),
         })
     }
 
@@ -102,6 +105,7 @@ impl VehicleWatch {
         }
         self.rows = self.rows.saturating_add(1);
         self.are_coarse &= is_coarse(place);
+        self.bounds.extend(place);
         if let Some(last) = last {
             self.take_step(number, moment, moment.saturating_sub(last));
         }
@@ -131,13 +135,12 @@ impl VehicleWatch {
     }
 
     /// Adds what is doubtful about the rows, of which so much was read. `warning` is the first time
-    /// at which the scenario warns. `are_one` says whether all stations are always at one point.
+    /// at which the scenario warns.
     pub(crate) fn find(
         &self,
         timeline: &MovesTimeline,
         read: MovesRead,
         warning: Option<u64>,
-        are_one: bool,
         found: &mut Vec<Doubt>,
     ) -> Result<(), NoMemory> {
         let begin = timeline.moves.begin;
@@ -151,7 +154,7 @@ impl VehicleWatch {
         if let Some(same) = self.same {
             self.find_same(begin, same, found)?;
         }
-        if self.are_coarse && self.rows > 1 && !are_one {
+        if self.are_coarse && self.rows > 1 && !self.bounds.are_within(1) {
             found.push(Doubt::CoarsePositions { rows: self.rows })?;
         }
         Ok(())
