@@ -60,6 +60,16 @@ struct Warning {
     cut: usize,
 }
 
+impl Warning {
+    /// Whether it is sent in this packet.
+    fn is_of(&self, packet: &PacketName) -> bool {
+        match &self.packet {
+            Some(own) => own == packet,
+            None => false,
+        }
+    }
+}
+
 /// The warnings of a run.
 #[derive(Drop)]
 pub(crate) struct WarningWatch {
@@ -108,17 +118,20 @@ impl WarningWatch {
 
     /// Takes an event near the end of the run: it may forward a warning.
     fn take_late(&mut self, done: &EventRecord<'_>) {
-        let Some(packet) = done.octets.and_then(PacketName::of) else {
-            return;
-        };
-        let mut late = None;
+        if let Some(packet) = done.octets.and_then(PacketName::of) {
+            self.late = self.last_of(&packet);
+        }
+    }
+
+    /// The last warning of this packet. A station that restarts may use a number again.
+    fn last_of(&self, packet: &PacketName) -> Option<usize> {
+        let mut last = None;
         for (place, warning) in self.warnings.iter().enumerate() {
-            // A station that restarts may use a number again: the last warning counts.
-            if warning.packet == Some(packet) {
-                late = Some(place);
+            if warning.is_of(packet) {
+                last = Some(place);
             }
         }
-        self.late = late;
+        last
     }
 
     /// A delivery of the frame that was just sent is put.
