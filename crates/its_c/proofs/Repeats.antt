@@ -9,7 +9,8 @@ use Rattle.its_model.specs.Calls.{Answer, Call}
 use Rattle.its_model.specs.Station.{Step}
 use Rattle.its_station.specs.State.{StationState}
 use Rattle.its_station.specs.Steps.{IsStepOf}
-use Rattle.its_station.specs.Receiving.{Encoded, TellsBy}
+use Rattle.its_linkframe.specs.Frames.{EncodesFrame}
+use Rattle.its_station.specs.Receiving.{Encoded, IsFrameCall, TellsBy}
 use Rattle.its_station.specs.declared.outcome.Outcome.{Outcome}
 use Rattle.its_station.specs.declared.outcome.Outcome.TheVariants as outcomes
 use Rattle.its_station.specs.declared.refused.Refused.{Refused}
@@ -18,7 +19,8 @@ use Rattle.its_governor.specs.declared.governor.Governor.{Governor}
 use Rattle.its_governor.specs.declared.receive.GovernedOutcome.{GovernedOutcome}
 use Rattle.its_governor.specs.declared.receive.GovernedOutcome.TheVariants as governed
 use Rattle.its_governor.specs.Passing.{IsRepeatedIf, TellsPassed, WherePassed}
-use Rattle.its_c.specs.Told.{ShowsReceived, is_repeated, outcome_of, with_repeat}
+use Rattle.its_c.specs.Told.{IsHeard, ShowsReceived, is_repeated, nothing_received, outcome_of}
+use Rattle.its_c.specs.Told.{reception_in, reception_of, with_repeat}
 use Rattle.its_c.specs.declared.layout.Reception.{Reception}
 
 pub told_of : (E : Encoded) (said : Result GovernedOutcome Refused) (new : StationState)
@@ -81,3 +83,14 @@ pub shown_as : (said : Result Outcome Refused) (w : List ℕ) (a b r : Reception
 shown_as (Ok outcome) w a b r room same is =
     subst (λ (x : Reception). ShowsReceived w x r room (Ok outcome)) same is
 shown_as (Err e) w a b r room same is = is
+
+-- octets that are no frame tell nothing of a packet
+pub junk_reception : (w : List ℕ) (call : Call) → IsFrameCall w call
+    → ((t : Transmission) → EncodesFrame t w → ⊥) → nothing_received ≡ reception_in call
+junk_reception w (model.Call.Own own) is none = absurd is
+junk_reception w (model.Call.Receive t) is none = absurd (none t is)
+junk_reception w (model.Call.Junk fault) is none = refl
+
+pub heard_is : (so : Bool) (t : Transmission) → IsHeard (with_repeat so (reception_of t))
+heard_is true t = refl
+heard_is false t = refl
