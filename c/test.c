@@ -298,7 +298,7 @@ static void test_receiving(long damaged) {
      * before is not forwarded again */
     CHECK(geostation_restart(b, 30, 500) == GEOSTATION_OK);
     CHECK(geostation_receive(b, 31, frame, n, &r, relay, ROOM) == GEOSTATION_OK);
-    CHECK(r.ignored == 0 && r.delivered == 0 && r.relay_length == 0);
+    CHECK(r.ignored == GEOSTATION_REPEATED && r.delivered == 0 && r.relay_length == 0);
     geostation_free(a);
     geostation_free(b);
     geostation_free(c);
