@@ -1123,9 +1123,9 @@ static void test_echo(void) {
     }
 }
 
-/* A source that is made anew begins at number 0 again. Its time stamps are new, so its packet is no
- * copy of the one that was delivered before. A station that is told of no position has the time stamp
- * 0 in all its packets. */
+/* A source that restarts begins at number 0 again. Its time stamps are new, so its packet is not a
+ * copy of the one that was delivered before. A station that was never moved has the time stamp 0 in
+ * all its packets. */
 static void test_restarted_source(void) {
     struct geostation_config plain = unlimited(A_ADDRESS, 0), c = unlimited(B_ADDRESS, 900);
     for (int moves = 0; moves < 2; moves++) {
