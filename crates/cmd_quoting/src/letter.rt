@@ -4,10 +4,7 @@ use std::fmt;
 
 /// Writes a letter of a text from outside. A backslash is doubled, and a letter that could begin a
 /// line or change the order of its letters is written by its number, as `\u000a`.
-pub(crate) fn write_letter<W: fmt::Write>(
-    f: &mut fmt::Formatter<W>,
-    letter: char,
-) -> fmt::Result {
+pub(crate) fn write_letter<W: fmt::Write>(f: &mut fmt::Formatter<W>, letter: char) -> fmt::Result {
     match letter {
         '\\' => f.write_str("\\\\"),
         _ if is_hidden(letter) => write!(f, "\\u{:04x}", letter as u32),

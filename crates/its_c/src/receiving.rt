@@ -185,7 +185,10 @@ fn hear_verified<'a>(
     match VerifiedFrame::read(frame, plain) {
         Ok(verified) => {
             *heard = reception_of_packet(verified.packet());
-            note_repeat(governor.receive_verified_frame(station, now, &verified), heard)
+            note_repeat(
+                governor.receive_verified_frame(station, now, &verified),
+                heard,
+            )
         }
         Err(fault) => Err(station.refuse_secured(now, fault)),
     }
