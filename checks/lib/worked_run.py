@@ -53,12 +53,17 @@ class Recording(air.Xoshiro256PlusPlus):
         return number % below
 
 
+def lines_of(world):
+    """The lines of a run with its notes."""
+    return air.lines(world.run(), world, True)
+
+
 def run(scenario):
     """The lines of a run with its notes, and what it drew."""
     runs, made = [], air.Xoshiro256PlusPlus
     air.Xoshiro256PlusPlus = lambda seed: runs.append(Recording(seed)) or runs[-1]
     try:
-        shown = list(air.lines(air.World(scenario), True))
+        shown = list(lines_of(air.World(scenario)))
     finally:
         air.Xoshiro256PlusPlus = made
     return shown, runs[0].drawn
