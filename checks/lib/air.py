@@ -821,7 +821,8 @@ class Send:
 
     def reached(self, within: float) -> int:
         """How many of those that it is for it reached in so many milliseconds."""
-        return sum(self.first.get(n, inf) - self.moment <= within for n in self.audience)
+        took = [self.first[n] - self.moment for n in self.audience if n in self.first]
+        return sum(time <= within for time in took)
 
 
 def audience(world: World, sender: int, port: int, area: Area) -> list[int]:

@@ -384,7 +384,8 @@ class Numbers:
             return False
         send = sends[keys["send"]]
         limit = keys.get("within", float("inf"))
-        reached = sum(send.firsts.get(n, limit + 1) <= limit for n in send.event.audience)
+        took = [send.firsts[n] for n in send.event.audience if n in send.firsts]
+        reached = sum(time <= limit for time in took)
         wanted = len(send.event.audience) if keys["reached"] == "all" else keys["reached"]
         return reached >= wanted
 
@@ -552,10 +553,12 @@ def read_full(errors: str) -> list[int]:
     return [int(found[1]), int(found[2])] if found else []
 
 
-def read_cut_off(errors: str) -> list[int]:
-    """How many deliveries of each warning were not run, in order."""
-    found = re.findall(r"^geostation: event \d+: (\d+) deliveries of it were not run", errors, re.M)
-    return [int(count) for count in found]
+def read_cut_off(objects: list[dict]) -> list[int]:
+    """How many deliveries of each warning were not run, in order. Standard error names the first 20
+    doubts, the total all of them."""
+    doubts = [doubt for keys in objects for doubt in keys.get("total", {}).get("doubts", [])]
+    cut = [doubt["reason"] for doubt in doubts if doubt["doubt"] == "cut-off"]
+    return [int(re.search(r"(\d+) deliver", reason)[1]) for reason in cut]
 
 
 def read_written(folder: Path) -> dict[str, list]:
@@ -566,7 +569,7 @@ def read_written(folder: Path) -> dict[str, list]:
         "missed": read_missed((folder / "missed").read_text()),
         "missed.json": [keys["missed"] for keys in objects if "send" in keys],
         "full tables": read_full((folder / "errors").read_text()),
-        "cut off": read_cut_off((folder / "errors").read_text()),
+        "cut off": read_cut_off(objects),
         "table_full": [keys["total"].get("table_full", 0) for keys in objects if "total" in keys],
     }
     for name in HEADS:
