@@ -53,8 +53,8 @@ pub extern "C" fn geostation_move(
     told(said)
 }
 
-/// The same for a place of another moment than `now`, of this time stamp: milliseconds since
-/// 2004-01-01 TAI, modulo 2^32.
+/// Sets the place to one of another moment than `now`, with its own time stamp: milliseconds since
+/// 2004-01-01 TAI, modulo 2^32. Otherwise it does what `geostation_move` does.
 #[unsafe(no_mangle)]
 pub extern "C" fn geostation_move_at(
     alloc: Global,

@@ -11,9 +11,9 @@ use its_headers::Kind;
 use its_station::{Counts, IgnoredCounts, Outcome, Refused, RefusedCounts, SentCounts};
 use std::alloc::Global;
 
-/// Writes how often each thing happened since the station was made: frames that came and what
-/// became of them, calls that were refused, by code, what was sent, and what the limits withheld. A
-/// call that returns `BAD_ARGUMENT` or `NO_ROOM` isn't counted, and a restart keeps the counts.
+/// Writes how often each thing happened since the station was made: frames that came and their
+/// outcomes, calls that were refused, by code, what was sent, and what the limits withheld. A call
+/// that returns `BAD_ARGUMENT` or `NO_ROOM` isn't counted, and a restart keeps the counts.
 #[unsafe(no_mangle)]
 pub extern "C" fn geostation_counts(alloc: Global, s: &mut Geostation, counts: &mut AllCounts)
     ensures told { counts.new.told ≡ s.old.counts }
@@ -34,7 +34,7 @@ pub extern "C" fn geostation_counts(alloc: Global, s: &mut Geostation, counts: &
     };
 }
 
-/// Counts what came of a call that tells nothing but its status.
+/// Counts the outcome of a call that returns nothing but its status.
 pub(crate) fn count_done(told: &mut ToldCounts, said: &Result<(), Refused>)
     ensures { counts_of told.new ≡ counted_done said.now (counts_of told.old) }
 {
@@ -43,7 +43,7 @@ pub(crate) fn count_done(told: &mut ToldCounts, said: &Result<(), Refused>)
     *told = told_counts(&counts);
 }
 
-/// Counts what came of a tick.
+/// Counts the outcome of a tick.
 pub(crate) fn count_tick(told: &mut ToldCounts, said: &Result<Option<Vec<u8>>, Refused>)
     ensures { counts_of told.new ≡ counted_tick said.now (counts_of told.old) }
 {
@@ -52,7 +52,7 @@ pub(crate) fn count_tick(told: &mut ToldCounts, said: &Result<Option<Vec<u8>>, R
     *told = told_counts(&counts);
 }
 
-/// Counts what came of a call that sends a packet of this kind.
+/// Counts the outcome of a call that sends a packet of this kind.
 pub(crate) fn count_send(told: &mut ToldCounts, kind: Kind, said: &Result<Vec<u8>, Refused>)
     ensures { counts_of told.new ≡ counted_send kind said.now (counts_of told.old) }
 {
@@ -61,7 +61,7 @@ pub(crate) fn count_send(told: &mut ToldCounts, kind: Kind, said: &Result<Vec<u8
     *told = told_counts(&counts);
 }
 
-/// Counts what became of a frame.
+/// Counts the outcome of a frame.
 pub(crate) fn count_received(told: &mut ToldCounts, said: &Result<Outcome<'_>, Refused>)
     ensures { counts_of told.new ≡ counted said.now (counts_of told.old) }
 {

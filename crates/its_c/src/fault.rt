@@ -11,9 +11,9 @@ use its_faults::{Fault, FaultKind, FrameFault, SecuredFault};
 pub(crate) struct FaultNumbers {
     /// The number of its code, L1 to L6.
     pub(crate) layer: u32,
-    /// At L5 and L6 the number of the packet's fault, G1 to G12; else 0.
+    /// At L5 and L6 the number of the packet's fault, G1 to G12; otherwise 0.
     pub(crate) kind: u32,
-    /// At L5 and L6 the octet of the packet at which the field begins; else 0.
+    /// At L5 and L6 the octet of the packet at which the field begins; otherwise 0.
     pub(crate) at: usize,
 }
 

@@ -11,8 +11,8 @@ use crate::layout::ToldCounts;
 use crate::station_ptr::StationPtr;
 use its_station::Counts;
 
-/// A handle: the station that it holds represents one of the model, from `geostation_new` on, there
-/// is a governor of what goes out, and what came of each call since is counted.
+/// A handle. The station that it holds represents one of the model, from `geostation_new` on. There
+/// is a governor of what goes out, and the outcome of each call since is counted.
 #[repr(C)]
 #[derive(Drop)]
 pub struct Geostation {

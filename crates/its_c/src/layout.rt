@@ -3,14 +3,14 @@
 
 use its_governor::{Limits, Rate};
 
-/// What became of a frame: `struct geostation_reception` of C.
+/// The outcome of a frame: `struct geostation_reception` of C.
 #[repr(C)]
 #[derive(Clone, Copy)]
 pub struct Reception {
     /// Why the frame is ignored: 1 to 4, in the order of `Why`; 5 if the packet was delivered
     /// before; or 0.
     pub ignored: u32,
-    /// 1 where a payload is delivered, else 0.
+    /// 1 if a payload is delivered, otherwise 0.
     pub delivered: u32,
     /// The destination port (BTP-B) of that payload.
     pub port: u16,
@@ -22,9 +22,9 @@ pub struct Reception {
     pub payload_length: usize,
     /// How many octets are to be sent on, or 0.
     pub relay_length: usize,
-    /// Where the octets are no frame, the number of the fault's code, L1 to L5; else 0.
+    /// If the octets are no frame, the number of the fault's code, L1 to L5; otherwise 0.
     pub fault: u32,
-    /// At L5 the number of the packet's fault, G1 to G12; else 0.
+    /// At L5 the number of the packet's fault, G1 to G12; otherwise 0.
     pub fault_kind: u32,
     /// At L5 the octet of the packet at which the field begins, or the packet's length at G1.
     pub fault_at: usize,
@@ -32,7 +32,7 @@ pub struct Reception {
     pub source: u64,
     /// The kind of the packet: 1 BEACON, 2 SHB, 3 GBC, 4 GAC; 0 where the octets are no frame.
     pub kind: u32,
-    /// The sequence number of a GBC or GAC, else 0.
+    /// The sequence number of a GBC or GAC, otherwise 0.
     pub number: u16,
     /// The octet of the traffic class, which a relay has too.
     pub traffic_class: u8,
@@ -93,7 +93,7 @@ pub struct AreaRequest {
     pub latitude: i32,
     /// The longitude of the centre, in 0.1 microdegree.
     pub longitude: i32,
-    /// The radius of a circle, else the half length along the angle, in metres, from 1.
+    /// The radius of a circle, or the half length along the angle, in metres, from 1.
     pub a: u16,
     /// The half length across the angle, in metres, from 1; of a circle it isn't read.
     pub b: u16,
@@ -117,7 +117,7 @@ pub struct Vector {
     pub speed: i16,
     /// The heading in 0.1 degree, clockwise from north.
     pub heading: u16,
-    /// 1 where the place is accurate (PAI), else 0.
+    /// 1 if the place is accurate (PAI), otherwise 0.
     pub accurate: u8,
 }
 
@@ -142,7 +142,7 @@ pub struct PacketArea {
     pub latitude: i32,
     /// The longitude of the centre, in 0.1 microdegree.
     pub longitude: i32,
-    /// The radius of a circle, else the half length along the angle, in metres.
+    /// The radius of a circle, or the half length along the angle, in metres.
     pub a: u16,
     /// The half length across the angle, in metres; of a circle 0.
     pub b: u16,
@@ -208,19 +208,19 @@ pub struct Packet {
     pub lifetime: u8,
     /// The octet of the traffic class.
     pub traffic_class: u8,
-    /// 1 where the source is mobile, else 0.
+    /// 1 if the source is mobile, otherwise 0.
     pub mobile: u8,
-    /// The media-dependent data of an SHB, else zeros.
+    /// The media-dependent data of an SHB, otherwise zeros.
     pub media: [u8; 4],
-    /// The sequence number of a GBC or GAC, else 0.
+    /// The sequence number of a GBC or GAC, otherwise 0.
     pub number: u16,
-    /// The area of a GBC or GAC, else zeros.
+    /// The area of a GBC or GAC, otherwise zeros.
     pub area: PacketArea,
-    /// What an SHB, GBC or GAC brings to a port, else zeros.
+    /// What an SHB, GBC or GAC brings to a port, otherwise zeros.
     pub message: PacketMessage,
-    /// Where the octets are no frame, the number of the fault's code, L1 to L5; else 0.
+    /// If the octets are no frame, the number of the fault's code, L1 to L5; otherwise 0.
     pub fault: u32,
-    /// At L5 the number of the packet's fault, G1 to G12; else 0.
+    /// At L5 the number of the packet's fault, G1 to G12; otherwise 0.
     pub fault_kind: u32,
     /// At L5 the octet of the packet at which the field begins, or the packet's length at G1.
     pub fault_at: usize,
@@ -330,7 +330,7 @@ pub struct AllCounts {
 #[repr(C)]
 #[derive(Clone, Copy)]
 pub struct ToldCounts {
-    /// Frames that came, whatever became of them.
+    /// Frames that came, whatever their outcome.
     pub received: u64,
     /// Frames whose packet was accepted.
     pub accepted: u64,

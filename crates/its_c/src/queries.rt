@@ -25,7 +25,7 @@ const GROUP_BIT: u64 = 1 << 40;
 
 /// The least moment at which `geostation_tick` with this jitter gives a beacon, in milliseconds;
 /// the greatest number for a jitter over 750. A program draws a jitter once for each beacon and
-/// sleeps until this moment; it asks anew after a packet of the station's own and after a restart.
+/// sleeps until this moment; it asks again after a packet of the station's own and after a restart.
 #[unsafe(no_mangle)]
 pub extern "C" fn geostation_beacon_at(alloc: Global, s: &mut Geostation, jitter: u16) -> u64
     ensures due { (m : StationModel) (now : ℕ) → HoldsModel s.old.held.station m →
@@ -84,8 +84,8 @@ pub extern "C" fn geostation_next_beacon(alloc: Global, s: &mut Geostation) -> u
 }
 
 /// Writes the position vector of the live neighbour of least address above `after`, and returns 1;
-/// 0 where there is none, and at a moment before the station's last call or over 2^62. A neighbour
-/// is a station that was heard directly.
+/// 0 if no neighbour is left, and at a moment before the station's last call or over 2^62. A
+/// neighbour is a station that was heard directly.
 #[unsafe(no_mangle)]
 pub extern "C" fn geostation_neighbour(
     alloc: Global,
@@ -108,8 +108,8 @@ pub extern "C" fn geostation_neighbour(
     found
 }
 
-/// Writes the newest position vector of the live source of an address, and returns 1; 0 where there
-/// is none, and at a moment before the station's last call or over 2^62.
+/// Writes the newest position vector of the live source of an address, and returns 1; 0 if the
+/// source isn't known, and at a moment before the station's last call or over 2^62.
 #[unsafe(no_mangle)]
 pub extern "C" fn geostation_look_up(
     alloc: Global,

@@ -40,8 +40,8 @@ use its_loctable::SortedTable;
 use its_station::{Outcome, Refused, Station};
 use std::alloc::Global;
 
-/// How many of the octets are a frame: its length where a beginning of them is a frame (there is
-/// one at most), else 0.
+/// How many of the octets are a frame: its length if a beginning of them is a frame (there is one
+/// at most), otherwise 0.
 #[unsafe(no_mangle)]
 pub extern "C" fn geostation_frame_length(octets: &[u8]) -> usize
     ensures found { result ≢ 0 → IsFrameEnd octets.now result }
@@ -50,10 +50,10 @@ pub extern "C" fn geostation_frame_length(octets: &[u8]) -> usize
     frame_length(octets)
 }
 
-/// Takes the octets that came, and writes what became of them; the frame in which the packet goes
-/// on is written into `relay`, if the limits let it pass. A packet that was delivered before is
-/// neither delivered nor forwarded again, and the reception says so. Of at most 60 octets that begin
-/// with a frame the zeros behind it are left out: Ethernet fills a short frame up with them. Refused
+/// Takes the octets that came, and writes their outcome; the frame that forwards the packet is
+/// written into `relay`, if the limits let it pass. A packet that was delivered before is neither
+/// delivered nor forwarded again, and the reception says so. If at most 60 octets begin with a
+/// frame, the zeros after it are left out: Ethernet fills a short frame up with them. Refused
 /// by `NO_ROOM` for a buffer under 1468 octets, for its moment (S1, S2), for octets that are no frame
 /// (S3), whose fault the reception has, for a table that is full (S4), and for memory (S5).
 #[unsafe(no_mangle)]
@@ -270,7 +270,7 @@ fn note_repeat<'a>(
     }
 }
 
-/// What is told of each frame that isn't refused.
+/// What a reception says about each frame that isn't refused.
 fn reception_of(view: &FrameView<'_>) -> Reception
     ensures { result ≡ reception_of (transmission_of view.now) }
 {

@@ -29,8 +29,8 @@ use its_linkframe::LONGEST_FRAME;
 use its_station::ShbRequest as StationShbRequest;
 use std::alloc::Global;
 
-/// Writes the frame of a beacon, where one is due: 3000 ms after the last packet of the station's
-/// own, and `jitter` ms later; else the length is 0. Refused by `NO_ROOM` for a buffer under 1468
+/// Writes the frame of a beacon, if one is due: 3000 ms after the last packet of the station's own,
+/// and `jitter` ms later. Otherwise the length is 0. Refused by `NO_ROOM` for a buffer under 1468
 /// octets, for its moment (S1, S2), for a jitter over 750 (S9), and for memory (S5).
 #[unsafe(no_mangle)]
 pub extern "C" fn geostation_tick(

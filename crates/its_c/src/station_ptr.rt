@@ -69,7 +69,7 @@ impl StationPtr {
         mem::replace(self, none).into_raw_box().into_box()
     }
 
-    /// Puts a station in where there is none.
+    /// Puts a station in, if there isn't one.
     pub(crate) fn put(&mut self, station: Box<Station<SortedTable>>)
         requires { self.old.station ≡ None }
         ensures { self.new.station ≡ Some station.value }

@@ -70,8 +70,8 @@ pub(crate) fn told_beacon(
     }
 }
 
-/// The status of a call that takes a frame, of which this is told where it isn't refused; what
-/// became of that is written.
+/// The status of a call that takes a frame. If the frame isn't refused, its outcome is written
+/// into `reception`.
 pub(crate) fn told_outcome(
     said: Result<Outcome<'_>, Refused>,
     heard: Reception,

@@ -21,13 +21,13 @@ pub enum FaultKind {
     HopZero,
     /// G6: what follows the Common Header is neither nothing nor BTP-B.
     CommonNext,
-    /// G7: the header type is none that is read after such a next header.
+    /// G7: the header type is not one that is read after such a next header.
     HeaderType,
-    /// G8: the sub-type is none of the header type.
+    /// G8: the header type doesn't have the sub-type.
     SubType,
     /// G9: more hops are left than there were at most.
     HopAboveMax,
-    /// G10: the payload's length is none of the header type.
+    /// G10: the header type doesn't allow the payload's length.
     PayloadLength,
     /// G11: the vector's address has a group MID, or its place is out of range.
     Position,

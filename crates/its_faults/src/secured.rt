@@ -18,7 +18,7 @@ pub enum SecuredFault {
     TooLong,
     /// L5: what follows the type is no secured packet; the place is counted in that packet.
     Packet(Fault),
-    /// L6: the inner packet is none; the place is counted in the inner packet.
+    /// L6: the inner octets are not a packet; the place is counted in the inner packet.
     Inner(Fault),
     /// L4: octets follow the inner packet.
     Trailing,

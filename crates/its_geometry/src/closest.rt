@@ -55,7 +55,7 @@ impl Found {
 }
 
 /// A walk over all places: eight at a time on eight lanes, each of which keeps its least distance,
-/// and then the rest. Eight places outside the box are passed over, as they can't change the least.
+/// and then the rest. Eight places outside the box are skipped, as they can't change the least.
 fn walk(centre: Centre, places: &[Place]) -> Found
     ensures least { result.reach.least ≡ least_of (distances centre.place places.now) }
     ensures from { AllAbove result.reach.least result.from (distances centre.place places.now) }

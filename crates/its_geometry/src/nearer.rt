@@ -10,7 +10,7 @@ use its_gnvalue::Place;
 use std::marker::Model;
 
 /// A centre, and the square of the least distance from it so far, in square centimetres. Most
-/// places that are no nearer are told by their differences of latitude and longitude alone.
+/// places that are no nearer are seen by their differences of latitude and longitude alone.
 #[derive(Drop)]
 pub struct Nearer {
     reach: Reach,

@@ -31,7 +31,7 @@ impl<T: Drop> From<AllocFailed<T>> for NoMemory {
     }
 }
 
-/// The slice handed in is shorter than what is to be written; it is as it was.
+/// The slice that was passed is shorter than what is to be written; it is as it was.
 #[derive(Clone, Copy, Debug, PartialEq, Eq)]
 pub struct NoRoom;
 

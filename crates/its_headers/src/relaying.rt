@@ -9,7 +9,7 @@ use crate::wire::fields::{HOPS_LEFT, write_octets};
 use its_gnvalue::NoRoom;
 
 /// Writes the packet that was read, with one hop fewer left, at the beginning of the slice, and
-/// returns its length. The packet has to have at least two hops left. Nothing else of it changes.
+/// returns its length. The packet has to have at least two hops left. Its other octets stay.
 /// The rest of the slice stays; on `NoRoom`, exactly where the slice is too short, all of it does.
 pub fn relay_into(view: &PacketView<'_>, out: &mut [u8]) -> Result<usize, NoRoom>
     requires { 2 ≤ view.now.left }

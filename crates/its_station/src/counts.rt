@@ -15,7 +15,7 @@ use its_headers::Kind;
 /// How often each thing happened. A count stays at 2^64 - 1 once it is there.
 #[derive(Clone, Copy, Debug, PartialEq, Eq)]
 pub struct Counts {
-    /// Frames that came, whatever became of them.
+    /// Frames that came, whatever their outcome.
     pub received: u64,
     /// Frames whose packet was accepted.
     pub accepted: u64,
@@ -107,9 +107,9 @@ impl Counts {
         }
     }
 
-    /// What became of a frame, as `receive` answered: one frame more came, and one more was
-    /// ignored for its reason, refused by its code, or accepted; of an accepted one it is also
-    /// counted whether its payload was delivered and whether it was passed on.
+    /// Counts a frame, as `receive` answered: one frame more came, and one more was ignored for its
+    /// reason, refused by its code, or accepted. For an accepted one it is also counted whether its
+    /// payload was delivered and whether it was forwarded.
     pub fn note_received(&mut self, answer: &Result<Outcome<'_>, Refused>)
         ensures { self.new ≡ counted answer.now self.old }
     {
@@ -135,7 +135,7 @@ impl Counts {
         }
     }
 
-    /// What came of `tick`: a BEACON was sent, none was due, or the call was refused.
+    /// Counts a `tick`: a BEACON was sent, none was due, or the call was refused.
     pub fn note_tick(&mut self, answer: &Result<Option<Vec<u8>>, Refused>)
         ensures { self.new ≡ counted_tick answer.now self.old }
     {
@@ -146,8 +146,8 @@ impl Counts {
         }
     }
 
-    /// What came of `send_shb`, `send_geobroadcast` or `send_geoanycast`: a packet of this kind was
-    /// sent, or the call was refused.
+    /// Counts a call of `send_shb`, `send_geobroadcast` or `send_geoanycast`: a packet of this kind
+    /// was sent, or the call was refused.
     pub fn note_send(&mut self, kind: Kind, answer: &Result<Vec<u8>, Refused>)
         ensures { self.new ≡ counted_send kind answer.now self.old }
     {
@@ -157,7 +157,7 @@ impl Counts {
         }
     }
 
-    /// What came of `move_to`, `move_at`, `open`, `close` or `restart`: only a refusal counts.
+    /// Counts a call of `move_to`, `move_at`, `open`, `close` or `restart`: only a refusal counts.
     pub fn note_done(&mut self, answer: &Result<(), Refused>)
         ensures { self.new ≡ counted_done answer.now self.old }
     {
@@ -173,8 +173,8 @@ impl Counts {
         self.refused.note(refused);
     }
 
-    /// What came of any call, as `answer` of the station gave it: the same as the other notes of
-    /// that call. Where memory ran out it is a call refused by S5, and of a frame one that came.
+    /// Counts any call, as the station's `answer` returned: the same as the other notes of that
+    /// call. If memory ran out, it is a call refused by S5; a frame also counts as one that came.
     pub fn note_reply(&mut self, call: &Call, answer: &Result<Reply, NoMemory>)
         ensures { self.new
             ≡ counted_reply (kind_sent call.now) answer.now (counted_call call.now self.old) }
@@ -197,7 +197,7 @@ impl Counts {
         }
     }
 
-    /// A frame that comes is counted whatever becomes of it.
+    /// Counts a frame that comes, whatever its outcome.
     fn note_call(&mut self, call: &Call)
         ensures { self.new ≡ counted_call call.now self.old }
     {

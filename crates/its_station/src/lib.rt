@@ -34,8 +34,8 @@
 //! A frame from the air that is refused ends nothing: the station stands as before.
 //!
 //! Each call is a step of the station that `its_model` defines: its contract says the answer and
-//! the station afterwards. A call that is refused changes nothing. Of stations that step so holds
-//! the law that a geobroadcast reaches where deliveries come (`what_is_delivered_reaches` there).
+//! the station afterwards. A call that is refused changes nothing. Stations that step so keep the
+//! law that a geobroadcast reaches where deliveries come (`what_is_delivered_reaches` there).
 //!
 //! # What a maker has to know
 //!
@@ -43,10 +43,10 @@
 //!   standard's time stamps, those of TAI since 2004-01-01. After a step back each call is refused
 //!   (S1) until the clock has caught up.
 //! - **Beacons.** A jitter of 0 to 750 ms is drawn once for a beacon and handed to each `tick` until
-//!   that gave it: drawn anew for each `tick`, beacons come early. `beacon_at` of that jitter is when
-//!   to wake. It is asked anew after a packet of the station's own and after a restart, and not
-//!   after a frame that came: no answer is before the clock, which each call sets, so that a sleep
-//!   which begins anew with each frame may never end.
+//!   that gave it: drawn again for each `tick`, beacons come early. `beacon_at` of that jitter is
+//!   when to wake. It is asked again after a packet of the station's own and after a restart, and
+//!   not after a frame that came: no answer is before the clock, which each call sets, so that a
+//!   sleep which begins again with each frame may never end.
 //! - **Places.** `move_to` sets the time stamp that packets carry, and `move_at` one of the fix's
 //!   own; before either is called, that is 0.
 //! - **Memory.** The table has room for `capacity` live sources, 1 to 4096, and up to 64 sequence

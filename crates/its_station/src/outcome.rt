@@ -1,4 +1,4 @@
-//! What becomes of a frame.
+//! The outcome of a frame.
 
 /// What is delivered to a port: a slice of the frame that came.
 #[derive(Clone, Copy, Debug, PartialEq, Eq)]
@@ -24,7 +24,7 @@ pub enum Why {
     Duplicate,
 }
 
-/// What becomes of a frame that isn't refused.
+/// The outcome of a frame that isn't refused.
 #[derive(Debug, Drop)]
 pub enum Outcome<'a> {
     /// The frame is ignored; the clock alone is set.

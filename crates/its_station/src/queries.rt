@@ -78,7 +78,7 @@ impl<S: LocationStore> Station<S> {
 
     /// The least moment at which `tick` with this jitter gives a beacon, in milliseconds; the
     /// greatest number for a jitter over 750, with which none comes. A program draws a jitter once
-    /// for each beacon and sleeps until this moment. It asks anew after a packet of the station's
+    /// for each beacon and sleeps until this moment. It asks again after a packet of the station's
     /// own and after a restart, and not after a frame that came: the answer is never before the
     /// clock, which each call sets.
     pub fn beacon_at(&self, jitter: u16) -> u64

@@ -1,4 +1,4 @@
-//! A station that begins anew.
+//! A restart of a station.
 
 ghost use Rattle.std.specs.Prelude.{◌≡◌, ◌≢◌, ◌≤◌, ◌^◌, [], Err, OnErr};
 ghost use Rattle.its_model.specs.Calls.{Restarted, Own};

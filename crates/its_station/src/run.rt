@@ -91,7 +91,7 @@ pub enum Reply {
     Refused(Refused),
 }
 
-/// What came of the calls: a reply for each that was made.
+/// The outcome of the calls: a reply for each that was made.
 #[derive(Debug, Drop, PartialEq, Eq)]
 pub struct Ran {
     /// The replies, in order.

@@ -129,8 +129,9 @@ impl<S: LocationStore> Station<S> {
         Ok(())
     }
 
-    /// The same for a place of another moment than `now`, as a receiver tells it: the moment of the
-    /// fix, in milliseconds since 2004-01-01 TAI, modulo 2^32, is the time stamp that packets carry.
+    /// Sets the place to one of another moment than `now`, as a receiver reports it: the moment of
+    /// the fix, in milliseconds since 2004-01-01 TAI, modulo 2^32, is the time stamp that packets
+    /// carry. Otherwise it does what `move_to` does.
     pub fn move_at(
         &mut self,
         now: u64,

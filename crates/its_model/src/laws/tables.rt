@@ -31,7 +31,7 @@ pub fn a_session_is_the_longest_run()
         IsTrue (is_live source moment history) ↔ (session source moment history ≢ []) }
 {}
 
-/// A packet goes on with its source's session or begins it anew, and leaves the others'; between
+/// A packet goes on with its source's session or begins it again, and leaves the others'; between
 /// packets a session stays as it is until it ends.
 pub fn a_session_grows()
     ensures own { (source moment : ℕ) (r : Reception) (history : List Reception) →
@@ -108,8 +108,8 @@ pub fn live_sources_are_counted()
         length sources ≡ length (stations_at remember moment history) }
 {}
 
-/// Of the stations that pass a test, the one of least address is found; and nothing, where none
-/// passes.
+/// Among the stations that pass a test, the one with the least address is found, or none if no
+/// station passes.
 pub fn the_least_address_is_found()
     ensures found { (remember moment : ℕ) (history : List Reception) (test : Known → Bool)
         (k : Known) →
@@ -127,7 +127,7 @@ pub fn the_least_address_is_found()
 {}
 
 /// The next hop is, of the neighbours that are nearer than the limit, the one of least distance and
-/// then of least address; and there is none, where no neighbour is nearer.
+/// then of least address. If no neighbour is nearer, there isn't a next hop.
 pub fn the_nearest_is_taken()
     ensures found { (remember moment : ℕ) (history : List Reception) (centre : Position) (limit : ℕ)
         (k : Known) →
