@@ -3,12 +3,11 @@ structs field by field, functions argument by argument, and numbers by name. Eac
 what is wrong, as lines.
 """
 
-import functools
 import re
 
 import c_layout as layout
 import c_twins as twins
-from program import TOP
+from planting import find
 
 HEADER = "c/geostation.h"
 LIBRARY = "crates/its_c"
@@ -29,28 +28,9 @@ ALIASES = {
 UNNAMED = "told"
 
 
-@functools.lru_cache(maxsize=None)
-def read(path):
-    """The text of a source as it is."""
-    return (TOP / path).read_text()
-
-
-@functools.lru_cache(maxsize=None)
-def find(pattern):
-    """The sources of a pattern, by their paths."""
-    return sorted(str(path.relative_to(TOP)) for path in TOP.glob(pattern))
-
-
-class Sources:
-    """The sources, of which some may have a mistake planted in them."""
-
-    def __init__(self, planted=None):
-        self.planted = planted or {}
-        self.header = self.text(HEADER)
-        self.structs = layout.header_structs(self.header)
-
-    def text(self, path):
-        return self.planted.get(path) or read(path)
+def structs_of(sources):
+    """The structs of the header."""
+    return layout.header_structs(sources.text(HEADER))
 
 
 def same_place(one, other):
@@ -78,12 +58,12 @@ def compare_leaves(where, wanted, found):
 
 def compare_structs(sources, path, structs, names):
     """The structs of a source, by their names in the header."""
-    wrong = [f"{path}: no struct {name}" for name in sources.structs if name not in names]
+    wrong = [f"{path}: no struct {name}" for name in structs_of(sources) if name not in names]
     for name, twin in names.items():
-        if name not in sources.structs:
+        if name not in structs_of(sources):
             wrong.append(f"{path}: {HEADER} has no struct geostation_{name}")
             continue
-        wanted = list(layout.leaves(name, sources.structs))
+        wanted = list(layout.leaves(name, structs_of(sources)))
         try:
             wrong += compare_leaves(f"{path}: {twin}", wanted, list(layout.leaves(twin, structs)))
         except KeyError as kind:
@@ -93,13 +73,13 @@ def compare_structs(sources, path, structs, names):
 
 def check_header(sources):
     """The header asserts the size of each struct and the offset of each field but the first."""
-    sizes, offsets = layout.header_asserts(sources.header)
+    sizes, offsets = layout.header_asserts(sources.text(HEADER))
     wanted_sizes, wanted = {}, {}
-    for name, fields in sources.structs.items():
-        wanted_sizes[name] = layout.measure(name, sources.structs)[0]
-        for at, field in layout.starts(fields, sources.structs):
+    for name, fields in structs_of(sources).items():
+        wanted_sizes[name] = layout.measure(name, structs_of(sources))[0]
+        for at, field in layout.starts(fields, structs_of(sources)):
             inner = field.type if isinstance(field.type, list) else []
-            for more, it in layout.starts(inner, sources.structs):
+            for more, it in layout.starts(inner, structs_of(sources)):
                 wanted[name, f"{field.name}.{it.name}"] = at + more
             if not inner:
                 wanted[name, field.name] = at
@@ -135,9 +115,9 @@ def check_rust_structs(sources):
     wrong = compare_structs(sources, path, structs, names)
     of_twin = {twin: name for name, twin in names.items()}
     for twin, size in re.findall(r"size_of::<(\w+)>\(\) == (\d+)", sources.text(path)):
-        if layout.measure(of_twin[twin], sources.structs)[0] != int(size):
+        if layout.measure(of_twin[twin], structs_of(sources))[0] != int(size):
             wrong.append(f"{path}: the size of {twin} isn't {size} in {HEADER}")
-    groups = {it.name: it.type for it in sources.structs["counts"] if isinstance(it.type, list)}
+    groups = {it.name: it.type for it in structs_of(sources)["counts"] if isinstance(it.type, list)}
     path = f"{RUST}/station.rs"
     named = re.findall(r"let \[([\w, ]+)\] = \w+\.(\w+);", sources.text(path))
     told = {group: row.split(", ") for row, group in named}
@@ -155,7 +135,7 @@ def check_python_structs(sources):
     wrong = compare_structs(sources, path, module.structs, names)
     sizes = module.values["SIZES"]
     for key, size in zip(sizes.keys, sizes.values):
-        if layout.measure(twins.snake(key.id).lower(), sources.structs)[0] != size.value:
+        if layout.measure(twins.snake(key.id).lower(), structs_of(sources))[0] != size.value:
             wrong.append(f"{path}: the size of {key.id} isn't {size.value} in {HEADER}")
     return wrong
 
@@ -189,7 +169,7 @@ def compare_functions(path, wanted, found, change, names_count):
 
 def check_library_functions(sources):
     """The functions of the header, each in the proved library or in C."""
-    wanted, seen, wrong = layout.header_functions(sources.header), set(), []
+    wanted, seen, wrong = layout.header_functions(sources.text(HEADER)), set(), []
     named = {}
     for path in find(LIBRARY_SOURCES):
         named.update({twin: it for it, twin in twins.rust_structs(sources.text(path))[1].items()})
@@ -215,7 +195,7 @@ def check_library_functions(sources):
 def check_wrapper_functions(sources):
     """The proved functions that c/octets.c declares, because it calls them by another name."""
     path = "c/octets.c"
-    wanted = layout.header_functions(sources.header)
+    wanted = layout.header_functions(sources.text(HEADER))
     found = layout.header_functions(sources.text(path).replace("proved_geostation_", "geostation_"))
     return compare_functions(path, wanted, found, str, lambda name, kind: True)
 
@@ -229,7 +209,7 @@ def check_rust_functions(sources):
     def change(kind):
         return re.sub(r"\w+$", lambda it: named.get(it[0], it[0]), kind)
 
-    wanted, found = layout.header_functions(sources.header), twins.rust_functions(text)
+    wanted, found = layout.header_functions(sources.text(HEADER)), twins.rust_functions(text)
     return compare_functions(path, wanted, found, change, lambda name, kind: True)
 
 
@@ -246,7 +226,7 @@ def check_python_functions(sources):
         name: (result, [layout.Field("", kind) for kind in arguments])
         for name, (result, arguments) in twins.Python(sources.text(path)).functions().items()
     }
-    wanted = layout.header_functions(sources.header)
+    wanted = layout.header_functions(sources.text(HEADER))
     return compare_functions(path, wanted, found, change, lambda name, kind: False)
 
 
@@ -271,7 +251,7 @@ def numbers_in(sources, pattern, read_numbers, *arguments):
 
 def check_library_numbers(sources):
     """The numbers of the proved library, in its code and in its definitions."""
-    enums = layout.header_enums(sources.header)
+    enums = layout.header_enums(sources.text(HEADER))
     texts = [sources.text(path) for path in find(LIBRARY_SOURCES)]
     constants = [pair for text in texts for pair in twins.rust_constants(text).items()]
     statuses = [pair for pair in constants if pair[0] in enums["status"]]
@@ -299,7 +279,7 @@ def check_library_numbers(sources):
 
 def check_package_numbers(sources):
     """The numbers of the packages for Rust, Python and C++."""
-    enums = layout.header_enums(sources.header)
+    enums = layout.header_enums(sources.text(HEADER))
     wrong = []
     for file, enum, owner, without in (
         ("error.rs", "status", "Error", ("OK",)),
@@ -331,7 +311,7 @@ def check_package_numbers(sources):
 def check_constants(sources, named):
     """The constants of the header. `named` has the name of each in the proved crates: some crate
     has it. A package has those that it has under the header's name."""
-    wanted = layout.header_constants(sources.header)
+    wanted = layout.header_constants(sources.text(HEADER))
     crates = {
         pair
         for path in find("crates/*/src/**/*.rt")

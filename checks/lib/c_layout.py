@@ -5,6 +5,7 @@ header, or a list of fields for a struct without a name. The layout is that of a
 which each field is aligned to its size.
 """
 
+import functools
 import re
 from typing import NamedTuple
 
@@ -113,12 +114,14 @@ def c_fields(words):
     return fields
 
 
+@functools.lru_cache(maxsize=None)
 def header_structs(text):
     """The structs of the header, by their names without `geostation_`."""
     found = re.finditer(r"^struct geostation_(\w+) \{(.*?^\});", plain(text), re.M | re.S)
     return {it[1]: c_fields(re.findall(r"\w+|[{}\[\];]", it[2])) for it in found}
 
 
+@functools.lru_cache(maxsize=None)
 def header_asserts(text):
     """The sizes and the offsets that the header asserts, by struct, and by struct and field."""
     sizes = re.findall(r"^GEOSTATION_SIZE\((\w+), (\d+)\);", text, re.M)
@@ -129,6 +132,7 @@ def header_asserts(text):
     )
 
 
+@functools.lru_cache(maxsize=None)
 def header_enums(text):
     """The enums of the header: their names without the prefix, by number."""
     found = re.finditer(r"^enum geostation_(\w+) \{(.*?)^\};", plain(text), re.M | re.S)
@@ -136,6 +140,7 @@ def header_enums(text):
     return {name: {word: int(number) for word, number in row} for name, row in rows.items()}
 
 
+@functools.lru_cache(maxsize=None)
 def header_constants(text):
     """The numbers that the header defines, by their names without the prefix."""
     found = re.findall(r"^#define GEOSTATION_(\w+) (.+)$", plain(text), re.M)
@@ -157,6 +162,7 @@ def c_type(words):
     return "*" * stars + ("const " if "const" in words and stars else "") + kind
 
 
+@functools.lru_cache(maxsize=None)
 def header_functions(text):
     """The functions of the header, by their names without the prefix: the type of the result, and
     the arguments by name."""
