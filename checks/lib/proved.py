@@ -1,9 +1,14 @@
-"""The page PROVED.md: each public function, the names of its clauses, and what it does.
+"""The pages docs/proof/NAME.md, one for each crate: what is proved of it, and what is only tested.
 
-Each crate of crates.txt is a section, with the subject of its `src/lib.rt`. A row is a function, a
-link to its source file, its `///` without examples, and the names of its clauses. Contracts are
-found by the layout that `rt fmt` gives every source, so nothing is parsed but the beginnings of
-lines.
+A page is written from the sources of the crate, and from nothing else:
+
+- what `//!` of `src/lib.rt` says first, and its sections: `What is proved` for what holds by a type
+  or of several functions, `Only tested`, `By review` and so on
+- functions whose `///` has words for their clauses: lines as `/// - \`fault\`: the first fault.`
+- all other public functions with a contract, with their `///` and the names of their clauses
+
+Contracts are found by the layout that `rt fmt` gives every source, so nothing is parsed but the
+beginnings of lines.
 """
 
 import os
@@ -13,29 +18,23 @@ from typing import NamedTuple
 
 from program import TOP, crate_names
 
-HEAD = """# What is proved
-
-<!-- Written by checks/docs from the sources. -->
-
-Every function is safe and returns, for any octets and for all values within its conditions. In
-addition, each public function below has the result that its contract promises. The table names its
-clauses, which the file has at the function: `ensures NAME {{ .. }}`, or one clause without a name.
-*Under* names its conditions (`requires`). [READING.md]({proof}/READING.md) explains how to read a
-clause, and [DEFINITIONS.md]({proof}/DEFINITIONS.md) the words of the model. What a function does is
-said by its `///`. The clauses are proved and may promise less: for a command of the
-program they promise the exit status only. Laws are contracts of functions that do nothing, in the
-module `laws` of their crate.
-
-[proof/]({proof}/README.md) has a page per crate with what a table can't say: what holds by a type,
-what is proved inside, what is only tested, what is true by review, and what is neither proved nor
-tested. [BY_CRATE.md]({proof}/BY_CRATE.md) has a row per crate, and what is trusted.
-"""
+# What a page begins with after its title: no page that is written by hand has it.
+MARK = "<!-- Written by checks/docs --write from the sources of this crate. -->"
+# The sections of `//!` that a page has, as they are called there.
+SECTIONS = (
+    "What is proved",
+    "Only tested",
+    "By review",
+    "Neither proved nor tested",
+    "Not promised",
+    "Trusted",
+)
 
 # Each public function of these crates has a contract.
 STACK = (
-    "its_gnvalue its_geometry its_faults its_model its_headers its_linkframe cap_linklayers cap_records::messages"
-    " cap_pcap its_duplicates its_loctable its_forwarding its_btp its_station its_governor its_world"
-    " its_c"
+    "its_gnvalue its_geometry its_faults its_model its_headers its_linkframe cap_linklayers"
+    " cap_records::messages cap_pcap its_duplicates its_loctable its_forwarding its_btp"
+    " its_station its_governor its_world its_c"
 ).split()
 # The top of an impl or trait, and the type that a row is named for.
 OWNER = re.compile(r"^(?:pub )?(?:impl|trait)\b(?:<.*?>)? ?(?:(\S.*) for )?([A-Za-z]\w*).* \{$")
@@ -70,25 +69,13 @@ def shown_names(files):
     return names, modules
 
 
-def sentence(comment):
-    """The first sentence of a comment's lines, as a cell of a table."""
-    first = " ".join(comment).split("  ")[0]
-    found = re.match(r"(.*?[^.]\.)(?= |$)", first)
-    return (found.group(1) if found else first).replace("|", "\\|")
-
-
-def whole(comment):
-    """A comment up to its first example, as a cell of a table."""
-    return " ".join(" ".join(comment).partition("```")[0].split()).replace("|", "\\|")
-
-
 def comment_above(lines, at):
     """The lines of the `///` above a line; attributes may stand between."""
     comment = []
     for line in reversed(lines[:at]):
         text = line.strip()
         if text.startswith("///"):
-            comment.insert(0, text[3:].strip())
+            comment.insert(0, text[3:].removeprefix(" "))
         elif not text.startswith("#["):
             break
     return comment
@@ -109,15 +96,42 @@ def contract(lines, at, indent):
 
 
 class Shown(NamedTuple):
-    """A function that a crate shows: its name, its trait, its line, its comment, and the names of
-    its clauses and conditions."""
+    """A function that a crate shows, or another one whose `///` has words for its clauses: its
+    name, its trait, its line, its comment, and the names of its clauses and conditions."""
 
     name: str
     trait: str
     line: int
-    about: str
+    about: list
     ensures: list
     requires: list
+
+
+# What a line of `///` begins with that has words for clauses: their names, those of fields of a
+# clause, or `its clause`.
+WORDS = re.compile(
+    r"- ((?:(?:fields? )?`\w+`|its (?:clause|invariant)|its fields on the log)"
+    r"(?:, (?:fields? )?`\w+`|, its fields on the log)*(?: \([^)]*\))?): "
+)
+DECLARED = re.compile(r"^(?:pub(?:\(crate\))? )?(?:struct|enum|trait) (\w+)")
+
+
+def words_in(about):
+    """The lines of a comment up to its words for clauses, and these, each in one line."""
+    at = next((at for at, line in enumerate(about) if WORDS.match(line)), len(about))
+    items = []
+    for line in about[at:]:
+        if line.startswith("- "):
+            items.append(line)
+        elif line.strip():
+            items[-1] += " " + line.strip()
+    return about[:at], items
+
+
+def without_example(about):
+    """The lines of a comment up to its first example."""
+    fence = next((at for at, line in enumerate(about) if line.startswith("```")), len(about))
+    return about[:fence]
 
 
 def shown_functions(path, names, modules):
@@ -134,7 +148,7 @@ def shown_functions(path, names, modules):
         shown, given = public or owner in names, GIVEN.match(line)
         std = trait and trait.split("<")[0]
         if given and shown and std in STD:
-            yield Shown(f"{trait} for {owner}", trait, at + 1, STD[std], [given.group(1)], [])
+            yield Shown(f"{trait} for {owner}", trait, at + 1, [STD[std]], [given.group(1)], [])
         function = FUNCTION.match(line)
         if not function:
             continue
@@ -142,9 +156,27 @@ def shown_functions(path, names, modules):
         of_owner = shown and (is_public or declared or trait) if indent else False
         of_crate = not indent and is_public and (public or name in names or exported)
         if of_owner or of_crate:
-            about = whole(comment_above(lines, at))
+            about = without_example(comment_above(lines, at))
             shown_name = f"{owner}::{name}" if indent else name
             yield Shown(shown_name, trait, at + 1, about, *contract(lines, at, indent))
+
+
+def worded(path):
+    """The functions and types of a file whose `///` has words for clauses."""
+    lines, owner = path.read_text().split("\n"), None
+    for at, line in enumerate(lines):
+        if top := OWNER.match(line):
+            owner = top.group(2)
+        elif line.startswith("}"):
+            owner = None
+        function, declared = FUNCTION.match(line), DECLARED.match(line)
+        if function or declared:
+            name = function.group(4) if function else declared.group(1)
+            indent = function.group(1) if function else ""
+            about = without_example(comment_above(lines, at))
+            if words_in(about)[1]:
+                clauses = contract(lines, at, indent) if function else ([], [])
+                yield Shown(f"{owner}::{name}" if indent else name, None, at + 1, about, *clauses)
 
 
 def named(names, lone, many):
@@ -156,67 +188,147 @@ def named(names, lone, many):
     return ", ".join(words)
 
 
-def row(link, name, about, ensures, requires):
-    """A row of the table."""
-    clauses = named(ensures, "its clause", "unnamed clauses")
-    if requires:
-        clauses += f"; under {named(requires, 'one condition', 'conditions')}"
-    return f"| [`{name}`]({link}) | {about} | {clauses} |"
+def cell(lines):
+    """A comment as a cell of a table."""
+    return " ".join(" ".join(lines).split()).replace("|", "\\|")
+
+
+def row(link, it):
+    """The row of a function."""
+    clauses = named(it.ensures, "its clause", "unnamed clauses")
+    if it.requires:
+        clauses += f"; under {named(it.requires, 'one condition', 'conditions')}"
+    about = cell(it.about) or f"`{it.name.rpartition('::')[2]}` of `{it.trait}`."
+    return f"| [`{it.name}`]({link}) | {about} | {clauses} |"
+
+
+def entry(link, it):
+    """A function with words for its clauses: its comment, the words, and the names that no words
+    are for."""
+    about, items = words_in(it.about)
+    said = {name for item in items for name in re.findall(r"`(\w+)`", WORDS.match(item)[1])}
+    rest = [name for name in it.ensures if name and name not in said]
+    lines = [f"### [`{it.name}`]({link})", "", *about]
+    while not lines[-1].strip():
+        lines.pop()
+    lines += ["", *[line for item in items for line in filled(item, "  ")]]
+    more = [f"Also {named(rest, '', '')}."] if rest else []
+    more += [f"Under {named(it.requires, 'one condition', 'conditions')}."] if it.requires else []
+    return [*lines, *(["", " ".join(more)] if more else [])]
+
+
+def filled(text, indent=""):
+    """A text in lines of a page."""
+    return textwrap.wrap(text, 100, subsequent_indent=indent, break_long_words=False,
+                         break_on_hyphens=False)  # fmt: skip
+
+
+def refilled(text):
+    """Paragraphs and lists of a text, in lines of a page."""
+    lines = []
+    for block in text.split("\n\n"):
+        lines += [""] if lines else []
+        for item in re.split(r"\n(?=- )", block):
+            words = " ".join(item.split())
+            lines += filled(words, "  " if words.startswith("- ") else "")
+    return lines
+
+
+def description(lines):
+    """What `//!` says first, and its sections by their names."""
+    text = [line[3:].removeprefix(" ") for line in lines if line.startswith("//!")]
+    first, sections, name = [], {}, None
+    for line in text:
+        if line.startswith("# "):
+            name = line[2:]
+            sections[name] = []
+        elif name:
+            sections[name].append(line)
+        else:
+            first.append(line)
+    end = next((at for at, it in enumerate(first) if it.startswith(("```", "- "))), len(first))
+    first = first[:end]
+    # What leads to an example has no place without it.
+    while first and (not first[-1].strip() or first[-1].endswith(":")):
+        first.pop()
+    return first, sections
 
 
 class Page:
-    """The page, with its links from a folder, and what is wrong in the sources for it."""
+    """The page of a crate, with its links from a folder, and what is wrong in the sources."""
 
-    def __init__(self, folder):
-        self.folder, self.wrong, self.functions, self.sections = folder, [], 0, 0
-        lines = HEAD.format(proof=self.link("docs/proof")).rstrip("\n").split("\n")
-        for crate in crate_names():
-            lines += self.section(crate)
-        self.text = "\n".join(lines) + "\n"
-
-    def link(self, path):
-        """A link to a path below the top."""
-        return os.path.relpath(TOP / path, self.folder)
-
-    def section(self, crate):
-        """The section of a crate, if a public function of it has a contract."""
-        files = sources(crate)
-        names, modules = shown_names(files)
-        rows, bare = [], []
-        for path in files:
-            more, without = self.rows_of(path, names, modules)
-            rows += more
-            bare += without
-        if crate in STACK:
-            self.wrong += [f"{crate}: {name} has no contract" for name in bare]
-        if not rows:
-            return []
-        top = files[0].read_text().split("\n")
-        about = sentence([line[3:].strip() for line in top if line.startswith("//!")])
+    def __init__(self, crate, folder):
+        self.crate, self.folder, self.wrong = crate, folder, []
+        self.files = sources(crate)
+        about, sections = description(self.files[0].read_text().split("\n"))
         if not about:
             self.wrong.append(f"{crate}: src/lib.rt has no subject (`//!`)")
-        page = f"docs/proof/{crate}.md"
-        if (TOP / page).exists():
-            about += f" What the table can't say: [proof/{crate}.md]({self.link(page)})."
-        self.functions += len(rows)
-        self.sections += 1
-        lines = ["", f"## `{crate}`", "", *textwrap.wrap(about, 100, break_long_words=False)]
-        lines += ["", "| Function | What it does | Clauses |", "|---|---|---|", *rows]
-        if bare:
-            text = "Safe, and without a clause: " + ", ".join(f"`{name}`" for name in bare) + "."
-            lines += ["", *textwrap.wrap(text, 100, break_long_words=False)]
-        return lines
+        shown, entries = self.functions_of(*shown_names(self.files))
+        self.functions = len([it for _, it in shown + entries if it.ensures])
+        self.is_empty = not shown and not entries and not sections
+        # What rustdoc makes a link of is none here.
+        about = [re.sub(r"\[(`[^`]+`)\](?!\()", r"\1", line) for line in about]
+        lines = [f"# `{crate}`", "", MARK, "", *about]
+        for name in SECTIONS[:1]:
+            lines += self.section(name, sections)
+        if entries:
+            lines += ["", "## Clauses in words"]
+            lines += [line for link, it in entries for line in ["", *entry(link, it)]]
+        if shown:
+            head = "## Other public functions" if entries else "## Public functions"
+            lines += ["", head, "", "| Function | What it does | Clauses |", "|---|---|---|"]
+            lines += [row(link, it) for link, it in shown]
+        for name in SECTIONS[1:]:
+            lines += self.section(name, sections)
+        self.text = "\n".join(lines).rstrip("\n") + "\n"
 
-    def rows_of(self, path, names, modules):
-        """The rows of a file: functions that a crate shows, and what std's traits promise of it.
-        Also the names of such functions without a contract."""
-        link, found, bare = self.link(path), [], []
-        for it in shown_functions(path, names, modules):
-            if not it.about and not it.trait:
-                self.wrong.append(f"{path.relative_to(TOP)}:{it.line}: {it.name} has no comment")
-            if it.ensures:
-                about = it.about or f"`{it.name.rpartition('::')[2]}` of `{it.trait}`."
-                found.append(row(link, it.name, about, it.ensures, it.requires))
-            elif not it.trait:
-                bare.append(it.name)
-        return found, bare
+    def section(self, name, sections):
+        """A section of `//!`, with links to the pages that it names."""
+        if name not in sections:
+            return []
+        crates = crate_names()
+        text = "\n".join(sections[name]).strip("\n")
+        text = re.sub(r"docs/proof/(\w+\.md)", r"[\1](\1)", text)
+        text = re.sub(
+            r"`(\w+)`",
+            lambda it: f"[{it[0]}]({it[1]}.md)"
+            if it[1] in crates and it[1] != self.crate and not it[1].startswith("test_")
+            else it[0],
+            text,
+        )
+        return ["", f"## {name}", "", *refilled(text)]
+
+    def functions_of(self, names, modules):
+        """The public functions with a contract, and those with words for their clauses, each with a
+        link to its source."""
+        shown, entries, bare = [], [], []
+        for path in self.files:
+            link = os.path.relpath(path, self.folder)
+            found = list(worded(path))
+            entries += [(link, it) for it in found]
+            taken = {it.line for it in found}
+            for it in shown_functions(path, names, modules):
+                if not it.about and not it.trait:
+                    where = f"{path.relative_to(TOP)}:{it.line}"
+                    self.wrong.append(f"{where}: {it.name} has no comment")
+                if it.ensures and it.line not in taken:
+                    shown.append((link, it))
+                elif not it.ensures and not it.trait:
+                    bare.append(it.name)
+            self.wrong += unknown_words(path, found)
+        if self.crate in STACK:
+            self.wrong += [f"{self.crate}: {name} has no contract" for name in bare]
+        return shown, entries
+
+
+def unknown_words(path, found):
+    """Words for clauses that their function doesn't have. A field is one of a definition."""
+    wrong = []
+    for it in found:
+        for item in words_in(it.about)[1]:
+            label = re.sub(r"\([^)]*\)", "", WORDS.match(item)[1])
+            for name in re.findall(r"(?<!field )(?<!fields )`(\w+)`", label.partition("field")[0]):
+                if it.ensures and name not in it.ensures:
+                    where = f"{path.relative_to(TOP)}:{it.line}"
+                    wrong.append(f"{where}: {it.name} has no clause {name}")
+    return wrong

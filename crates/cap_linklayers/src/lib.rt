@@ -1,5 +1,16 @@
 //! The link layers of captured records, Ethernet, IEEE 802.11, radiotap and Linux cooked captures, the
 //! frames in them, and what their headers say beside.
+//!
+//! # What is proved
+//!
+//! A radiotap header's present words are read to the last (`IsLastWord`). `air_time` is 40
+//! microseconds and 8 for each symbol of 48 bits. `LinkFacts::of` is what the headers say besides
+//! the frame (`AreFacts`).
+//!
+//! # Only tested
+//!
+//! - `cases/links.md`, `cases/converting.md`: that no memory is taken, and the longest of each
+//!   header.
 #![tactic(auto)]
 
 pub mod airtime;

@@ -118,6 +118,14 @@ impl Error for LinkFault {}
 ///
 /// `Short` or `Kind` by the first rule of the link layer that doesn't hold; what the buffer has then
 /// isn't said.
+///
+/// - `frame`, `inside`: the frame of a record, from that octet of its buffer to the end
+///   (`IsFrameIn`): all octets of a bare one; of Ethernet without one tag or two; of IEEE 802.11
+///   and behind a radiotap header the two addresses that the header names, then the type behind LLC
+///   with SNAP and all that follows, without a check sequence behind a whole frame; of a Linux
+///   cooked capture what stands for the target, the header's source and type, and what follows the
+///   header.
+/// - `fault`: the first rule of the link layer that doesn't hold, L1 or L2 (`IsLinkFault`).
 pub fn frame_start(layer: LinkLayer, octets: &mut Vec<u8>) -> Result<usize, LinkFault>
     ensures frame { IfOk result
         (λ at. IsFrameIn layer octets.old.items (drop at octets.new.items)) }

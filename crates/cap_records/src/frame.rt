@@ -25,6 +25,12 @@ pub(crate) struct RecordFrame<'a> {
 /// the record, `LONGEST_RECORD` of them if there are so many. A frame that is found is put together
 /// among them: the header of its link layer is read first, and what Ethernet filled a short frame
 /// up with is left out.
+///
+/// - `frame`: the frame of a record (`HasFrame`): its link layer is read, it wasn't cut, and its
+///   octets are that frame: in pcap and pcapng what their link layer carries, without Ethernet's
+///   padding.
+/// - `fault`: otherwise its first fault (`IsRecordFault`), in this order: its link layer or its
+///   being cut, its link layer's header, its octets.
 pub fn frame_of<'a>(
     head: &RecordHeader,
     octets: &'a mut Vec<u8>,

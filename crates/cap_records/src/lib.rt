@@ -1,5 +1,30 @@
 //! The records of a capture as commands see them: which of them are chosen, what frame each has, and
 //! why it is refused.
+//!
+//! # What is proved
+//!
+//! - With `--signed` the frame of a record is the one inside a secured one (`signed_frame_of`,
+//!   clause `frame`: `HasSignedFrame`), or as of `frame_of`. Octets are a secured frame if octets
+//!   12 to 14 are 89 47 12. Otherwise the first fault is returned (`fault`: `IsSignedFault`): of
+//!   the record, its link layer, the secured frame, its message, the packet inside.
+//! - `Choice::is_chosen` and `Selection::has_record` hold if and only if all that is asked for
+//!   holds of the record's time and frame. `cmd_arguments` reads the options.
+//! - A walk counts each selected record, and each refused one of them (`Walked::after`: `counts`).
+//! - `read_message` reads a message as far as its header info, or its first fault.
+//!
+//! # Only tested
+//!
+//! - `cases/signed.md`: which records `--signed` selects, and what a walk does with them; that
+//!   `message_in` is what IEEE 1609.2 says, against an encoder and Wireshark.
+//! - `cases/show.md`, `choosing.md`, `links.md`, `bench.md`: that a walk visits exactly the records
+//!   that are chosen.
+//! - `checks/packets`: frames that were cut, at each octet.
+//! - `checks/failures`: that the line of a record is printed before the next one is read from a
+//!   pipe.
+//!
+//! # Neither proved nor tested
+//!
+//! Anything of signatures, which nobody reads.
 #![tactic(auto)]
 
 pub mod choosing;

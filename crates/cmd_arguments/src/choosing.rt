@@ -173,6 +173,14 @@ where
 /// Which records of a file of this format a command is over: those of all ports, or of the one that
 /// `--port` names. The fault is that of the first option that has a bad value, `--port` being the
 /// last.
+///
+/// - `selection`: the format is the given one; `--count`, `--source` and `--from-mac` (with colons
+///   or hyphens, or without) are what their texts spell; `--since` and `--until` are the number
+///   that their text is, if it is a whole number; all records where they aren't given; `--refused`
+///   selects refused ones; other protocols are skipped if and only if `--not-geonetworking` is
+///   `skip`.
+/// - `port`: the port is the number that `--port` spells, of 16 bits; none where it isn't given, or
+///   is for another use.
 pub fn selection_of<'a>(
     matches: &ArgMatches<'a>,
     format: Option<Format>,
@@ -311,6 +319,9 @@ pub fn time_of(matches: &ArgMatches<'_>) -> Time
 /// The keys whose values are shown, if `--fields` lists them, separated by commas. Refused if one is
 /// unknown, or is a key of secured frames and `--signed` isn't given. `OutOfMemory` if an allocation
 /// failed.
+///
+/// - `named`: the keys are those that `--fields` lists: their names, with a comma between each two,
+///   are its text; none if it isn't given.
 pub fn fields_of<'a>(
     alloc: Global,
     matches: &ArgMatches<'a>,

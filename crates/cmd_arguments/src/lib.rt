@@ -1,5 +1,19 @@
 //! The arguments of the program: its commands with their arguments, as help shows them, and the
 //! values that these give.
+//!
+//! # What is proved
+//!
+//! `value_in` is the text of an option's first value, `texts_in` those of all of its uses. Nothing
+//! is said of a text that clap refused before.
+//!
+//! # Only tested
+//!
+//! - `cases/choosing.md`, `checks/stats`: which kinds `--kind` names, each of the 15 sets.
+//! - `cases/`: which time a time of UTC is; that a port given twice, and a 65th, is refused; of
+//!   which of several options a fault is; suggestions (`BadArgument::tip`); the texts of help and
+//!   of refused arguments.
+//! - `checks/terminal`, on pseudo-terminals: colours, column heads, explanations, progress, and
+//!   that a pipe has none of it.
 #![tactic(auto)]
 
 mod bad_argument;

@@ -21,6 +21,10 @@ pub struct Piece<'a> {
 /// What is written for the first octets of these, so that no text of a run ends the element that it
 /// stands in: the octets themselves up to the first sign `<`, and that sign as JSON spells it in a
 /// text, `\u003c`. In lines of JSON the sign stands in texts alone, so they mean the same.
+///
+/// - `spelled`: what is written for the octets that it takes is their spelling: the sign `<` as
+///   `\u003c`, any other octet as it is.
+/// - `signs`: no sign `<` is written.
 pub fn first_piece(octets: &[u8]) -> Piece<'_>
     ensures spelled { result.octets.now ≡ spelled (take result.taken octets.now) }
     ensures signs { All (λ octet. octet ≢ 60) result.octets.now }

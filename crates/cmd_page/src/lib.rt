@@ -1,4 +1,20 @@
 //! The command `view`: the page that shows a run, and the run in it, as one file.
+//!
+//! # What is proved
+//!
+//! A writer `Inside` passes on what `first_piece` gives of what it takes, piece by piece
+//! (`flat_map`).
+//!
+//! # Only tested
+//!
+//! - `cases/view.md`: what a file is taken for, the name in the page, messages and statuses, the
+//!   largest run and street net.
+//! - `checks/viewer`: the whole page, against one that is put together by node; that a browser
+//!   opens it.
+//!
+//! # Neither proved nor tested
+//!
+//! That a browser reads the element as the HTML standard says.
 #![tactic(auto)]
 
 mod fault;

@@ -23,6 +23,10 @@ use std::io::{BufReader, Read, Write};
 ///
 /// `Refused` where a line could not be read, `Failed` where the input could not be read, `out` not
 /// be written, or memory ran out. The line of a fault is written on `err`.
+///
+/// - its clause (`ServesInput`): unless it ends with 3, what is answered to the lines of the input
+///   (all of them, if its octets are known) is what the station of the model answers that begins
+///   as the config says. It ends with 1 if one of these answers is a fault, otherwise with 0.
 pub fn run_station<R: Read + Drop, W: Write, E: Write>(
     alloc: Global,
     config: &Config,

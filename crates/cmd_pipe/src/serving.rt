@@ -39,6 +39,14 @@ use std::io::BufRead;
 ///
 /// `Refused` where a line could not be read. The fault is that a read or the sink failed, or that
 /// memory ran out: then no further line is read.
+///
+/// - its clause (`IsServed`): if the octets of the reader are known, the lines that are answered
+///   are exactly its lines, of one of more than 65536 octets the first 65536 (`AreLines`), in
+///   order, each once, numbered from 1. A line that asks for a call is one step of the written
+///   rules of just this station, at the time and with the frame or the keys in it (`SaysCall`); the
+///   answer is that step's, and is counted. A query is answered as the station knows it
+///   (`TellsQuery`). A query and any other line change nothing. The station is one of the model
+///   throughout.
 pub fn serve<R: BufRead, S: ResponseSink>(
     alloc: Global,
     station: &mut Station<SortedTable>,

@@ -1,5 +1,16 @@
 //! How a message shows a text from outside: a name, a path or a value of a file or an argument. It
 //! stays on the line that it is in, and what is shown says which text it is.
+//!
+//! # What is proved
+//!
+//! `OneLine` and `Quoted` print a text from outside. No call takes memory, and no clause speaks of
+//! what is printed.
+//!
+//! # Only tested
+//!
+//! - `checks/names`: that a name or a value stays on the line of its message, for each message of
+//!   `sim`, `view`, `mesh` and `station`; which letters are written by their number, against
+//!   Unicode's tables; that a backslash is doubled, and a value cut after 40 characters.
 #![tactic(auto)]
 
 mod letter;

@@ -104,6 +104,10 @@ impl<'a, W: Write + Drop> FrameFile<'a, W> {
     /// line on standard error.
     ///
     /// An error says that the file failed, which `end` tells then.
+    ///
+    /// - its clause: the frame's record is written after all others, on its station's interface; or
+    ///   it is left out, if and only if classic pcap cannot hold its time; or the file has failed,
+    ///   and the answer is an error.
     pub fn put<E: Write>(
         &mut self,
         station: usize,
@@ -185,6 +189,9 @@ where
 
 /// Ends the file of frames of a run that ended so, if there is one. Returns how the run ends then:
 /// `Refused` if a frame was left out of a run that is done, `CannotWrite` if the file failed.
+///
+/// - `ended`: a run that is done ends with `Refused` if and only if a frame was left out of its
+///   file.
 pub fn end_frames<'a, F: Write + Drop>(
     frames: Option<FrameFile<'a, F>>,
     ended: Result<Status, Fault<'a>>,

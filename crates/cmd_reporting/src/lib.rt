@@ -1,5 +1,17 @@
 //! What all commands of the program have in common: how they end, what they tell then, and the files
 //! that they read and write.
+//!
+//! # What is proved
+//!
+//! By their types `open`, `create`, `create_output` and `create_frames` end with `Failed` or not at
+//! all, `keep_apart` with refused arguments. Files that exist are the same by device and inode,
+//! others by those of their folder and the last part of their name (`NamedFile::is`: `same_file`).
+//!
+//! # Only tested
+//!
+//! - `cases/import.md`, `cases/files.md`: a file that is missing or can't be created, and that no
+//!   input is written over.
+//! - `checks/failures`: failed allocations and full files.
 #![tactic(auto)]
 
 mod cause;

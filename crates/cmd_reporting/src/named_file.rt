@@ -128,6 +128,9 @@ fn same_as<'a>(file: &NamedFile<'a>, others: &[NamedFile<'a>]) -> OutputFault<'a
 /// written before it, whatever their names are. Files that do not exist are the same if they have
 /// the same folder and the same last part. Standard input and output are the same as no file, and
 /// neither are files that are not regular, for example `/dev/null`.
+///
+/// - `apart`, `clash`: it succeeds only if no file to be written is one of those that are read or
+///   another one to be written; the one that it names is the first that is.
 pub fn refuse_same<'a>(
     written: &[NamedFile<'a>],
     read: &[NamedFile<'a>],

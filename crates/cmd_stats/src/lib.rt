@@ -1,5 +1,26 @@
 //! The command `stats`: what the records of a capture are, and the traffic of its frames by source,
 //! by port and by second.
+//!
+//! # What is proved
+//!
+//! The row of a refusal is one of the 22 of its table.
+//!
+//! The octets that the station receives (`AreHeard`) are the record's own in a capture of this
+//! program, otherwise the frame that its link layer gives (`IsFrameIn`), without padding. A record
+//! without a frame is reported with the first rule that doesn't hold (`HasNothing`). A record is
+//! received if and only if the choice selects it (`TellsHeard`, `TellsPassed`).
+//!
+//! With `--signed`, a secured frame is a step of `Station::receive_verified`.
+//!
+//! # Only tested
+//!
+//! - `checks/stats`: every number and every line, against a second computation in Python over drawn
+//!   captures, with `--top` and each set of `--kind`.
+//! - `checks/tshark`: the same tables, from Wireshark's fields.
+//! - `cases/stats.md`: selected records, a capture that ends early, and an empty one.
+//! - `cases/signed.md`: which plain part is taken of a secured frame, and what is reported.
+//! - `cases/replay.md`: lines, numbers of forwarded frames and their file.
+//! - `checks/failures`: that each line is written before the next read of standard input.
 #![tactic(auto)]
 
 mod counting;

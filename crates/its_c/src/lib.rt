@@ -7,6 +7,79 @@
 //!
 //! The handle has a governor next to its station. It limits what goes out: forwarded frames, and own
 //! packets of the calls that send one. A line of `geostation_handle_json` passes no governor.
+//!
+//! # What is proved
+//!
+//! Each export of `c/geostation.h` but the sentences and the free is a function of this crate. Its
+//! contract is about the handle's own station and what C finds in its memory.
+//!
+//! The conditions are C's own: pointers that are not NULL and lie apart, lengths as they are, a
+//! handle that was made and not freed, in one call at a time.
+//!
+//! - **State.** From `geostation_new` on, and after every call, the handle's station represents a
+//!   station of the model. This is a fact of the handle's type (`IsOpen`).
+//! - **Calls.** Each call is a step of that station in the model (`step`). The status is that of
+//!   the model's answer, and the station afterwards is that of the step. The C caller finds the
+//!   answer in its memory: the bytes of the frame at the front of the buffer, and their number; why
+//!   a frame is ignored; port, info and position of a delivered payload; the fault of a bad frame.
+//! - **Errors.** `NO_ROOM` is returned if a buffer has fewer than 1468 octets (`room`). Otherwise
+//!   `BAD_ARGUMENT` is returned if and only if an argument is out of its range (`refused`,
+//!   `taken`); for a request for an area, if its numbers describe no area. In `geostation_seal` a
+//!   bad frame comes first (`argument`). `NO_MEMORY` is returned only if the step of the model
+//!   needs memory (`memory`). If the status is not 0, the station is unchanged (`unchanged`) and
+//!   the lengths are 0 (`nothing`).
+//! - **Beacons.** `geostation_beacon_at` returns the earliest time at which the model's `tick` with
+//!   this jitter writes its beacon (`due`, `early`), and the greatest number for a jitter over 750
+//!   (`never`).
+//! - **Variants.** `geostation_move_at` and `geostation_send_shb_with_lifetime` differ from the
+//!   model's calls only in time stamp and lifetime (`step`).
+//! - **Padding.** `geostation_receive` reads the octets without the padding of a frame of at most
+//!   60 octets (`IsUnpadded`). For each frame that is not refused it writes what the packet says
+//!   (`reception_of`). The payload ends where the frame ends. `geostation_frame_length` returns the
+//!   length of the one prefix that is a frame, or 0 (`found`, `only`).
+//! - **Counts.** Each answer is counted as Rust's `Counts` does, from 0 (`counts`, and in `step`).
+//!   `geostation_counts` writes the counts.
+//! - **Limits.** The step of `geostation_receive` is the governed one: the model's step, of whose
+//!   answer that is kept which the limits let pass (`governed_step`). Without limits it is the
+//!   model's step itself (`unlimited`). A call that sends an own packet, and did not fail with
+//!   `NO_ROOM` or `BAD_ARGUMENT`, fails with `OVER_RATE` if and only if its bucket has no room, at
+//!   a time that the station accepts (`over_rate`, `limit`). Otherwise it is the model's step, and
+//!   a packet that is sent is taken out of the bucket (`step`, `sent`). Each clause is about one
+//!   call. No clause of this crate is about many calls of a handle (`its_governor`).
+//! - **JSON.** `geostation_handle_json` answers as the model's station does to the request
+//!   (`served`). It writes compact JSON, or nothing if none could be printed. Its memory is
+//!   allocated before the call is made. That its text says what was answered is tested.
+//! - **Queries.** `geostation_neighbour` finds the model's live neighbour with the least address
+//!   above the number, and `geostation_look_up` its live source (`found`). Neither finds one at a
+//!   time out of range (`none`), and no station has a group address (`group`).
+//! - **Reading.** `geostation_read_frame` returns 0 if and only if the octets are a frame. It then
+//!   writes each field that they encode, and where the payload is (`fields`, `frame`). Otherwise it
+//!   writes the first fault (`fault`).
+//! - **Secured frames.** `geostation_receive_verified` is the governed step of the packet that the
+//!   secured frame and its plain part are (`governed_verified_step`). What is forwarded has the
+//!   message that arrived (`sealed_by`), and the payload lies in the plain part.
+//!   `geostation_message` and `geostation_plain_part` return 0 if and only if the octets are a
+//!   secured frame or a frame (`message`, `plain`). `geostation_seal` writes the one secured frame
+//!   of a frame with this message (`sealed`). A buffer under 2310 octets is refused before anything
+//!   is done (`room`, `no_room`).
+//! - **Creation and release.** A new handle represents a new station with the given address,
+//!   position and sizes (`new`). If the status is not 0, there is no handle (`none`).
+//!   `geostation_release` is safe for such a handle. That it frees all memory is tested.
+//!
+//! # Only tested
+//!
+//! - `checks/c`: the header, the sentences and codes, the version, that freeing gives all memory
+//!   back, each status, allocations that fail in turn, 100,000 damaged frames under sanitizers,
+//!   NULL for no octets (`c/octets.c`), both examples.
+//! - `checks/abi`: that header and library have the same structs, arguments and numbers.
+//!
+//! # Neither proved nor tested
+//!
+//! Speed.
+//!
+//! # Trusted
+//!
+//! Beside the rest: `c/heap.c`, `c/text.c`, `c/octets.c` and the C compiler.
 #![tactic(auto)]
 
 mod calls;

@@ -1,4 +1,12 @@
 //! The sequence numbers that came last from one source, to tell a duplicate packet by.
+//!
+//! # What is proved
+//!
+//! `Recent` is the list of the sequence numbers that are remembered of a source, as many as its
+//! limit, which is 1 to 64. `holds` is true exactly where a number is kept; after `note` the number
+//! stands last, and the last numbers are kept, as many as the limit, which stays. `new` is an empty
+//! list, or out of memory; no other call takes memory. Its tests are those of the table
+//! (`its_loctable`).
 #![tactic(auto)]
 
 ghost use Rattle.std.specs.Prelude.{◌≡◌, ◌≤◌, ◌==◌, [], ◌∷◌, ◌++◌, length, IfOk};

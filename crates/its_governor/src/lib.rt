@@ -22,6 +22,36 @@
 //!   time changes no bucket.
 //! - **Beacons** pass no bucket: a station sends one per 3000 ms at most.
 //! - **Memory** is taken by `new` alone.
+//!
+//! # What is proved
+//!
+//! The clauses hold for every store of the table, every governor and station, every time and all
+//! octets. The condition: each speed in its range (`answer`, `run`).
+//!
+//! A copy has the same source, sequence number and time stamp (`is_same_packet`). The two laws of
+//! deliveries are about lists of calls in which each call changes the limits as the clauses of the
+//! C library's calls say (`after_call`, `after_refusal`): those of `geostation_receive`,
+//! `geostation_receive_verified` and the calls that send. A line of JSON leaves the limits
+//! unchanged.
+//!
+//! The calls of `run` have unsecured frames only (`Call::Receive`). `receive_verified` is proved as
+//! one step.
+//!
+//! No program calls `run`: the C library calls `receive_frame`, `receive_verified_frame`,
+//! `may_send` and `note_sent`, each a step of such a run (`its_c`). So the bounds are a theorem of
+//! these steps in Rattle. No bound on many calls of a C handle is proved. Isolation of sources
+//! (`its_station`) ends at the governor: they share the bucket of all forwarded frames, and the
+//! memory of deliveries.
+//!
+//! # Only tested
+//!
+//! - `test_stations::governor`: that a storm among three stations ends within its bound and goes on
+//!   without limits; that calls succeed if memory is there.
+//!
+//! # Neither proved nor tested
+//!
+//! That the bucket of a source that was forgotten would be full, which the figures of
+//! `Limits::CHANNEL` give.
 #![tactic(auto)]
 
 mod answer;

@@ -40,6 +40,11 @@ impl Governor {
     /// Receives the octets that came, as `Station::receive` does, and keeps what passes of its
     /// outcome: a frame that doesn't pass is not sent, and a packet that was delivered before is
     /// `Repeated`. It is refused as there, also for memory, and then nothing changes.
+    ///
+    /// - `step`: the outcome is `Repeated` if and only if the station accepts the packet and a copy
+    ///   of it is remembered.
+    /// - `junk`, `memory`: "out of memory" is only returned for octets that are a frame, and only
+    ///   if accepting it takes memory.
     pub fn receive<'a, S: LocationStore>(
         &mut self,
         station: &mut Station<S>,

@@ -6,7 +6,8 @@ ghost use Rattle.its_faults.specs.declared.packet.Fault.{Fault};
 ghost use Rattle.its_headers.specs.Encoding.{Encodes, encoding, IsBytes};
 ghost use Rattle.its_headers.specs.FirstFault.{FirstFault};
 
-/// No encoding begins another, and each is of one packet with one number of hops left.
+/// No encoding begins another, and each is of one packet with one number of hops left. So what was
+/// written is read again, whatever follows it.
 pub fn one_encoding()
     ensures { (p q : Pdu) (l m : ℕ) (a b x y : List ℕ) → Encodes p l a → Encodes q m b
         → a ++ x ≡ b ++ y

@@ -4,6 +4,24 @@
 //! [`PacketView`] reads a packet in place, [`Packet`] owns one. What is read or written is the one
 //! encoding of the packet, and nothing else is read: other octets have one first fault, with the
 //! octet at which its field begins.
+//!
+//! # What is proved
+//!
+//! Reading, its accessors, `Packet::length`, `encode_into` and `relay_into` take no memory, by
+//! their types. The condition of `relay_into` is that at least two hops are left.
+//!
+//! # Only tested
+//!
+//! - `test_values::packet`: that `decode` succeeds if memory is there, and otherwise answers H1;
+//!   the octets of a BEACON, an SHB, a GBC and a GAC, both ways, which tie the definitions to the
+//!   standard.
+//! - `checks/packets`: what is printed of each; the ends of the range of each field; wrong values
+//!   of each field, alone, cut to each length, and each two together; codes and sentences.
+//! - `checks/station`: the faults of the 496 packets one bit away from a GAC and a GBC.
+//!
+//! # By review
+//!
+//! That a payload's slice lies in the input (its lifetime says so, its octets are proved).
 #![tactic(auto)]
 
 mod decoding;

@@ -53,6 +53,14 @@ impl<'a> PacketView<'a> {
     /// The packet that begins the octets, and its length, or the first fault: fields are checked in
     /// the order of the wire, each together with those before it. What follows the packet is not
     /// checked.
+    ///
+    /// - `found`: what is read is a packet (BEACON, SHB, GBC or GAC) whose encoding is the prefix
+    ///   of the input of the length that is returned, and the view says that packet and its hops
+    ///   left.
+    /// - `only`: each encoding is read, whatever octets follow it, as its own packet and with its
+    ///   own length.
+    /// - `fault`: otherwise the answer is the first fault: its kind, and the octet at which its
+    ///   field begins.
     #[inline(always)]
     pub fn read(octets: &'a [u8]) -> Result<(PacketView<'a>, usize), Fault>
         ensures found { IfOk result

@@ -61,6 +61,9 @@ fn write_relayed(relayed: &mut Vec<u8>, to: Mac, from: Mac, packet: &PacketView<
 }
 
 /// Gives a frame another target, and changes nothing else. The octets have to be a frame.
+///
+/// - `target`, `rest`: the frame of the same packet on the air with the new target; the octets from
+///   the seventh on are as they were. Its one condition: the octets are a frame.
 pub fn retarget(frame: &mut [u8], to: Mac)
     requires { IsFrame frame.old }
     ensures target { (t : Transmission) → EncodesFrame t frame.old

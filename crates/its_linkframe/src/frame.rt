@@ -33,6 +33,11 @@ pub struct FrameView<'a> {
 /// The frame that the octets are, or their first fault, in this order: L1 under 14 octets, L2
 /// another type than 0x8947, L3 over 1468 octets, L5 no packet after the type, L4 octets after the
 /// packet.
+///
+/// - `found`, `only`: it reads exactly the frames: if it returns a view, the octets are the frame
+///   of what the view says, and each frame is read.
+/// - `fault`: otherwise the answer is the first fault, in the order L1, L2, L3, L5, L4; L5 has the
+///   packet's first fault and its place.
 #[inline(always)]
 pub fn read_frame(octets: &[u8]) -> Result<FrameView<'_>, FrameFault>
     ensures found { IfOk result (λ v. EncodesFrame (transmission_of v) octets.now) }

@@ -1,4 +1,21 @@
 //! Frames of the link layer, and captures of them.
+//!
+//! # What is proved
+//!
+//! - `read_frame`, `read_unpadded`, `retarget`, `Counted` and `CaptureWriter::put` take no memory,
+//!   by their types. `next`, `next_into`, `write_frame` and `relay_frame` make at most one
+//!   allocation. Nothing after that of `relay_frame` can fail.
+//! - Clauses on devices speak of the octets that a slice, a vector or a cursor tells. For a file or
+//!   a socket only the count of failed calls is known.
+//!
+//! # Only tested
+//!
+//! - `test_values::packet`: that these calls succeed if memory is there; a source and a sink that
+//!   fail at each call; the octets of a frame.
+//! - `checks/failures`: records from reads of one octet.
+//! - `checks/station`: a frame cut to each length; the 496 frames one bit away from a GBC's (354
+//!   are read) and a GAC's (354).
+//! - `checks/packets`: the octets of a capture; the sentences of faults.
 #![tactic(auto)]
 
 mod building;

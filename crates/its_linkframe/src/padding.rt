@@ -27,6 +27,10 @@ pub struct Unpadded<'a> {
 
 /// Reads octets that came over Ethernet, once: the frame in them, without the zeros that fill it
 /// up.
+///
+/// - `octets`: the octets without the zeros that fill a frame of at most 60 octets up: all of them,
+///   if they are no such frame (`IsUnpadded`).
+/// - `found`, `only`, `fault`: of these octets as `read_frame`.
 pub fn read_unpadded(octets: &[u8]) -> Unpadded<'_>
     ensures octets { IsUnpadded octets.now result.octets.now }
     ensures found { IfOk result.frame (λ v.

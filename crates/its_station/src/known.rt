@@ -40,6 +40,9 @@ pub struct FrameContents {
 impl FrameContents {
     /// Reads the octets of a frame. Fails with their first fault, as `read_frame` does, if they are
     /// not a valid frame.
+    ///
+    /// - `contents`, `fault`: each field is that of the frame that the octets are (`HasContents`);
+    ///   otherwise their first fault.
     #[inline(always)]
     pub fn read(octets: &[u8]) -> Result<FrameContents, FrameFault>
         ensures contents { IfOk result (AreContentsOf octets.now) }

@@ -63,6 +63,19 @@
 //!   other sources, as long as moments don't fall and the table was never full (no S4); proved of
 //!   `run`, for the calls done before memory ran out.
 //! - **Threads.** A station is for one thread at a time. It does no locking.
+//!
+//! # What is proved
+//!
+//! The clauses hold for every store of the table (`Station<S>`), every history that the station
+//! represents, every time and all octets. The condition: each speed in its range (`move_to`, `run`).
+//!
+//! The calls of `run` have unsecured frames only: a secured one is proved as one step
+//! (`receive_verified`). A station with limits is not isolated in this sense (`its_governor`).
+//!
+//! # Only tested
+//!
+//! - `checks/calls`, `test_stations`: that calls succeed if memory is there, each send also with
+//!   the longest payload; printed codes and sentences.
 #![tactic(auto)]
 
 mod counts;

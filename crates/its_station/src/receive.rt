@@ -49,6 +49,13 @@ impl<S: LocationStore> Station<S> {
     /// payload is delivered where its port is open and, for an area, where the area holds the
     /// station's place, and a packet for an area may go on. What is delivered is the end of the
     /// frame.
+    ///
+    /// - `step`: the answer and the station afterwards are those of the model's step, if the octets
+    ///   are a frame; otherwise the step refuses them by their first fault.
+    /// - `unchanged`, `memory`, `junk`: a refusal changes nothing; one for memory comes only if the
+    ///   frame is accepted, and its source isn't live or the packet is forwarded.
+    /// - `payload`, `short`, `short_frame`: what is delivered is the end of the octets that came,
+    ///   at most 1394 of them; a forwarded frame has at most 1468.
     pub fn receive<'a>(&mut self, now: u64, frame: &'a [u8]) -> Result<Outcome<'a>, Refused>
         ensures step { (call : Call) × IsFrameCall frame.now call
             × ((s : StationModel) → RepresentsStation self.old s →
@@ -74,6 +81,8 @@ impl<S: LocationStore> Station<S> {
 
     /// Takes octets in which `read_frame` found no fault, as `receive` takes them, and without a second
     /// check: for a frame that many stations receive.
+    ///
+    /// - `step`, `unchanged`: the step of `receive`, of octets that are a frame.
     #[inline(always)]
     pub fn receive_checked<'a>(&mut self, now: u64, frame: &'a [u8]) -> Result<Outcome<'a>, Refused>
         requires { IsFrame frame.now }
@@ -118,6 +127,10 @@ impl<S: LocationStore> Station<S> {
 
     /// Takes a frame that was read once for many receivers, as `receive` takes its octets. Refused as
     /// there, but for `Frame` (S3).
+    ///
+    /// - `step`, `unchanged`, `memory`, `short`, `short_frame`: the same as `receive`, of a frame
+    ///   whose contents were read before.
+    /// - `payload`: what is delivered is the end of the frame's payload.
     #[inline(always)]
     pub fn receive_known<'a>(
         &mut self,

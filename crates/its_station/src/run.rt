@@ -108,6 +108,15 @@ impl<S: LocationStore> Station<S> {
     /// station's own applications and one source see of the answers to the calls done doesn't
     /// depend on the frames of other sources. The link target of an own packet for an area may, and
     /// which frames go on.
+    ///
+    /// - `run`: the calls that were made are the model's calls from where the station stood, one
+    ///   for one; if it had begun with `new` and any past calls, what its applications and one
+    ///   source see of the answers doesn't depend on the frames of other sources
+    ///   (`IsIsolatedRunOf`), on the premises that the moments of past and calls never fall and
+    ///   that no answer was that the table is full. To see an answer leaves out relays and the link
+    ///   target of an own packet for an area.
+    /// - `done`, `all`, `some`: all calls are made, unless memory ran out: then those before the
+    ///   one that met it.
     pub fn run(&mut self, calls: &[(u64, Call)]) -> Ran
         requires { All (λ call. IsInRange call.1) calls.now }
         ensures done { length result.replies.items ≤ length calls.now }

@@ -26,6 +26,9 @@ pub const LAST_MOMENT: u64 = 1 << 62;
 /// A station over a location table. Contracts see its fields and the content of its table
 /// (`StationState`), and each call's contract speaks of the stations of the model that it
 /// represents. What a reception reads is in front, and side by side in memory.
+///
+/// - its invariant: its clock is at most 2^62, no beacon waits longer than 3000 ms from there, and
+///   its location table represents some history of accepted packets from the clock on.
 #[derive(Drop)]
 pub struct Station<S: LocationStore> {
     pub(crate) clock: u64,

@@ -11,6 +11,9 @@ use std::collections::HashMap;
 
 /// Fails with `SameMid` (M1) if and only if two of these stations share a MID. Otherwise fails with
 /// `NoMemory` (M2) if an allocation failed.
+///
+/// - `apart`, `refused`: no two of these configs share a MID; otherwise M1, with the first such
+///   pair.
 pub fn refuse_shared(alloc: Global, configs: &[Config]) -> Result<(), WorldFault>
     ensures apart { OnOk result (AreApart configs.now) }
     ensures refused { IfErr result (λ fault. IsMidFault fault configs.now) }

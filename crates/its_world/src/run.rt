@@ -42,6 +42,17 @@ impl World {
     /// - If the deliveries come and its hops suffice, a geobroadcast reaches each station of a path
     ///   on which each station receives what the one before sent. A station n links away accepts it
     ///   n delays after the send at the latest (`what_is_delivered_reaches` of `its_model`).
+    ///
+    /// - `run`, field `stands`: for every past run that ended in this world, the world afterwards
+    ///   is that at the end of that run and then of the events that were done, if none of them
+    ///   delivers a released frame: each station as the written rules have it, and each kept frame
+    ///   octet for octet.
+    /// - `run`, its fields on the log: for exactly these events and in their order, the log has the
+    ///   entry that the written rules give each.
+    /// - `run`, field `laws`: the laws of `every_schedule` hold of that very run, from its configs
+    ///   on: the main theorem.
+    /// - `log`, `done`, `all`, `some`: an entry for each event that was done; all are done unless
+    ///   memory ran out, and then those before it.
     pub fn run(&mut self, events: &[Event]) -> Run
         requires { All (λ event. IsInRange event.what) events.now }
         ensures log { length result.log.items ≡ result.done }

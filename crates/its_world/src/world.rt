@@ -76,6 +76,10 @@ impl World {
     /// each is 1 to 4096, and `remember` is 1 to 64. Fails with `SameMid` (M1) if and only if two
     /// stations share a MID. Otherwise fails with `NoMemory` (M2) if an allocation failed. So each
     /// station has an address of its own, which the law on reaching requires of a sender.
+    ///
+    /// - `opens`, `apart`, `own`: the model's world of these configs, in which nothing happened
+    ///   yet; no two stations share a MID; each has an address of its own, as the law on reaching
+    ///   asks of a sender.
     pub fn new(alloc: Global, configs: &[Config]) -> Result<World, WorldFault>
         requires ranges { All IsConfig configs.now }
         requires count { length configs.now ≤ 65535 }
@@ -165,6 +169,9 @@ impl World {
     /// octets are gone, and they can't be delivered. The others keep their numbers. Nothing else
     /// changes: the world is at the end of the same run. Frames that were released before stay so,
     /// and the number may be above that of all frames.
+    ///
+    /// - `stands`, `stations`, `released`, `frames`, `count`: the frames before a number are
+    ///   released: the world represents what it did, and the others keep their numbers and octets.
     pub fn release(&mut self, before: usize)
         ensures stands { (w : WorldModel) → RepresentsWorld self.old w → RepresentsWorld self.new w }
         ensures stations { self.new.stations ≡ self.old.stations }

@@ -65,6 +65,11 @@ use std::alloc::{AllocError, Global};
 /// two with the same MID. The speed of each `MoveTo` has to be in its range. `present` has, by
 /// numbers, which stations are present at the start. If an allocation or the sink failed, the sink
 /// has the events before.
+///
+/// - `timed`: a run that ends well did exactly the events of the timetable of the model
+///   (`IsTimedRun`).
+/// - `file`: the events of the file up to the last time are among these, by time, and at one time
+///   in the order of the file (`IsAirRun`).
 pub fn run_air<S: EventSink>(
     alloc: Global,
     configs: &[Config],

@@ -72,6 +72,9 @@ use std::io::BufRead;
 ///
 /// The error is `Moves` if a row can't be read, or needs one station too many, or a station with
 /// the MID of another. If it fails, the sink has the events before.
+///
+/// - its clause: a run that ends well is a run as in `timed`, of all stations (`IsMovedRun`). Its
+///   field `outside` (`IsOutside`) says what came from outside.
 pub fn run_moves<R: BufRead + Drop, S: EventSink>(
     alloc: Global,
     scenario: &Scenario,

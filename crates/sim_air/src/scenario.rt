@@ -15,6 +15,9 @@ use std::alloc::Global;
 ///
 /// The error is `NoRows` if its stations move by the rows of a file. `run_moves` runs such a
 /// scenario. If an allocation or the sink failed, the sink has the events before.
+///
+/// - its clause: by the timeline: `timed` with a radio model, and what `simulate_into` promises
+///   without one (`IsRunOf`). With moves it returns `NoRows`.
 #[tactic(auto, using(crate::proofs::Ranges::all_in_range, crate::proofs::Ranges::all_moments))]
 pub fn run_scenario<S: EventSink>(
     alloc: Global,

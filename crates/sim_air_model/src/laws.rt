@@ -34,23 +34,23 @@ pub fn moments_never_fall()
         MomentsNeverFall rules configs file }
 {}
 
-/// In a run that is over, each frame that a present station gave comes, by one of the steps after,
-/// to each other present station that stood in range then, the delay after it was given, unless the
-/// draw of that station loses it or that is past the last moment.
+/// In a run that is over, a frame that a present station sent is delivered to each other present
+/// station in range whose random number is at least the loss. It comes the delay later, if that is
+/// not after the last time.
 pub fn what_is_heard_is_delivered()
     ensures { (rules : Rules) (configs : List Config) (file : List Filed) →
         WhatIsHeardIsDelivered rules configs file }
 {}
 
-/// Each delivery of the air's own is of a frame that an earlier step gave, of a station that was
-/// present then to another one that was, that stood in range and whose draw didn't lose it, the
-/// delay after it was given.
+/// Each delivery that the radio model planned has an earlier step that sent the frame, the delay
+/// before. Sender and receiver were present then, the receiver was in range, and its random number
+/// was at least the loss.
 pub fn deliveries_are_heard()
     ensures { (rules : Rules) (configs : List Config) (file : List Filed) →
         DeliveriesAreHeard rules configs file }
 {}
 
-/// The air delivers each frame to a station at most once, whatever the file delivers beside it. So
+/// The radio model delivers no frame twice to a station, whatever the file delivers in addition. So
 /// what is heard and delivered (`what_is_heard_is_delivered`) is delivered exactly once.
 pub fn deliveries_come_once()
     ensures { (rules : Rules) (configs : List Config) (file : List Filed) →
@@ -98,9 +98,9 @@ pub fn logs_never_fall()
         LogsNeverFall rules configs file }
 {}
 
-/// In a run that is over and loses nothing, each frame that a station gave comes to each other one
-/// in range, the delay after, where both are there all along, neither ever moved and that isn't
-/// past the last moment.
+/// In a run that is over and loses nothing, each frame that a station sent is delivered to each
+/// other one in range. It comes the delay later, if that is not after the last time. Both stations
+/// are present all the time and never move.
 pub fn stations_in_range_hear()
     ensures { (rules : Rules) (configs : List Config) (file : List Filed) →
         StationsInRangeHear rules configs file }
@@ -112,11 +112,12 @@ pub fn frames_come_in_order()
         FramesComeInOrder rules configs file }
 {}
 
-/// In a run that is over and loses nothing, of a file that delivers nothing by itself, a
-/// geobroadcast reaches each station that a chain from its sender leads to, over as many hops as
-/// there are links: stations that are there all along and stand still inside the area, each in
-/// range of the one before and with room for all. It comes a delay a link after the send, at the
-/// latest, up to the last moment.
+/// In a run that is over and loses nothing, with a file that delivers nothing, a geobroadcast
+/// reaches the n-th station of a chain at most n delays after its send, up to the last time. The
+/// chain begins at the sender and has at most as many links as the packet has hops. Its stations
+/// are present all the time and never move. Each one that sends is inside the area, and the next
+/// one is in its range and has a location table for as many sources as there are stations. No two
+/// stations share a MID. The sender never restarted and sent at most 65536 packets for areas.
 pub fn reaches_in_air()
     ensures { (rules : Rules) (configs : List Config) (file : List Filed) →
         ReachesInAir rules configs file }

@@ -90,6 +90,10 @@ impl<R: BufRead + Drop> Rows<R> {
     /// The next row, whose moment is no earlier than that of the row before. `None` at the end, and
     /// from then on. Empty lines, and SUMO's rows without an id, are skipped. After a fault each call
     /// returns the same fault.
+    ///
+    /// - `row` (`IsRow`): each number of a row is in its range.
+    /// - `order`, `begin`: no row comes before one that was given, by the clock of the file, whose
+    ///   begin stays.
     pub fn next(&mut self) -> Result<Option<Row>, MovesFault>
         ensures begin { self.new.begin ≡ self.old.begin }
         ensures row { IfOk result (λ row. IfSome row IsRow) }

@@ -1,5 +1,22 @@
 //! What a radio model has waiting: ticks, sends and deliveries, in the order of time and then of
 //! putting. And the random numbers that set the times.
+//!
+//! # What is proved
+//!
+//! - What waits is one list, whether it is in line or on the heap (`AreInOrder`), in the order of
+//!   time and then of putting.
+//! - The counts of what waits of each kind at each station (`Counts`) are those of that list.
+//! - The index of positions is in the order of rows of latitudes, and in a row of longitudes, by an
+//!   invariant of its type. All that is in range lies in few rows, and in each on one stretch
+//!   (`covers` of `find_stretch`).
+//!
+//! # Only tested
+//!
+//! That `OutOfMemory` is returned only if an allocation failed.
+//!
+//! # By review
+//!
+//! That deliveries always go into the line.
 #![tactic(auto)]
 
 mod draws;

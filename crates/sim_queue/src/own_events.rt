@@ -119,6 +119,9 @@ impl OwnEvents {
     }
 
     /// Takes the first event if it is a delivery in the line, and its time is before this one.
+    ///
+    /// - `first`, `left`, `before`, `none`: if it takes a delivery, that is what `pop_before` would
+    ///   take; otherwise it takes nothing.
     #[inline(always)]
     pub fn pop_delivery_before(&mut self, moment: u64) -> Option<Delivery>
         ensures before { IfSome result (λ delivery. delivery.moment < moment) }
@@ -136,6 +139,10 @@ impl OwnEvents {
     }
 
     /// Takes the first event, if its time is before this one.
+    ///
+    /// - `first`, `left`, `before`, `none`, `late`: it takes what comes first of all that waits, by
+    ///   time and then by the order of putting. That is before the given time. If nothing that
+    ///   waits is before that time, it takes nothing.
     pub fn pop_before(&mut self, moment: u64) -> Option<Scheduled>
         ensures before { IfSome result (λ event. event.moment < moment) }
         ensures first { IfSome result (λ event. IsUpperBound waiting_cmp event self.new) }

@@ -77,6 +77,9 @@ impl Audience {
 
     /// At how many of them the packet was delivered to its port: where `within` is given, at most
     /// so many milliseconds after it was sent.
+    ///
+    /// - its clause: at how many of these it was delivered to its port, and in time where a limit
+    ///   is given (`was_reached`).
     pub fn reached(&self, within: Option<u64>) -> usize
         ensures { result ≡ count_by (was_reached within) self.now.targets.items }
     {
@@ -86,6 +89,9 @@ impl Audience {
 
     /// The numbers of the stations to which the packet wasn't delivered, in order, each with how
     /// far it came there. `NoMemory` where an allocation failed.
+    ///
+    /// - its clause: just those at which it wasn't, in order, each with how far the packet came
+    ///   there (`missed_of`).
     pub fn missed(&self, alloc: Global) -> Result<Vec<(usize, Reach)>, NoMemory>
         ensures { IfOk result (λ missed. missed.items ≡ missed_of self.now.targets.items) }
     {

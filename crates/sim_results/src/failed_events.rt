@@ -256,6 +256,10 @@ impl FailedEvents {
 
     /// Takes an event that was done: it counts if it is a send of the scenario and was refused.
     /// `NoMemory` if an allocation failed.
+    ///
+    /// - `refused`, `next`, `other`: if the event that was done is the next send of the scenario
+    ///   (`IsAsked`: time, keyword and station) and was refused, it counts, under its own number;
+    ///   that send is then no longer awaited. Any other event changes nothing.
     #[inline(always)]
     pub fn take(&mut self, done: &EventRecord<'_>) -> Result<(), NoMemory>
         ensures done { was_done done.now.entry.now ≡ true → self.new.count ≡ self.old.count }
@@ -285,6 +289,9 @@ impl FailedEvents {
 
     /// Takes a note of the run, of this moment in milliseconds: an event whose station is absent
     /// counts. `NoMemory` if an allocation failed.
+    ///
+    /// - `absent`, `next`: an event whose station is absent counts, and is no longer awaited if it
+    ///   is a send.
     pub fn take_note(&mut self, moment: u64, note: &Note<'_>) -> Result<(), NoMemory>
         ensures absent { IfOk result (λ _. self.new.count ≡ (if is_absent note.now
             then one_more self.old.count else self.old.count)) }

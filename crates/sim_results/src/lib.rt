@@ -2,6 +2,27 @@
 //! stations that it is for, receptions that met a full location table, what is doubtful about the
 //! run, and the files of numbers, with a row for each packet for an area, each station or each
 //! second.
+//!
+//! # What is proved
+//!
+//! Inside, an event after `until` and one after a bad row are not run, and no other one is left out
+//! (`WhyLate::of`).
+//!
+//! The air time of a frame is added to its second, and to its interval of 100 ms; a frame of a
+//! later interval starts a new sum (`busy`, `first`, `more`, `dense` of `StationLoad::add`).
+//!
+//! A doubt is reported if there is one: without one nothing is written (`none` of
+//! `Doubts::report`).
+//!
+//! # Only tested
+//!
+//! - `checks/air`: each number of each file, how far a packet came at each station, how many
+//!   deliveries of it the end of the run cut off, and the least capacity of a full table, against a
+//!   second computation (docs/proof/TESTS.md).
+//! - `cases/results.md`, `moving.md`, `presence.md`, `unsent.md`: files that can't be written, runs
+//!   that are cut short, and which events have a line.
+//! - `cases/expect.md`, `missed.md`: expectations and missed packets.
+//! - `cases/doubtful.md`: what is doubtful about a run, and that a right one has no doubt.
 #![tactic(auto)]
 
 mod audience;

@@ -1,4 +1,21 @@
 //! The command `sim`: a scenario is run, its lines are printed, and its frames go to a file.
+//!
+//! # What is proved
+//!
+//! - A strict run ends with `Refused` if and only if an entry of that very run is a refusal,
+//!   without moves and with them (`IsRunStatus`; `run`, `ends`: `EndsRun`). What is found out about
+//!   a run, and its file of frames, end with `Done` only if that status is `Done` (`Report::end`,
+//!   `RunSinks::end`, `run_into`: `done`).
+//! - No file that a run writes is one that it reads, or another one that it writes
+//!   (`keep_all_apart`: `AreAllApart`).
+//!
+//! # Only tested
+//!
+//! - `cases/arguments.md`: that the command over files ends so too.
+//! - `checks/failures`: failed reads and allocations, full files.
+//! - `checks/terminal`: progress.
+//! - `cases/frames.md`, `cases/moving.md`: the names of interfaces, that `sim` passes each frame to
+//!   its file, and a run that its moves file cuts short.
 #![tactic(auto)]
 
 mod asked;

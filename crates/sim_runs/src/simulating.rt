@@ -64,6 +64,9 @@ fn simulate_text<'a, R: Read + Drop, W: Write, E: ProgressWriter>(
 /// file of moves: none is given here.
 ///
 /// `NoOutput` where a write failed, `OutOfMemory` where an allocation did.
+///
+/// - `done` (`IsDoneRun`): `Done` only if the run of that very scenario is done: of a strict one no
+///   entry is a refusal.
 pub fn simulate_scenario<'f, W: Write, E: ProgressWriter>(
     alloc: Global,
     scenario: &Scenario,

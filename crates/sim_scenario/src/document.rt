@@ -26,6 +26,15 @@ impl Scenario {
     /// kind of `air`, of `every`, of `moves` and of `expect`, of the number of stations, of each
     /// station in turn, of the air, of each traffic in turn, of moves, of each event in turn, of
     /// each table of what is expected, of two stations with the same MID.
+    ///
+    /// - `toml`: what is read is a TOML document: UTF-8 that the grammar of the kit reads.
+    /// - `refused`: `not TOML` is returned only if it is not TOML, and not if memory runs out.
+    /// - `says` (`SaysScenario`): the scenario is the one that the document says: its stations, one
+    ///   for one, each as its keys say, and whether it is present at the start; what is expected;
+    ///   and its timeline (`SayTimeline`): without an air each event, in order; in one the air,
+    ///   with values that are set in place of its own, the traffic, and each event and leave, in
+    ///   order; with the moves of a file also how these are read, and each event for a station or
+    ///   an id.
     pub fn from_toml(
         alloc: Global,
         text: &[u8],

@@ -1,5 +1,25 @@
 //! Scenarios: the stations, the air and the events of a TOML document, as those of a world. Each
 //! number is in its range, by the type of a scenario.
+//!
+//! # What is proved
+//!
+//! For an area without a centre the clause `says` has shape and measures. That its centre is where
+//! its station is then is tested. MIDs are compared by `refuse_shared` of `its_world`, whose clause
+//! `refused` tells which two stations are named.
+//!
+//! # Only tested
+//!
+//! - `cases/scenario.md`, `cases/reading.md`: each refusal and its sentence, with line and column
+//!   in a text that is not TOML; the order of keys (each key missing and with each of its bad
+//!   values, all before it valid and all after it bad); each key at both ends of its range;
+//!   defaults, letter cases, ignored keys; each action and each shape.
+//! - `cases/around.md`, `checks/air`: areas around their stations.
+//! - `checks/failures`: each allocation that fails.
+//! - `cases/scenario.md`: which of several bad keys is refused first, and the word that was meant.
+//!
+//! # By review
+//!
+//! Linear time in the number of stations.
 #![tactic(auto)]
 
 mod document;

@@ -1,5 +1,33 @@
 //! A scenario run as a world of stations, with a printed line for each event: words, or an object
 //! in JSON, of the same values.
+//!
+//! # What is proved
+//!
+//! The conditions: the speed of each move in its range, at most 65535 stations. No clause says what
+//! a text is.
+//!
+//! A summary of the i-th packet that is sent (`IsSummary`) has a clause for each of these:
+//!
+//! - `send`, `moment`, `station`, `kind`, `port`: the event that sent it, by its place among the
+//!   events that the tally took; its moment and station, the kind and the port of its request.
+//! - `frames`: how many frames carry it, its own among them: a packet's own frame carries it; one
+//!   that was given for the delivery of another carries what that one does, one relay deeper; all
+//!   others carry none (`carried`).
+//! - `delivered`: at how many stations a frame that carries it was delivered to the port: how many
+//!   deliveries of it are the first at their station (`firsts`).
+//! - `hops`: the most, over its deliveries, of one more than the depth of the frame; 0 without one.
+//! - `last`: the most, over the first deliveries at each station, of the delivery's time minus the
+//!   send's; 0 without one.
+//!
+//! Counts and depths stay at 2^64 - 1. If no frame was released, `late` is false; a run with a
+//! radio model releases frames. With `run_air` (`timed`) the totals and summaries are those of the
+//! events that the radio model's timetable gives.
+//!
+//! # Only tested
+//!
+//! - `cases/sim.md`: the lines and objects, and the sentences of refusals.
+//! - `checks/failures`: failed reads and allocations, full files.
+//! - `cases/`, `checks/air`: `inside` of a packet; that no entry of a run accepts a released frame.
 #![tactic(auto)]
 
 mod action;

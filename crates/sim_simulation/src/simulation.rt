@@ -22,6 +22,10 @@ use std::alloc::Global;
 ///
 /// The numbers of each station and of each event have to be in their ranges, and no two stations
 /// may have the same MID. If an allocation or the sink failed, the sink has the events before.
+///
+/// - its clause: if it ends well, the world is that of the model's run of just these events, the
+///   laws over every schedule hold of that very end, and any sink took just these events and the
+///   model's entries of them, in order (`IsSimulated`).
 pub fn simulate_into<S: EventSink>(
     alloc: Global,
     stations: &[Config],

@@ -94,6 +94,12 @@ impl Gone {
 ///
 /// `OutOfMemory` where an allocation failed, and what the sink answers: then nothing further is
 /// read.
+///
+/// - its clause (`IsReplayedWhole`): each selected record, in order, is one step of the written
+///   rules of just this station, at the record's time and with the octets of its frame, or is
+///   reported as one without a frame. What is reported is that step's answer, once and in order.
+///   The file is read to its end, to its fault, or to as many selected records as are wanted. The
+///   station is one of the model throughout.
 pub fn replay_records<'f, S: RecordSource, K: HeardSink>(
     alloc: Global,
     station: &mut Station<SortedTable>,

@@ -47,6 +47,9 @@ impl JsonLine {
     ///
     /// `OutOfMemory` if an allocation failed. `Kind` for a value that no line has, and for one that
     /// prints nothing.
+    ///
+    /// - its clause: a line is the compact text of one or more tokens of JSON, which are read from
+    ///   it again, and a line feed; it is never empty.
     pub fn of<T: Serialize>(&mut self, value: &T) -> Result<&[u8], JsonFault>
         ensures { IfOk result (λ line. IsLine line.now) }
     {

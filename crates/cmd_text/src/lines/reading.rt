@@ -50,6 +50,11 @@ impl Line {
     ///
     /// If the reader's octets are known, it is their first line, and the reader is left with the octets
     /// behind the line feed.
+    ///
+    /// - `line` (`IsLineRead`): if the octets of the reader are known and the read ends well, the
+    ///   answer is `false` if and only if none is left. Otherwise what is kept is the beginning of
+    ///   their first line, what is known of its other octets is so, and the reader is left with
+    ///   what follows the line feed.
     pub fn read<R: BufRead>(&mut self, reader: &mut R) -> io::Result<bool>
         ensures kept { self.new.most ≡ self.old.most }
         ensures none { IfOk result (λ is_there. ¬ IsTrue is_there → vec_len self.new.start ≡ 0) }

@@ -28,9 +28,11 @@ pub fn a_refused_call_changes_nothing()
         × ((station_step s moment call).station.clock ≡ moment) }
 {}
 
-/// A packet of another source that comes to a station in time and finds room is delivered in that
-/// very call, where its port is open: a geobroadcast or geoanycast that isn't remembered and whose
-/// area holds the station, and a single-hop broadcast from its source's own link address.
+/// A packet of another source that comes in time, to the station or to all, with its port open and
+/// room for its source, is delivered in that very call.
+///
+/// - `inside`: a packet for an area that holds the station, with a number that isn't remembered.
+/// - `single_hop`: a single-hop broadcast from its source's own link address.
 pub fn a_handing_is_owed()
     ensures inside { (s : StationModel) (moment : ℕ) (t : Transmission)
         (kind : AreaKind) (number : ℕ) (area : GeoArea) (message : Message) →

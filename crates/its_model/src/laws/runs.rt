@@ -62,6 +62,9 @@ pub fn one_line_a_frame()
 {}
 
 /// The stations stay as many as were configured, and each is what its log makes it.
+///
+/// - `count`, `each`: each station keeps address, capacity and how many numbers it remembers, is
+///   mobile, and has the position, the clock, the count and the memory that the log says.
 pub fn stations_are_as_logged()
     ensures count { (configs : List Config) (events : List Event) →
         length (world_run (opening configs) events).stations ≡ length configs }

@@ -18,7 +18,8 @@ pub fn handed_as_sent()
         HandedAsSent configs (world_run (opening configs) events) }
 {}
 
-/// A relayed frame is the frame that was delivered, with one hop fewer.
+/// A relayed frame is the frame that was delivered, with one hop fewer, from the relayer's own link
+/// address. That frame had two hops left or more.
 pub fn relays_are_faithful()
     ensures { (configs : List Config) (events : List Event) →
         RelaysAreFaithful configs (world_run (opening configs) events) }
@@ -26,6 +27,12 @@ pub fn relays_are_faithful()
 
 /// No station accepts a packet for an area twice, unless it forgot it between; and what it ignores
 /// as a duplicate it accepted before, and didn't forget.
+///
+/// - field `again`: no station accepts (so: delivers) one packet for an area twice unless it
+///   restarted, its source's session broke there, or as many others were accepted between as it
+///   remembers.
+/// - field `duplicate`: what is ignored as a duplicate was accepted there, with the same source and
+///   number, and not forgotten since.
 pub fn at_most_once()
     ensures { (configs : List Config) (events : List Event) →
         AtMostOnce configs (world_run (opening configs) events) }
@@ -38,15 +45,23 @@ pub fn at_most_once_by_default()
         AcceptedAgainByDefault configs (world_run (opening configs) events) }
 {}
 
-/// A send for an area makes at most one frame more than it is accepted; where no station forgot the
-/// packet between two acceptances, at most one frame a station. Each frame has the packet's number,
-/// and its hops left and its relays so far make the greatest hops.
+/// A send for an area makes few frames.
+///
+/// - field `few`: it makes at most one frame more than it is accepted.
+/// - field `one_a_station`: a packet that no station forgot between two acceptances makes at most
+///   as many frames as there are stations.
+/// - field `number_and_hops`: each frame has the packet's number, area and message. Its hops left
+///   and its relays so far make its greatest hops.
 pub fn flooding_is_bounded()
     ensures { (configs : List Config) (events : List Event) →
         FloodingIsBounded configs (world_run (opening configs) events) }
 {}
 
 /// A geoanycast that a station accepted inside its area goes no further.
+///
+/// - field `inside`: a station that accepts it inside its area gives no frame, whether its port is
+///   open or not.
+/// - field `handed`: a station that delivers it gives no frame.
 pub fn anycast_stops_inside()
     ensures { (configs : List Config) (events : List Event) →
         AnycastStopsInside configs (world_run (opening configs) events) }

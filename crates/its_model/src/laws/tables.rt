@@ -17,6 +17,10 @@ ghost use Rattle.its_model.specs.Decision.{distance_of, next_hop, Precedes};
 /// neighbouring moments, and the last one and that moment, are less than an entry's life apart: the
 /// later from the earlier, and either way where no moment fell. A source is live where its session
 /// isn't empty.
+///
+/// - `run`, `none_longer`, `apart`: the session is that tail (fields `front`, `near`, `longest`),
+///   and no such tail is longer. An entry's life is 20000 ms.
+/// - `live`: a source is live if and only if its session isn't empty.
 pub fn a_session_is_the_longest_run()
     ensures run { (source moment : ℕ) (history : List Reception) →
         IsLongestRun (of_source source history) moment (session source moment history) }

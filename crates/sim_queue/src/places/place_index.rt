@@ -153,6 +153,9 @@ pub struct PlaceIndex {
 impl PlaceIndex {
     /// Returns the index of these stations. `range`, in metres, sets the height of a row: a search
     /// with this range looks at few rows. Allocates memory for all stations.
+    ///
+    /// - its clause: each station is in the index once, with its number and its position, and
+    ///   nothing else is (`AreStandingsOf`).
     pub fn of(
         alloc: Global,
         range: u16,
@@ -190,6 +193,8 @@ impl PlaceIndex {
 
     /// Finds the stations that receive what one of them sends, as the function `find_hearers` does.
     /// If few are near the sender, it looks only at these.
+    ///
+    /// - its clause: the list of `find_hearers`, if the index is of these stations.
     pub fn find_hearers(
         &self,
         range: u16,

@@ -103,6 +103,11 @@ impl AddressedEvent {
 
     /// Returns the event or leave, as it is done by the station of this number while that station is
     /// at this position. Fails if an allocation failed.
+    ///
+    /// - `done` (`IsDoneAt`): the event or leave is of that station, at its moment. An area around
+    ///   the station has that position as its centre, with its own shape and measures. All else is
+    ///   as the event says.
+    /// - `speed`, `frame`: the speed is in its range, and the frame is that of the event.
     pub fn at(&self, alloc: Global, station: usize, place: Place) -> Result<FileEvent, AllocError>
         requires fits { FitsAddressed self.now }
         ensures done { IfOk result (IsDoneAt self.now.action station self.now.moment place) }

@@ -22,6 +22,10 @@ use std::alloc::Global;
 /// order.
 ///
 /// The first key that is missing, of another kind or out of range is refused.
+///
+/// - `says` (`SaysWhat`): from fields of any notation: what is done is what the word under `do` and
+///   the keys of that word say.
+/// - `bad` (`IsBadOf`): the key that is refused has no value that it takes.
 #[tactic(auto, using(crate::proofs::Bad::bad_of, crate::proofs::Bad::bad_word, crate::proofs::Bad::bad_leave))]
 pub fn read_what<F: Fields>(alloc: Global, fields: &F) -> Result<What, KeyFault>
     ensures says { IfOk result (λ what. SaysWhat (F.values fields.now) (what_of what)) }

@@ -56,6 +56,12 @@ impl CarriedPacket {
 
 /// A sink that counts: what came of each packet for an area, and the totals. It keeps a few octets
 /// for each frame that the world keeps, and for each station at which a packet was delivered.
+///
+/// - `Took`: its totals are the counts of the events that it took, and of their entries: all
+///   events, sent frames, delivered payloads, frames ignored as duplicates and otherwise, refusals
+///   (`AreTotals`). It has as many sends as packets for an area (`packets_sent`). Unless a released
+///   frame was delivered (`late`), which no world does, what it has counted of each packet is what
+///   the events and entries say (`HasCounted`).
 #[derive(Drop)]
 pub struct Tally {
     sends: Vec<SendSummary>,
