@@ -208,7 +208,8 @@ def check_link_frames(table, sources, packets):
 
     fixed = {"lifetime": 0x1A, "traffic_class": 0, "mobile": 1, "latitude": module.LAT,
              "longitude": module.LON, "accurate": 1, "speed": 0, "heading": 0, "media": 0,
-             "info": 0, "area_longitude": module.LON, "a": 500, "b": 0, "angle": 0, "sub_type": 0}  # fmt: skip
+             "info": 0, "area_longitude": module.LON, "a": 500, "b": 0, "angle": 0,
+             "sub_type": 0}  # fmt: skip
     made = []
     for kind, values, octets in packets:
         frame = LINK + octets
@@ -226,24 +227,48 @@ def check_link_frames(table, sources, packets):
     return sorted(set(wrong)) + same_octets(path, table, made, write)
 
 
-def check_entity(table, sources, packets):
-    """Where the example of a security entity finds the port in a plain part, and where the daemon
-    finds a plain part in a frame."""
-    path = "examples/security/rules.py"
-    tree = ast.parse(sources.text(path))
-    assigned = [it for it in tree.body if isinstance(it, ast.Assign)]
-    found = next(it.value for it in assigned if ast.unparse(it.targets[0]) == "PORT_AT")
-    places = eval(compile(ast.Expression(found), path, "eval"), {})
-    end = table.fields["next"].start // 8
-    wanted = {TYPES[kind]: table.payload_start(kind) - end for kind in ("gbc", "gac", "shb")}
-    wrong = [] if places == wanted else [f"{path}: the port is at {places}, but {wanted}"]
-    for path, text in (
-        ("c/link/security.h", f"BASIC_END = {len(LINK) + end},"),
-        ("c/link/security.c", f"r->octets[{len(LINK)}] == 0x11"),
-    ):
-        if text not in sources.text(path):
-            wrong.append(f"{path}: there is no {text}, where the Basic Header ends or begins")
-    return wrong
+def places_in(table):
+    """Places that some sources have as numbers: texts that each has, with the table's numbers.
+    Most count from the first octet of a frame."""
+    link = len(LINK)
+    at = {key: link + field.start // 8 for key, field in table.places("gbc").items()}
+    beacon = {key: link + field.start // 8 for key, field in table.places("beacon").items()}
+    end, source, other = at["next"], beacon["address"], at["address"]
+    payload = {kind: link + table.payload_start(kind) for kind in ("shb", "gbc", "gac")}
+    shb, area = payload["shb"], payload["gbc"]
+    return {
+        "examples/security/rules.py": [f"{{3: 8 + {area - end - 8}, 4: 8 + {area - end - 8}, "
+                                       f"5: 8 + {shb - end - 8}}}"],
+        "c/link/security.h": [f"BASIC_END = {end},"],
+        "c/link/security.c": [f"r->octets[{link}] == 0x11"],
+        "c/link/test/wire.c": [f"ADDRESS_END = {source + 7}, NUMBER = {at['number']},"],
+        "c/link/test/air.py": [f"frame[{at['number']}:{at['number'] + 2}], "
+                               f"frame[{other}:{other + 8}]"],
+        "crates/its_linkframe/src/fields.rt": [f"MESSAGE: usize = {end};"],
+        "checks/lib/secured.py": [f"LINK, BASIC = {link}, {end - link}"],
+        "checks/lib/dissect_signed.py": [f"LINK, BASIC = {link}, {end - link}"],
+        "checks/lib/signed_rows.py": [
+            f"HOPS_AT, BODY = {at['hops_left']}, {end}",
+            f'{{"shb": {link} + {shb - link}, "gbc": {link} + {area - link}, '
+            f'"gac": {link} + {area - link}}}',
+        ],
+        "viewer/secured.js": [f"MESSAGE = {end};"],
+        "viewer/peek.js": [
+            f"TYPE = {at['type']};",
+            f"{{beacon: {source}, shb: {source}, gbc: {other}, gac: {other}}};",
+            f"{{shb: {shb}, gbc: {area}, gac: {area}}};",
+        ],
+    }  # fmt: skip
+
+
+def check_places(table, sources, packets):
+    """Sources that have places as numbers."""
+    return [
+        f"{path}: there is no {text}, as the table has it"
+        for path, texts in places_in(table).items()
+        for text in texts
+        if text not in sources.text(path)
+    ]
 
 
 # The bits of scapy's fields.
@@ -514,7 +539,7 @@ CHECKS = {
     "checks/lib/packet_rows.py": (check_packet_rows, None),
     "checks/lib/time_stamps.py": (check_time_stamps, None),
     "c/link/test/frames.py": (check_link_frames, None),
-    "examples/security/rules.py": (check_entity, None),
+    "examples/security/rules.py": (check_places, None),
     "python/geostation/scapy.py": (check_scapy, None),
     "viewer/frame.js": (check_viewer, "node"),
     "bench/twin/packets.rs": (check_twin, "rustc"),
