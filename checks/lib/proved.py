@@ -2,8 +2,8 @@
 
 A page is written from the sources of the crate, and from nothing else:
 
-- what `//!` of `src/lib.rt` says first, and its sections: `What is proved` for what holds by a type
-  or of several functions, `Only tested`, `By review` and so on
+- what `//!` of `src/lib.rt` says first (of a program, `src/main.rt`), and its sections: `What is
+  proved` for what holds by a type or of several functions, `Only tested`, `By review` and so on
 - functions whose `///` has words for their clauses: lines as `/// - \`fault\`: the first fault.`
 - all other public functions with a contract, with their `///` and the names of their clauses
 
@@ -54,7 +54,7 @@ def sources(crate):
     """The source files of a crate but its own tests, the top first."""
     folder = TOP / "crates" / crate / "src"
     files = [path for path in folder.rglob("*.rt") if "tests" not in path.with_suffix("").parts]
-    return sorted(files, key=lambda path: (path.name != "lib.rt", path))
+    return sorted(files, key=lambda path: (path.name not in ("lib.rt", "main.rt"), path))
 
 
 def shown_names(files):

@@ -1,5 +1,18 @@
 //! The program `geostation`: it shows, checks and makes captures of GeoNetworking frames, runs
-//! scenarios, and is a station on a pipe.
+//! scenarios, and is a station on a pipe. It reads its arguments (`clap`, `cmd_arguments`) and calls
+//! the commands.
+//!
+//! # Only tested
+//!
+//! - `cases/arguments.md` and the other cases: the texts of the help, the version and refused
+//!   arguments; that each command runs on the files that its arguments name, and on standard input
+//!   for `-`. One run, `show first.cap`, is compared as two compilers build it.
+//! - `checks/failures`: an output that fails at any write, each allocation that fails, reads that
+//!   fail, full files, and much input in little memory.
+//!
+//! # By review
+//!
+//! `main` ends with the code of a `Status`, 0 to 3.
 #![tactic(auto)]
 
 mod arguments;
