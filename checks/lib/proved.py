@@ -4,7 +4,7 @@ A page is written from the sources of the crate, and from nothing else:
 
 - what `//!` of `src/lib.rt` says first (of a program, `src/main.rt`), and its sections: `What is
   proved` for what holds by a type or of several functions, `Only tested`, `By review` and so on
-- functions whose `///` has words for their clauses: lines as `/// - \`fault\`: the first fault.`
+- functions whose `///` has words for their clauses: lines as ``- `fault`: the first fault.``
 - all other public functions with a contract, with their `///` and the names of their clauses
 
 Contracts are found by the layout that `rt fmt` gives every source, so nothing is parsed but the
