@@ -524,7 +524,8 @@ class Hidden(NamedTuple):
     made: str | None = None
 
 
-Told = Done | Note | Hidden
+# What a run yields.
+Step = Done | Note | Hidden
 
 
 class World:
@@ -555,13 +556,13 @@ class World:
         self.full: list[int] = []
         self.expected: list[dict] = scenario.get("expect", [])
 
-    def run(self) -> Iterator[Told]:
+    def run(self) -> Iterator[Step]:
         """The events of the run, each with its entry, and its notes, done as they are asked for."""
         if self.air is None:
             return self.run_events()
         return AirRun(self, self.air).run()
 
-    def run_events(self) -> Iterator[Told]:
+    def run_events(self) -> Iterator[Step]:
         """A run of the events of the scenario alone."""
         for number, event in enumerate(self.events):
             entry = self.do(event)
@@ -677,7 +678,7 @@ class AirRun:
         due = [(world.last[i] + gone, s) for i, s in world.known.items() if s in world.present]
         return min(due, default=None)
 
-    def run(self) -> Iterator[Told]:
+    def run(self) -> Iterator[Step]:
         """The run, and then which events of the scenario it didn't come to."""
         try:
             yield from self.run_all()
@@ -695,7 +696,7 @@ class AirRun:
             elif cut:
                 self.world.failed.append(f"event {number}: not run at {at} ms: {cut}")
 
-    def run_all(self) -> Iterator[Told]:
+    def run_all(self) -> Iterator[Step]:
         self.put_first()
         row = self.world.next_row()
         while True:
@@ -720,7 +721,7 @@ class AirRun:
                 _, order, event, own = heapq.heappop(self.waiting)
                 yield from self.run_event(now, event, own, order)
 
-    def run_row(self, row: Row) -> Iterator[Told]:
+    def run_row(self, row: Row) -> Iterator[Step]:
         world, is_new = self.world, row.id not in self.world.known
         if is_new:
             world.make(row)
@@ -737,7 +738,7 @@ class AirRun:
 
     def run_event(
         self, now: int, event: dict, own: str | int | None, order: int
-    ) -> Iterator[Told]:
+    ) -> Iterator[Step]:
         """An event of the scenario, whose number there is its order, or of the air's own."""
         world = self.world
         if world.moves is not None and "id" in event:
@@ -761,7 +762,7 @@ class AirRun:
         if event["do"] == "move" and not refused and not is_present:
             yield from self.come(station, now)
 
-    def do(self, event: dict, order: int | None = None) -> Iterator[Told]:
+    def do(self, event: dict, order: int | None = None) -> Iterator[Step]:
         """An event of the world, and who hears its frame. Returns whether it was refused. An event
         of the scenario has its number there as its order."""
         world, station, now = self.world, event["station"], event["at"]
@@ -831,16 +832,16 @@ def audience(world: World, sender: int, port: int, area: Area) -> list[int]:
     return [n for n, s in others if port in s.ports and area.holds(s.vector.place)]
 
 
-def watched(world: World, sends: list[Send]) -> Iterator[Told]:
+def watched(world: World, sends: list[Send]) -> Iterator[Step]:
     """The run, with what comes of each packet for an area."""
     # For each frame the send that it is of, None for a beacon or an shb, and its hops so far.
     origins: list[tuple[Send | None, int]] = []
     number = 0
-    for told in world.run():
-        yield told
-        if not isinstance(told, Done):
+    for step in world.run():
+        yield step
+        if not isinstance(step, Done):
             continue
-        event, entry = told
+        event, entry = step
         word, gave = entry.word.split()[0], entry.frame is not None
         send, hops = None, 0
         if word == "accepted":
@@ -861,16 +862,16 @@ def watched(world: World, sends: list[Send]) -> Iterator[Told]:
         number += 1
 
 
-def lines(run: Iterator[Told], world: World, notes: bool) -> Iterator[str]:
+def lines(run: Iterator[Step], world: World, notes: bool) -> Iterator[str]:
     number = 0
-    for told in run:
-        if isinstance(told, Hidden):
+    for step in run:
+        if isinstance(step, Hidden):
             continue
-        if isinstance(told, Note):
+        if isinstance(step, Note):
             if notes:
-                yield f"- {told.moment} {told.station} {told.words}"
+                yield f"- {step.moment} {step.station} {step.words}"
             continue
-        event, entry = told
+        event, entry = step
         words = [number, event["at"], event["station"]]
         number += 1
         if world.air is not None:
@@ -885,13 +886,13 @@ def lines(run: Iterator[Told], world: World, notes: bool) -> Iterator[str]:
         yield " ".join(str(word) for word in words)
 
 
-def summary(run: Iterator[Told], world: World, sends: list[Send]) -> Iterator[str]:
+def summary(run: Iterator[Step], world: World, sends: list[Send]) -> Iterator[str]:
     total: Counter[str] = Counter()
     bad = None
     try:
-        for told in run:
-            if isinstance(told, Done):
-                entry = told.entry
+        for step in run:
+            if isinstance(step, Done):
+                entry = step.entry
                 gave, handed = entry.frame is not None, entry.handed is not None
                 is_duplicate = entry.word == "ignored duplicate"
                 word = "duplicates" if is_duplicate else entry.word.split()[0]

@@ -105,17 +105,17 @@ def run_scenario(scenario: dict, moves: bytes | None) -> Run | None:
         run.add_station(station, "", number in world.present)
     count = 0
     try:
-        for told in world.run():
-            if isinstance(told, air.Done):
-                run.happened.append(of_event(world, told, count))
+        for step in world.run():
+            if isinstance(step, air.Done):
+                run.happened.append(of_event(world, step, count))
                 count += 1
-            elif isinstance(told, air.Hidden) and told.made is not None:
-                run.add_station(world.stations[told.station], told.made, False)
-                run.happened.append(Happened("made", told.moment, told.station))
-            elif isinstance(told, air.Hidden):
-                run.happened.append(Happened("heard", told.moment, told.station, frame=told.heard))
+            elif isinstance(step, air.Hidden) and step.made is not None:
+                run.add_station(world.stations[step.station], step.made, False)
+                run.happened.append(Happened("made", step.moment, step.station))
+            elif isinstance(step, air.Hidden):
+                run.happened.append(Happened("heard", step.moment, step.station, frame=step.heard))
             else:
-                run.happened.append(of_note(told))
+                run.happened.append(of_note(step))
     except air.BadRow:
         run.is_whole = False
     run.undelivered = world.undelivered
@@ -128,8 +128,8 @@ def of_note(note: air.Note) -> Happened:
     return Happened(word, note.moment, station, frame=int(what[0]) if word == "lost" else None)
 
 
-def of_event(world: air.World, told: air.Done, number: int) -> Happened:
-    event, entry = told
+def of_event(world: air.World, done: air.Done, number: int) -> Happened:
+    event, entry = done
     one = Happened("event", event["at"], event["station"], number, event["do"], entry.word)
     one.is_handed = entry.handed is not None
     if entry.frame is not None:

@@ -12,7 +12,7 @@ use std::alloc::{AllocError, Global};
 use std::fmt;
 use toml::{Table, Value};
 
-/// A key that is none of the words of its table. It prints as its place in the scenario: `air: hop`,
+/// A key that is not known in its table. It prints as its place in the scenario: `air: hop`,
 /// `expect 0: sent`, or `unknown: station 3: lattitude` if only a strict reading refuses it.
 #[derive(Debug, Drop, PartialEq, Eq)]
 pub struct UnknownKey {
@@ -92,8 +92,8 @@ fn first_unknown<'a>(table: &'a Table, known: &[Key]) -> Option<&'a str> {
     None
 }
 
-/// The keys of the document, of its stations and of its events that are none of their words, in this
-/// order. Those of one table are in the order of their octets.
+/// The unknown keys of the document, of its stations and of its events, in this order. Those of one
+/// table are in the order of their octets.
 pub(crate) fn unknown_keys(
     alloc: Global,
     document: &Table,
@@ -140,8 +140,8 @@ fn add_unknown(
     Ok(())
 }
 
-/// A key that is missing from a part of the scenario, where a key that is none of its words is near.
-/// It prints as the missing one's place in the scenario: `air: range`.
+/// A key that is missing from a part of the scenario that has an unknown key of a similar name. It
+/// prints as the missing one's place in the scenario: `air: range`.
 #[derive(Debug, Drop, PartialEq, Eq)]
 pub struct Misspelled {
     /// The part of the scenario. `None` for the scenario itself.
