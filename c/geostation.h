@@ -279,7 +279,9 @@ struct geostation_config {
     uint16_t mobile;    /**< 0 for a station that does not move, otherwise not 0 (default 1) */
     uint16_t number;    /**< sequence number of the first packet for an area (default 0) */
 
-    /* Limits on what is sent. A rate or a burst of 0 turns a limit off. */
+    /* Limits on what is sent. A rate or a burst of 0 turns a limit off. A limit per source needs a
+     * limit of all: forward_burst below 256, and source_burst * forward_rate at most
+     * (256 - forward_burst) * source_rate. Otherwise the config is #GEOSTATION_BAD_ARGUMENT. */
     uint32_t forward_rate;  /**< forwarded frames per second, 0 to 1000000 (default 100) */
     uint32_t forward_burst; /**< frames forwarded at once, 0 to 1000000 (default 50) */
     uint32_t source_rate;   /**< forwarded frames per second of each source (default 20) */

@@ -968,6 +968,32 @@ static void test_limit_ranges(void) {
     CHECK(geostation_new_from_config(&s, &c) == GEOSTATION_BAD_ARGUMENT && s == NULL);
 }
 
+static int is_refused(const struct geostation_config *c) {
+    struct geostation *s = NULL;
+    int refused = geostation_new_from_config(&s, c) == GEOSTATION_BAD_ARGUMENT && s == NULL;
+    geostation_free(s);
+    return refused;
+}
+
+/* A limit per source needs a common limit with which no source is forgotten before its bucket is
+ * full: forward_burst below 256, and source_burst * forward_rate at most
+ * (256 - forward_burst) * source_rate. */
+static void test_remembered_sources(void) {
+    struct geostation_config c = unlimited(A_ADDRESS, 0);
+    c.source_rate = 20, c.source_burst = 20;
+    CHECK(is_refused(&c));
+    c.forward_rate = 206, c.forward_burst = 50;
+    CHECK(!is_refused(&c));
+    c.forward_rate = 207;
+    CHECK(is_refused(&c));
+    c.forward_rate = 1, c.forward_burst = 255;
+    CHECK(!is_refused(&c));
+    c.forward_burst = 256;
+    CHECK(is_refused(&c));
+    c.source_rate = 0;
+    CHECK(!is_refused(&c));
+}
+
 /* Sends a GBC of A, with so many hops, and has it received: whether it is forwarded. */
 static int forwards(struct geostation *a, struct geostation *b, uint64_t now, uint8_t hops) {
     struct geostation_area_request request = AREA;
@@ -1060,6 +1086,7 @@ static void test_forward_rate(void) {
 static void test_source_rate(void) {
     struct geostation_config plain = unlimited(A_ADDRESS, 0), other_one = unlimited(C_ADDRESS, 5);
     struct geostation_config limited = unlimited(B_ADDRESS, 900);
+    limited.forward_rate = 100, limited.forward_burst = 50;
     limited.source_rate = 1, limited.source_burst = 1;
     struct geostation *a = made(&plain), *c = made(&other_one), *b = made(&limited);
     CHECK(forwards(a, b, 1000, 5) && !forwards(a, b, 1000, 5) && forwards(c, b, 1000, 5));
@@ -1156,6 +1183,7 @@ int main(int argc, char **argv) {
     test_own_rate();
     test_forward_rate();
     test_source_rate();
+    test_remembered_sources();
     test_hop_cap();
     test_echo();
     test_restarted_source();

@@ -100,6 +100,16 @@ static bool take_option(struct options *o, int option, struct setting *s, struct
     }
 }
 
+/* The library refuses limits with which a source would be forgotten before its bucket is full. */
+static bool remembers_sources(const struct geostation_config *c) {
+    if (c->source_rate == 0 || c->source_burst == 0) {
+        return true;
+    }
+    return c->forward_rate != 0 && c->forward_burst != 0 && c->forward_burst < 256
+        && (uint64_t)c->source_burst * c->forward_rate
+            <= (uint64_t)(256 - c->forward_burst) * c->source_rate;
+}
+
 /* Which options are required, and which exclude each other. */
 static bool judge(const struct options *o, struct fault *f) {
     if ((o->interface != NULL) == (o->udp != NULL)) {
@@ -120,6 +130,10 @@ static bool judge(const struct options *o, struct fault *f) {
     if (o->security == NULL && (o->security_user != NULL || o->timed_security)) {
         return set_fault(f, BAD_ARGUMENTS, "--security-user and --security-timeout need "
                          "--security");
+    }
+    if (!remembers_sources(&o->station)) {
+        return set_fault(f, BAD_ARGUMENTS, "--source-rate and --source-burst need a lower "
+                         "--forward-rate and --forward-burst, or both 0");
     }
     return true;
 }

@@ -22,7 +22,7 @@ static geostation_handle *make(const struct geostation_config *c) {
     if (status != GEOSTATION_OK) {
         fail(FAILED, "out of memory: --capacity %u and --remember %u need %u kB of the limit "
              "(ulimit -v, MemoryMax=)", c->capacity, c->remember,
-             (31440 + c->capacity * (58 + 2u * c->remember)) / 1000 + 1);
+             (31432 + c->capacity * (58 + 2u * c->remember)) / 1000 + 1);
     }
     return handle;
 }

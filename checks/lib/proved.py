@@ -34,7 +34,7 @@ SECTIONS = (
 STACK = (
     "its_gnvalue its_geometry its_faults its_model its_headers its_linkframe cap_linklayers"
     " cap_records::messages cap_pcap its_duplicates its_loctable its_forwarding its_btp"
-    " its_station its_governor its_world its_c"
+    " its_station its_governor its_unit its_world its_c"
 ).split()
 # The top of an impl or trait, and the type that a row is named for.
 OWNER = re.compile(r"^(?:pub )?(?:impl|trait)\b(?:<.*?>)? ?(?:(\S.*) for )?([A-Za-z]\w*).* \{$")
@@ -70,13 +70,15 @@ def shown_names(files):
 
 
 def comment_above(lines, at):
-    """The lines of the `///` above a line; attributes may stand between."""
-    comment = []
+    """The lines of the `///` above a line; attributes may stand between, each on a line or more."""
+    comment, inside = [], False
     for line in reversed(lines[:at]):
         text = line.strip()
         if text.startswith("///"):
             comment.insert(0, text[3:].removeprefix(" "))
-        elif not text.startswith("#["):
+            continue
+        inside = (inside or text.endswith("]")) and not text.startswith("#[")
+        if not inside and not text.startswith("#["):
             break
     return comment
 

@@ -8,10 +8,14 @@ use Rattle.its_model.specs.Calls as model
 use Rattle.its_model.specs.Calls.{OwnCall}
 use Rattle.its_model.specs.Station.{StationModel}
 use Rattle.its_model.specs.World as world
-use Rattle.its_station.specs.declared.run.Call.{Call}
-use Rattle.its_station.specs.Runs.{IsCall}
+use Rattle.its_station.specs.declared.call.Call.{Call}
+use Rattle.its_station.specs.declared.call.Call.TheVariants as calls
+use Rattle.its_station.specs.declared.call.OwnCall.{OwnCall as CodeOwnCall}
+use Rattle.its_station.specs.Runs.{IsCall, own_of}
 use Rattle.its_station.specs.State.{StationState}
 use Rattle.its_world.specs.declared.event.Event.{Event}
+use Rattle.its_world.specs.declared.event.What.{What}
+use Rattle.its_world.specs.declared.event.What.TheVariants as whats
 use Rattle.its_world.specs.Events.{event_of, what_of}
 use Rattle.its_world.specs.State.{RepresentStations}
 use Rattle.cmd_mesh.specs.Calls.{MeshCall, HasMade, HasReceived, HasRun, HasBegun, own_calls}
@@ -59,29 +63,14 @@ pub record IsAsked (e : Event) (call : Call) : Type 0 where
   pub is : IsCall call (model.Call.Own own)
 
 -- an event with a call
-pub one_asked : (e : Event) (call : Call)
-    → ((own : OwnCall) → what_of e.what ≡ world.What.Calls own
-    → IsSomeAnd (Some call) (λ asked. IsCall asked (model.Call.Own own)))
-    → ((frame : ℕ) → what_of e.what ≡ world.What.Deliver frame → Some call ≡ None)
-    → IsAsked e call
-one_asked e call calls delivers = by (what_of e.what) refl
-  where
-    by : (what : world.What) → what_of e.what ≡ what → IsAsked e call
-    by (world.What.Calls own) h = record { own = own; what = h; is = calls own h }
-    by (world.What.Deliver frame) h = let no = delivers frame h in absurd cc
+pub one_asked : (e : Event) (own : CodeOwnCall) → e.what ≡ whats.Call own
+    → IsAsked e (calls.Own own)
+one_asked e own is = record { own = own_of own; what = ap what_of is; is = refl }
 
 -- an event without one
-pub none_asked : (e : Event) (found : Option Call) → found ≡ None
-    → ((own : OwnCall) → what_of e.what ≡ world.What.Calls own
-    → IsSomeAnd found (λ asked. IsCall asked (model.Call.Own own)))
+pub none_asked : (e : Event) (frame : ℕ) → e.what ≡ whats.Deliver frame
     → calls_in (event_of e) (what_of e.what) ≡ []
-none_asked e found none calls = by (what_of e.what) refl
-  where
-    by : (what : world.What) → what_of e.what ≡ what → calls_in (event_of e) what ≡ []
-    by (world.What.Calls own) h =
-        absurd (subst (λ (o : Option Call). IsSomeAnd o
-        (λ asked. IsCall asked (model.Call.Own own))) none (calls own h))
-    by (world.What.Deliver frame) h = refl
+none_asked e frame is = ap (λ (what : What). calls_in (event_of e) (what_of what)) is
 
 -- one that delivers a frame is passed over
 pub run_passed : (models : List StationModel) (moment : ℕ) (was : Bool) (events : List Event)

@@ -1,6 +1,6 @@
 -- Calls of the stations of a mesh, and what the stations stand for after them.
 use Rattle.std.proofs.Common.{◌≡◌, ℕ, ◌+◌, ◌<◌, Bool, true, false, ◌||◌, List, [], ◌∷◌, ◌++◌}
-use Rattle.std.proofs.Common.{length, set, take, zero, suc, Option, Some, None, refl, sym, ap}
+use Rattle.std.proofs.Common.{length, set, zero, suc, Option, Some, None, refl, sym, ap}
 use Rattle.std.proofs.Common.{◌∙◌, subst, inl, inr}
 use Rattle.std.specs.Prelude.{slice_get, IsFalse, IsSomeAnd, Vec}
 use Rattle.std.specs.declared.alloc.Global.{Global}
@@ -12,13 +12,14 @@ use Rattle.its_model.specs.Calls as model
 use Rattle.its_model.specs.Calls.{Answer, Call as ModelCall, OwnCall, Refusal}
 use Rattle.its_model.specs.Station.{StationModel, station_step}
 use Rattle.its_model.specs.Isolation.{TimedCall, answers_of, station_run}
-use Rattle.its_station.specs.declared.run.Call.{Call}
-use Rattle.its_station.specs.declared.run.Call.TheVariants as calls
+use Rattle.its_station.specs.declared.answer.Answer.TheVariants as answers
+use Rattle.its_station.specs.declared.call.Call.{Call}
+use Rattle.its_station.specs.declared.call.Call.TheVariants as calls
 use Rattle.its_station.specs.declared.run.Reply.{Reply}
-use Rattle.its_station.specs.declared.run.Reply.TheVariants as replies
+use Rattle.its_station.specs.Answers.{StationAnswer, TellsAnswer}
 use Rattle.its_station.specs.Receiving.{IsFrameCall}
-use Rattle.its_station.specs.Runs.{IsCall, AreCalls, AreReplies, TellsReply, IsDone}
-use Rattle.its_station.specs.Runs.{IsIsolatedRunOf, is_refusal}
+use Rattle.its_station.specs.Runs.{IsCall, AreCalls, AreReplies, TellsReply}
+use Rattle.its_station.specs.Runs.{is_refusal, reply_of}
 use Rattle.its_station.specs.State.{StationState, RepresentsStation}
 use Rattle.its_station.specs.Steps.{refusal_of}
 use Rattle.its_world.specs.State.{RepresentStations}
@@ -86,26 +87,24 @@ refuses_so : (found : Option Refusal) (answer : Answer Transmission)
 refuses_so None answer h = absurd h
 refuses_so (Some refusal) answer h = sym (ap is_refused h)
 
-done_so : (answer : Answer Transmission) → IsDone answer → false ≡ is_refused answer
-done_so model.Answer.Moved h = refl
-done_so model.Answer.Opened h = refl
-done_so model.Answer.Closed h = refl
-done_so model.Answer.Restarted h = refl
-done_so model.Answer.Quiet h = absurd h
-done_so (model.Answer.Sent frame) h = absurd h
-done_so (model.Answer.Ignored why) h = absurd h
-done_so (model.Answer.Accepted handed relayed) h = absurd h
-done_so (model.Answer.Refused refusal) h = absurd h
+-- an answer is a refusal if and only if the model's is
+refused_alike : (answer : StationAnswer) (told : Answer Transmission) → TellsAnswer answer told
+    → is_refusal (reply_of answer) ≡ is_refused told
+refused_alike answers.Moved told h = sym (ap is_refused h)
+refused_alike answers.Opened told h = sym (ap is_refused h)
+refused_alike answers.Closed told h = sym (ap is_refused h)
+refused_alike answers.Restarted told h = sym (ap is_refused h)
+refused_alike answers.Quiet told h = sym (ap is_refused h)
+refused_alike (answers.Sent frame) told h = sym (ap is_refused h.is)
+refused_alike (answers.Ignored why) told h = sym (ap is_refused h)
+refused_alike (answers.Accepted handed sent) told h = sym (ap is_refused h.is)
+refused_alike (answers.Refused refused) told h = refuses_so (refusal_of refused) told h
 
--- a reply is a refusal just where the model's answer is
-pub refused_alike : (reply : Reply) (answer : Answer Transmission) → TellsReply reply answer
-    → is_refusal reply ≡ is_refused answer
-refused_alike replies.Done answer h = done_so answer h
-refused_alike replies.Quiet answer h = sym (ap is_refused h)
-refused_alike (replies.Sent frame) answer h = sym (ap is_refused h.is)
-refused_alike (replies.Ignored why) answer h = sym (ap is_refused h)
-refused_alike (replies.Accepted handed sent) answer h = sym (ap is_refused h.is)
-refused_alike (replies.Refused refused) answer h = refuses_so (refusal_of refused) answer h
+-- so is a reply
+reply_alike : (reply : Reply) (told : Answer Transmission) → TellsReply reply told
+    → is_refusal reply ≡ is_refused told
+reply_alike reply told (answer, same, is) =
+    ap is_refusal same ∙ refused_alike answer told is
 
 answered_by : (s : StationModel) (moment : ℕ) (call : Call) (reply : Reply) (state : StationState)
     (done : List TimedCall) → AreCalls ((moment, call) ∷ []) done
@@ -116,25 +115,12 @@ answered_by s moment call reply state (c ∷ []) are answers stands =
     record {
       made = c.call;
       is = are.1;
-      refuses = refused_alike reply _
+      refuses = reply_alike reply _
           (subst (λ (n : ℕ). TellsReply reply (station_step s n c.call).answer) are.0 answers.0);
       stands = subst (λ (n : ℕ). RepresentsStation state (station_step s n c.call).station) are.0
           stands;
     }
 answered_by s moment call reply state (c ∷ d ∷ more) are answers stands = absurd are.2
-
--- where none of the calls was made the station stands for what it stood for
-pub none_done : (s : StationModel) (asked : List (ℕ × Call)) (n : ℕ) (told : List Reply)
-    (state : StationState) → n ≡ 0 → IsIsolatedRunOf s (take n asked) told state
-    → RepresentsStation state s
-none_done s asked n told state none h =
-    let run = subst (λ (k : ℕ). IsIsolatedRunOf s (take k asked) told state) none h in
-    by run.run.done run.run.are run.run.station
-  where
-    by : (done : List TimedCall) → AreCalls [] done
-        → RepresentsStation state (station_run s done) → RepresentsStation state s
-    by [] are stands = stands
-    by (c ∷ done) are stands = absurd are
 
 -- a station that stands for what it stood for changes nothing
 pub station_stays : (states : List StationState) (models : List StationModel) (j : ℕ)
@@ -191,14 +177,7 @@ called_there old new models s j moment call refused represent at called =
 -- an own call stands for one of the model alone
 same_call : (call : Call) (made : ModelCall) (own : OwnCall) → IsCall call made
     → IsCall call (model.Call.Own own) → made ≡ model.Call.Own own
-same_call (calls.MoveTo place pai speed heading) made own a b = a ∙ sym b
-same_call (calls.Open port) made own a b = a ∙ sym b
-same_call (calls.Close port) made own a b = a ∙ sym b
-same_call (calls.Tick jitter) made own a b = a ∙ sym b
-same_call (calls.SendShb r) made own a b = a ∙ sym b
-same_call (calls.SendGeobroadcast r) made own a b = a ∙ sym b
-same_call (calls.SendGeoanycast r) made own a b = a ∙ sym b
-same_call (calls.Restart number) made own a b = a ∙ sym b
+same_call (calls.Own call) made own a b = a ∙ sym b
 same_call (calls.Receive frame) made own a b = absurd b
 
 own_in_time : (count moment : ℕ) (c : MeshCall) → is_own c.call ≡ true → IsInTime count moment c

@@ -2,7 +2,7 @@
 use Rattle.std.specs.Prelude.{◌≡◌, ◌⊎◌, ℕ, Bool, true, ◌||◌, List, [], ◌∷◌, Option, Some}
 use Rattle.std.specs.Prelude.{None, slice_set}
 use Rattle.its_model.specs.Station.{StationModel}
-use Rattle.its_station.specs.declared.run.Call.{Call}
+use Rattle.its_station.specs.declared.call.Call.{Call}
 use Rattle.its_station.specs.declared.run.Reply.{Reply}
 use Rattle.its_station.specs.Runs.{IsIsolatedRunOf, is_refusal}
 use Rattle.its_station.specs.State.{StationState}

@@ -1,6 +1,6 @@
 //! The command `mesh`: the stations of a scenario in one process, each with a UDP socket on the
-//! loopback. What comes by a socket goes through `Station::run`, whoever sent it: so its stations
-//! step as those do of which `its_model` proves that a geobroadcast reaches where deliveries come.
+//! loopback. What comes by a socket is one call of a run, whoever sent it: so its stations step as
+//! those do of which `its_model` proves that a geobroadcast reaches where deliveries come.
 //!
 //! # What is proved
 //!
@@ -8,7 +8,8 @@
 //!   file's order, and no other calls but those of datagrams, each at the greatest time of the
 //!   calls before it (`Mesh::run`, clause `made`: `HasRun`). If it ends early, the calls that were
 //!   made are the first ones (`stopped`: `HasBegun`).
-//! - Each call is one call of `Station::run`, and sources are isolated over it (`IsIsolatedRunOf`).
+//! - Each call is a run of that call alone, as `Station::run` makes it, and sources are isolated over it
+//!   (`IsIsolatedRunOf`).
 //!   It changes no other station. The stations stand for those of the model after these calls
 //!   (`mesh_run`).
 //! - A refusal is noted if and only if one of these calls is refused (`IsNoted`, `any_refused`).

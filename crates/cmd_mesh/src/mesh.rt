@@ -13,15 +13,15 @@ ghost use Rattle.cmd_mesh.specs.Calls.{HasBegun, HasRun};
 ghost use Rattle.cmd_mesh.specs.Stations.{IsCalled, IsCutShort, IsNoted};
 ghost use Rattle.cmd_mesh.specs.Statuses.{mesh_status};
 
-use crate::answers::{answer, call_word, done_entry};
+use crate::answers::{answer, call_word};
 use crate::fault::{MeshFault, SocketFault, fault_of_lines};
 use crate::lines::{print_call, print_stations};
 use crate::sockets::{Sent, Sockets};
 use cmd_reporting::{Fault, FrameFile, Io, Status};
 use its_gnvalue::NoMemory;
 use its_loctable::SortedTable;
-use its_station::{Call, Station};
-use its_world::{CallOutcome, Config, Entry, EntryFault, Event, stations_of};
+use its_station::{Answer, Call, Station};
+use its_world::{Config, Entry, EntryFault, Event, What, entry_of, stations_of};
 use sim_runs::is_refused;
 use sim_simulation::SimulationFault;
 use std::alloc::Global;
@@ -101,10 +101,19 @@ impl<'a, 't, S: Sockets, W: Write, E: Write, F: Write + Drop> Mesh<'a, 't, S, W,
             self.old.refused self.new.stations.items self.new.refused) }
     {
         for event in events {
-            if let Some(call) = event.what.into_call() {
-                self.moment = self.moment.max(event.moment);
-                self.call(event.station, event.moment, call)?;
-                self.rounds()?;
+            let Event {
+                station,
+                moment,
+                what,
+            } = event;
+            match what {
+                What::Call(own) => {
+                    self.moment = self.moment.max(moment);
+                    self.call(station, moment, Call::Own(own))?;
+                    self.rounds()?;
+                }
+                // The sockets deliver.
+                What::Deliver(_) => {}
             }
         }
         Ok(if self.failed {
@@ -139,7 +148,7 @@ impl<'a, 't, S: Sockets, W: Write, E: Write, F: Write + Drop> Mesh<'a, 't, S, W,
             → S.Asked self.new.sockets.now count }
     {
         let word = call_word(&call);
-        let CallOutcome { entry, frame } = self.outcome_at(station, moment, call)?;
+        let (entry, frame) = self.outcome_at(station, moment, call)?;
         if let Err(fault) = self.print(moment, station, word, &entry) {
             return Err(fault_of_lines(fault));
         }
@@ -165,18 +174,18 @@ impl<'a, 't, S: Sockets, W: Write, E: Write, F: Write + Drop> Mesh<'a, 't, S, W,
         }
     }
 
-    /// Makes a call of a station, and tells what comes of it.
+    /// Makes a call of a station. Returns its entry, and the frame that the station sent, if any.
     fn outcome_at(
         &mut self,
         station: usize,
         moment: u64,
         call: Call,
-    ) -> Result<CallOutcome, NoMemory>
+    ) -> Result<(Entry, Option<Vec<u8>>), NoMemory>
         requires { IsInRange call }
         ensures called { (models : List StationModel) →
             RepresentStations self.old.stations.items models →
             IfOk result (λ outcome. IsCalled self.old.stations.items (slice_get models station)
-            station moment call (not (was_done outcome.entry)) self.new.stations.items) }
+            station moment call (not (was_done outcome.0)) self.new.stations.items) }
         ensures unmade { (models : List StationModel) →
             RepresentStations self.old.stations.items models →
             OnErr result (RepresentStations self.new.stations.items models) }
@@ -186,11 +195,10 @@ impl<'a, 't, S: Sockets, W: Write, E: Write, F: Write + Drop> Mesh<'a, 't, S, W,
     {
         if station >= self.stations.len() {
             let fault = EntryFault::NoSuchStation;
-            return Ok(CallOutcome::told(Entry::Refused(fault)));
+            return Ok((Answer::Refused(fault), None));
         }
-        let done = done_entry(&call);
-        let reply = answer(&mut self.stations[station], moment, call)?;
-        Ok(CallOutcome::of_reply(done, reply, self.frames))
+        let answer = answer(&mut self.stations[station], moment, call)?;
+        Ok(entry_of(answer, self.frames))
     }
 
     /// Prints the line of a call with this word, and notes whether it was refused.

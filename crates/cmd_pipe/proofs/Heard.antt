@@ -7,7 +7,7 @@ use Rattle.its_model.specs.Packet.{Message}
 use Rattle.its_model.specs.Station.{Step}
 use Rattle.its_station.specs.Counting.{counted, counted_accepted, one_more}
 use Rattle.its_station.specs.Receiving.{Encoded, TellsAcceptedBy, TellsBy, said_by}
-use Rattle.its_station.specs.Runs.{IsReplyOf, delivered}
+use Rattle.its_station.specs.Answers.{IsAnswerOf, StationAnswer, delivered}
 use Rattle.its_station.specs.State.{StationState, RepresentsStation}
 use Rattle.its_station.specs.Steps.{IsStepOf, refusal_of}
 use Rattle.its_station.specs.declared.counts.Counts.{Counts}
@@ -15,14 +15,12 @@ use Rattle.its_station.specs.declared.outcome.Outcome.{Outcome}
 use Rattle.its_station.specs.declared.outcome.Outcome.TheVariants as outcomes
 use Rattle.its_station.specs.declared.refused.Refused.{Refused}
 use Rattle.its_station.specs.declared.refused.Refused.TheVariants as refused
-use Rattle.its_station.specs.declared.run.Reply.{Reply}
-use Rattle.its_station.specs.declared.run.Reply.TheVariants as replies
 use Rattle.its_station.proofs.Replies.{refused_step}
 use Rattle.cmd_pipe.specs.Serving.{TellsHeard, counts_heard}
 
 -- it is the step's answer
-pub heard_tells : (Encodes : Encoded) (reply : Reply) (answer : Result Outcome Refused)
-    (new : StationState) (step : Step) → IsReplyOf reply answer
+pub heard_tells : (Encodes : Encoded) (reply : StationAnswer) (answer : Result Outcome Refused)
+    (new : StationState) (step : Step) → IsAnswerOf reply answer
     → IsStepOf (TellsBy Encodes) answer new step
     → TellsHeard Encodes reply step.answer × RepresentsStation new step.station
 heard_tells Encodes reply (Ok (outcomes.Ignored why)) new step same is =
@@ -43,8 +41,8 @@ some_said f g (Some x) None same = ap is_some same
 some_said f g (Some x) (Some y) same = refl
 
 -- it is counted by what came of the frame
-pub heard_counts : (reply : Reply) (answer : Result Outcome Refused) (c : Counts)
-    → IsReplyOf reply answer → counted answer c ≡ counts_heard reply c
+pub heard_counts : (reply : StationAnswer) (answer : Result Outcome Refused) (c : Counts)
+    → IsAnswerOf reply answer → counted answer c ≡ counts_heard reply c
 heard_counts reply (Ok (outcomes.Ignored why)) c same = ap (λ r. counts_heard r c) (sym same)
 heard_counts reply (Ok (outcomes.Accepted lent sent)) c (handed, same, delivers) =
     ap (λ b. counted_accepted b (is_some sent) (record c { received = one_more c.received }))
@@ -53,7 +51,8 @@ heard_counts reply (Ok (outcomes.Accepted lent sent)) c (handed, same, delivers)
 heard_counts reply (Err e) c same = ap (λ r. counts_heard r c) (sym same.0)
 
 -- memory did not run out
-pub heard_memory : (reply : Reply) (answer : Result Outcome Refused) → IsReplyOf reply answer
+pub heard_memory : (reply : StationAnswer) (answer : Result Outcome Refused)
+    → IsAnswerOf reply answer
     → answer ≢ Err refused.NoMemory
 heard_memory reply (Ok outcome) same ran_out = subst IsOkOutcome ran_out tt
   where

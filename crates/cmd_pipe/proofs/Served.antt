@@ -42,12 +42,12 @@ lines_last s n (l ∷ ls) told mid line new end before last =
 -- how a station ends after one more
 pub ended_last : (log : List Response) (t : Response)
     → ended_of (log ++ t ∷ []) ≡ then_ended (ended_of log) t
-ended_last [] (responses.Reply id at done source reply) = refl
+ended_last [] (responses.Reply id at source reply) = refl
 ended_last [] (responses.Known id at known) = refl
 ended_last [] (responses.Fault id line fault) = refl
-ended_last (responses.Reply a b c d e ∷ log) t = ended_last log t
+ended_last (responses.Reply a b c d ∷ log) t = ended_last log t
 ended_last (responses.Known a b c ∷ log) t = ended_last log t
-ended_last (responses.Fault a b c ∷ log) (responses.Reply id at done source reply) = refl
+ended_last (responses.Fault a b c ∷ log) (responses.Reply id at source reply) = refl
 ended_last (responses.Fault a b c ∷ log) (responses.Known id at known) = refl
 ended_last (responses.Fault a b c ∷ log) (responses.Fault id line fault) = refl
 

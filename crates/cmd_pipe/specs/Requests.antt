@@ -13,13 +13,12 @@ use Rattle.sim_settings.specs.declared.keys.fault.KeyFault.TheVariants as key_fa
 use Rattle.sim_settings.specs.declared.keys.fault.KeyFault.{KeyFault}
 use Rattle.sim_settings.specs.declared.keys.key.Key.TheVariants as keys
 use Rattle.sim_settings.specs.declared.keys.key.Key.{Key}
-use Rattle.its_model.specs.Calls.{OwnCall}
-use Rattle.its_model.specs.Calls.Call.{Own}
 use Rattle.its_model.specs.World.What.{Calls}
 use Rattle.sim_scenario.specs.Reading.{IsBadAt, SaysWhat}
-use Rattle.its_station.specs.Runs.{IsCall}
-use Rattle.its_station.specs.declared.run.Call.{Call}
-use Rattle.its_station.specs.declared.run.Call.TheVariants as calls
+use Rattle.its_station.specs.Runs.{own_of}
+use Rattle.its_station.specs.declared.call.Call.{Call}
+use Rattle.its_station.specs.declared.call.Call.TheVariants as calls
+use Rattle.its_station.specs.declared.call.OwnCall.{OwnCall}
 use Rattle.cmd_pipe.specs.Lines.{LineText, IsBlank}
 use Rattle.cmd_pipe.specs.declared.request.QueryKey.{QueryKey}
 use Rattle.cmd_pipe.specs.declared.request.QueryKey.TheVariants as query_keys
@@ -134,9 +133,8 @@ values_in members =
 
 -- the object says this call of a station's own applications: the word of it stands under `do`, and
 -- what it is made with under the keys of that word
-abbrev pub SaysCall : Data → Call → Type 0
-SaysCall members call =
-    (own : OwnCall) × SaysWhat (values_in members) (Calls own) × IsCall call (Own own)
+abbrev pub SaysCall : Data → OwnCall → Type 0
+SaysCall members call = SaysWhat (values_in members) (Calls (own_of call))
 
 -- the object asks for this call: by `receive` for a frame that came without a plain part, else by
 -- the keys of a scenario's event
@@ -144,7 +142,7 @@ abbrev pub AsksCall : Data → Call → Type 0
 AsksCall members (calls.Receive frame) =
     IsWord members (codes "receive") × (¬ ComesVerified members)
     × IsFrameText members frame.items
-AsksCall members call =
+AsksCall members (calls.Own call) =
     (¬ IsWord members (codes "receive")) × (¬ IsWord members (codes "deliver"))
     × SaysCall members call
 

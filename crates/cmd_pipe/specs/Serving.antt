@@ -7,16 +7,15 @@ use Rattle.cmd_pipe.specs.declared.ended.Ended.TheVariants as ends
 use Rattle.its_model.specs.Calls as model
 use Rattle.its_model.specs.Packet.{Transmission}
 use Rattle.its_model.specs.Station.{new_station, station_step}
-use Rattle.its_station.specs.Counting.{counted_call, counted_reply, kind_sent, nothing, one_more}
+use Rattle.its_station.specs.Counting.{counted_answer, counted_call, kind_sent, nothing, one_more}
 use Rattle.its_station.specs.Receiving.{Encoded, IsVerifiedCall, TellsAcceptedBy, VerifiedCall}
 use Rattle.its_station.specs.Receiving.{sealed_by, verified_step, why_of}
-use Rattle.its_station.specs.Runs.{IsCall, TellsReply, delivered}
+use Rattle.its_station.specs.Answers.{StationAnswer, TellsAnswer, delivered}
+use Rattle.its_station.specs.Runs.{IsCall}
 use Rattle.its_station.specs.Steps.{refusal_of}
-use Rattle.its_station.specs.declared.run.Reply.TheVariants as replies
+use Rattle.its_station.specs.declared.answer.Answer.TheVariants as answers
 use Rattle.its_station.specs.declared.counts.Counts.{Counts}
-use Rattle.its_station.specs.declared.run.Call.{Call}
-use Rattle.its_station.specs.declared.run.Call.TheVariants as calls
-use Rattle.its_station.specs.declared.run.Reply.{Reply}
+use Rattle.its_station.specs.declared.call.Call.{Call}
 use Rattle.its_station.specs.State.{StationState, RepresentsStation}
 use Rattle.cmd_pipe.specs.Knowing.{Counted, TellsQuery}
 use Rattle.cmd_pipe.specs.Lines.{LineText, AreLines}
@@ -26,34 +25,20 @@ use Rattle.cmd_pipe.specs.declared.request.Request.{Request}
 use Rattle.cmd_pipe.specs.declared.request.Request.TheVariants as asked_by
 use Rattle.cmd_pipe.specs.declared.request.Id.{Id}
 use Rattle.cmd_pipe.specs.declared.request.Query.{Query}
-use Rattle.cmd_pipe.specs.declared.response.Done.{Done}
-use Rattle.cmd_pipe.specs.declared.response.Done.TheVariants as does
 use Rattle.cmd_pipe.specs.declared.response.Known.{Known}
 use Rattle.cmd_pipe.specs.declared.response.Response.{Response}
 use Rattle.cmd_pipe.specs.declared.response.Response.TheVariants as responses
 use Rattle.its_world.specs.declared.config.Config.{Config}
 
--- what a call does that is answered by a word alone
-abbrev pub done_by : Call → Done
-done_by (calls.MoveTo place pai speed heading) = does.Moved
-done_by (calls.Open port) = does.Opened
-done_by (calls.Close port) = does.Closed
-done_by (calls.Restart number) = does.Restarted
-done_by call = does.Other
-
 -- the counts after the reply to a call
-abbrev pub counts_after : Call → Reply → Counts → Counts
-counts_after call reply c = counted_reply (kind_sent call) (Ok reply) (counted_call call c)
+abbrev pub counts_after : Call → StationAnswer → Counts → Counts
+counts_after call reply c = counted_answer (kind_sent call) (Ok reply) (counted_call call c)
 
--- the answer is this reply to what does this, at this moment
-abbrev pub IsReplyAs : Option Id → ℕ → Done → Reply → Response → Type 0
-IsReplyAs id moment does reply (responses.Reply name at done source told) =
-    (name ≡ id) × (at ≡ moment) × (done ≡ does) × (told ≡ reply)
-IsReplyAs id moment does reply response = ⊥
-
--- the same of a call
-abbrev pub IsReplyOf : Option Id → ℕ → Call → Reply → Response → Type 0
-IsReplyOf id moment call reply response = IsReplyAs id moment (done_by call) reply response
+-- the response is this answer, at this moment
+abbrev pub IsReplyOf : Option Id → ℕ → StationAnswer → Response → Type 0
+IsReplyOf id moment answer (responses.Reply name at source told) =
+    (name ≡ id) × (at ≡ moment) × (told ≡ answer)
+IsReplyOf id moment answer response = ⊥
 
 -- The call is made at the moment: what is answered is the answer of that very step of the model,
 -- the station is the one after it, and it is counted.
@@ -61,27 +46,27 @@ pub record TellsCall (s : Counted) (id : Option Id) (moment : ℕ) (call : Call)
     (told : List Response) (next : Counted) : Type 0 where
   pub made : model.Call
   pub is : IsCall call made
-  pub reply : Reply
-  pub tells : TellsReply reply (station_step s.station moment made).answer
+  pub reply : StationAnswer
+  pub tells : TellsAnswer reply (station_step s.station moment made).answer
   pub response : Response
-  pub response_is : IsReplyOf id moment call reply response
+  pub response_is : IsReplyOf id moment reply response
   pub told_is : told ≡ response ∷ []
   pub station_is : next.station ≡ (station_step s.station moment made).station
   pub counts_are : next.counts ≡ counts_after call reply s.counts
 
 -- the reply to a frame that came is this answer, and what goes on is encoded so
-abbrev pub TellsHeard : Encoded → Reply → model.Answer Transmission → Type 0
-TellsHeard Encodes (replies.Ignored why) answer = answer ≡ model.Answer.Ignored (why_of why)
-TellsHeard Encodes (replies.Accepted handed sent) answer =
+abbrev pub TellsHeard : Encoded → StationAnswer → model.Answer Transmission → Type 0
+TellsHeard Encodes (answers.Ignored why) answer = answer ≡ model.Answer.Ignored (why_of why)
+TellsHeard Encodes (answers.Accepted handed sent) answer =
     TellsAcceptedBy Encodes (option_map delivered handed) sent answer
-TellsHeard Encodes (replies.Refused refused) answer =
+TellsHeard Encodes (answers.Refused refused) answer =
     IsSomeAnd (refusal_of refused) (λ refusal. answer ≡ model.Answer.Refused refusal)
 TellsHeard Encodes reply answer = ⊥
 
 -- the counts after the reply to a frame that came
-abbrev pub counts_heard : Reply → Counts → Counts
+abbrev pub counts_heard : StationAnswer → Counts → Counts
 counts_heard reply c =
-    counted_reply None (Ok reply) (record c { received = one_more c.received })
+    counted_answer None (Ok reply) (record c { received = one_more c.received })
 
 -- A secured frame is received with its plain part at the moment: what is answered is the answer of
 -- that very step of the model, what goes on has the message that came, the station is the one after
@@ -90,10 +75,10 @@ pub record TellsVerified (s : Counted) (id : Option Id) (moment : ℕ) (octets :
     (told : List Response) (next : Counted) : Type 0 where
   pub came : VerifiedCall
   pub is : IsVerifiedCall octets.frame.items octets.plain.items came
-  pub reply : Reply
+  pub reply : StationAnswer
   pub tells : TellsHeard (sealed_by came) reply (verified_step s.station moment came).answer
   pub response : Response
-  pub response_is : IsReplyAs id moment does.Other reply response
+  pub response_is : IsReplyOf id moment reply response
   pub told_is : told ≡ response ∷ []
   pub station_is : next.station ≡ (verified_step s.station moment came).station
   pub counts_are : next.counts ≡ counts_heard reply s.counts
@@ -139,13 +124,13 @@ RepresentsCounted station counts s = RepresentsStation station s.station × (cou
 -- refused where a line could not be read
 abbrev pub ended_of : List Response → Ended
 ended_of [] = ends.Done
-ended_of (responses.Reply id at done source reply ∷ told) = ended_of told
+ended_of (responses.Reply id at source reply ∷ told) = ended_of told
 ended_of (responses.Known id at known ∷ told) = ended_of told
 ended_of (responses.Fault id line fault ∷ told) = ends.Refused
 
 -- the same after one more
 abbrev pub then_ended : Ended → Response → Ended
-then_ended ended (responses.Reply id at done source reply) = ended
+then_ended ended (responses.Reply id at source reply) = ended
 then_ended ended (responses.Known id at known) = ended
 then_ended ended (responses.Fault id line fault) = ends.Refused
 

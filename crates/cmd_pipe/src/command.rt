@@ -2,6 +2,7 @@
 
 ghost use Rattle.std.specs.Prelude.{◌≡◌, IfOk};
 ghost use Rattle.its_model.specs.Station.{new_station};
+ghost use Rattle.its_station.specs.Counting.{nothing};
 ghost use Rattle.its_station.specs.State.{RepresentsStation};
 ghost use Rattle.its_world.specs.Events.{IsConfig};
 ghost use Rattle.cmd_pipe.specs.Serving.{ServesInput};
@@ -11,8 +12,10 @@ use crate::fault::PipeFault;
 use crate::printing::Printer;
 use crate::serving::serve;
 use its_gnvalue::NoMemory;
+use its_governor::Limits;
 use its_loctable::SortedTable;
-use its_station::{Counts, Station};
+use its_station::Station;
+use its_unit::Unit;
 use its_world::Config;
 use std::alloc::Global;
 use std::io::{BufReader, Read, Write};
@@ -56,24 +59,22 @@ fn serve_input<R: Read + Drop, W: Write>(
     requires { IsConfig config.now }
     ensures { IfOk result (λ ended. ServesInput config.now ended (R.remaining input)) }
 {
-    let mut station = begin(alloc, config)?;
+    let mut unit = begin(alloc, config)?;
     let mut reader = BufReader::new(alloc, input).map_err(|error| PipeFault::of_read(&error))?;
     let mut printer = Printer::new(alloc, out)?;
-    serve(
-        alloc,
-        &mut station,
-        &mut Counts::new(),
-        &mut reader,
-        &mut printer,
-    )
+    serve(alloc, &mut unit, &mut reader, &mut printer)
 }
 
-/// A station to which nothing happened yet.
-fn begin(alloc: Global, config: &Config) -> Result<Station<SortedTable>, NoMemory>
+/// A unit without limits to which nothing happened yet.
+fn begin(alloc: Global, config: &Config) -> Result<Unit<SortedTable>, NoMemory>
     requires { IsConfig config.now }
-    ensures { IfOk result (λ station. RepresentsStation station (new_station config.now.address
-        config.now.place config.now.capacity config.now.remember)) }
+    ensures station { IfOk result (λ unit. RepresentsStation unit.station
+        (new_station config.now.address config.now.place config.now.capacity config.now.remember)) }
+    ensures counts { IfOk result (λ unit. unit.counts ≡ nothing) }
 {
     let (address, place) = (config.address, config.place);
-    Station::new(alloc, address, place, config.capacity, config.remember).map_err(|_| NoMemory)
+    match Station::new(alloc, address, place, config.capacity, config.remember) {
+        Ok(station) => Unit::new(alloc, station, &Limits::NONE),
+        Err(_) => Err(NoMemory),
+    }
 }

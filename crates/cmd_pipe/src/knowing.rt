@@ -14,7 +14,8 @@ use crate::response::{Known, SealFault};
 use its_gnvalue::{GnAddress, LongPv, NoMemory};
 use its_linkframe::{read_frame, seal_frame};
 use its_loctable::{LocationStore, SortedTable};
-use its_station::{Counts, LAST_MOMENT, Refused, Station};
+use its_station::{LAST_MOMENT, Refused, Station};
+use its_unit::Unit;
 use std::alloc::{AllocError, Global};
 
 /// How many neighbours are told at once.
@@ -23,21 +24,21 @@ const MOST_NEIGHBOURS: usize = 32;
 /// Answers what is asked, of a moment where one is given, else of the clock's.
 pub(crate) fn answer_query(
     alloc: Global,
-    station: &Station<SortedTable>,
-    counts: &Counts,
+    unit: &Unit<SortedTable>,
     at: Option<u64>,
     query: Query,
 ) -> Result<Known, AllocError>
-    ensures { (s : Counted) → RepresentsCounted station.now counts.now s →
+    ensures { (s : Counted) → RepresentsCounted unit.now.station unit.now.counts s →
         IfOk result (TellsQuery s at query) }
 {
+    let station = unit.station();
     let now = at.unwrap_or(station.clock());
     match query {
         Query::NextBeacon(jitter) => Ok(next_beacon(station, jitter)),
         Query::Neighbours(after) => first_neighbours(alloc, station, now, after),
         Query::LookUp(address) => Ok(look_up(station, now, address)),
         Query::ReadFrame(frame) => Ok(known_frame(frame)),
-        Query::Counts => Ok(Known::Counts(*counts)),
+        Query::Counts => Ok(Known::Counts(unit.counts())),
         Query::Seal { frame, message } => seal(alloc, frame.as_slice(), message.as_slice()),
     }
 }

@@ -46,6 +46,6 @@ pub use fault::PipeFault;
 pub use frame_octets::FrameOctets;
 pub use printing::{Printer, print_response};
 pub use request::{Id, LineFault, Query, QueryKey};
-pub use response::{Done, Known, Response, ResponseSink, SealFault};
+pub use response::{Known, Response, ResponseSink, SealFault};
 pub use serving::{Unanswered, answer_line, serve};
 pub use word::LineWord;

@@ -6,13 +6,13 @@ ghost use Rattle.cmd_text.specs.JsonLines.{IsLine};
 use crate::fault::PipeFault;
 use crate::reason::{LineReason, SealReason};
 use crate::request::{Id, LineFault};
-use crate::response::{Done, Known, Response, ResponseSink, SealFault};
+use crate::response::{Known, Response, ResponseSink, SealFault};
 use cmd_text::answers::{RefusedReason, delivery_keys, words};
 use cmd_text::frames::{FrameKeys, MessageKeys};
 use cmd_text::json_lines::{Digits, JsonFault, JsonLine, Octets, Printed};
 use its_gnvalue::{GnAddress, LongPv};
 use its_linkframe::{FrameCode, FrameFault};
-use its_station::{Counts, Refused, RefusedCode, Reply};
+use its_station::{Answer, Counts, Refused, RefusedCode, StationAnswer};
 use serde::{Described, Serialize, Serializer};
 use std::alloc::{AllocError, Global};
 use std::io::Write;
@@ -56,11 +56,10 @@ pub fn print_response<'l>(
         Response::Reply {
             id,
             at,
-            done,
             source,
             reply,
         } => {
-            let head = LineHead::new(id, Some(*at), reply_word(*done, reply));
+            let head = LineHead::new(id, Some(*at), answer_word(reply));
             line.of(&ReplyLine::new(head, source, reply))
         }
         Response::Known { id, at, known } => print_known(line, id, *at, known),
@@ -132,7 +131,11 @@ struct ReplyLine<'a> {
 }
 
 impl<'a> ReplyLine<'a> {
-    fn new(head: LineHead<'a>, source: &Option<GnAddress>, reply: &'a Reply) -> ReplyLine<'a> {
+    fn new(
+        head: LineHead<'a>,
+        source: &Option<GnAddress>,
+        reply: &'a StationAnswer,
+    ) -> ReplyLine<'a> {
         let line = ReplyLine {
             head,
             source: source.as_ref().map(digits_of),
@@ -143,21 +146,22 @@ impl<'a> ReplyLine<'a> {
             reason: None,
         };
         match reply {
-            Reply::Done | Reply::Quiet => line,
-            Reply::Sent(frame) => ReplyLine {
+            Answer::Moved | Answer::Opened | Answer::Closed | Answer::Restarted | Answer::Quiet =>
+                line,
+            Answer::Sent(frame) => ReplyLine {
                 frame: Some(Octets(frame.as_slice())),
                 ..line
             },
-            Reply::Ignored(why) => ReplyLine {
+            Answer::Ignored(why) => ReplyLine {
                 why: Some(words::why_word(*why)),
                 ..line
             },
-            Reply::Accepted { handed, sent } => ReplyLine {
+            Answer::Accepted { handed, sent } => ReplyLine {
                 delivered: handed.as_ref().map(delivery_keys),
                 frame: sent.as_ref().map(octets_of),
                 ..line
             },
-            Reply::Refused(refused) => ReplyLine {
+            Answer::Refused(refused) => ReplyLine {
                 code: Some(Printed(refused.code())),
                 reason: Some(Printed(RefusedReason(*refused))),
                 ..line
@@ -431,20 +435,17 @@ struct FaultLine<'a> {
     reason: Option<Printed<LineReason>>,
 }
 
-/// The word of a reply.
-fn reply_word(done: Done, reply: &Reply) -> &'static str {
-    match reply {
-        Reply::Done => match done {
-            Done::Moved => words::MOVED,
-            Done::Opened => words::OPENED,
-            Done::Closed => words::CLOSED,
-            Done::Restarted => words::RESTARTED,
-            Done::Other => "done",
-        },
-        Reply::Quiet => words::QUIET,
-        Reply::Sent(_) => words::SENT,
-        Reply::Ignored(_) => words::IGNORED,
-        Reply::Accepted { .. } => words::ACCEPTED,
-        Reply::Refused(_) => words::REFUSED,
+/// Returns the word of an answer.
+fn answer_word(answer: &StationAnswer) -> &'static str {
+    match answer {
+        Answer::Moved => words::MOVED,
+        Answer::Opened => words::OPENED,
+        Answer::Closed => words::CLOSED,
+        Answer::Restarted => words::RESTARTED,
+        Answer::Quiet => words::QUIET,
+        Answer::Sent(_) => words::SENT,
+        Answer::Ignored(_) => words::IGNORED,
+        Answer::Accepted { .. } => words::ACCEPTED,
+        Answer::Refused(_) => words::REFUSED,
     }
 }

@@ -4,15 +4,12 @@ ghost use Rattle.std.specs.Prelude.{◌≡◌, ◌≢◌, ◌↔◌, ◌⊎◌, 
 ghost use Rattle.std.specs.Prelude.{IfNone, OnErr, None, Some, IsTrue, IsFalse};
 ghost use Rattle.std.specs.Prelude.{codes};
 ghost use Rattle.serde_json.specs.View.{view};
-ghost use Rattle.sim_settings.specs.Faults.{IsWhatFault};
-ghost use Rattle.sim_scenario.specs.Reading.{IsBadOf as IsBadKeyOf};
 ghost use Rattle.its_station.specs.Runs.{IsInRange};
-ghost use Rattle.its_world.specs.Events.{IsOwn};
 ghost use Rattle.cmd_pipe.specs.Requests.{Asks, AsksCall, AsksIn, AsksOf, AsksQuery, IsAskedIn};
 ghost use Rattle.cmd_pipe.specs.Requests.{IsAskedAt, IsBadOf, IsBadCallKeyOf, IsFrameKey, IsFrameText, IsId};
 ghost use Rattle.cmd_pipe.specs.Requests.{IsIdFault, IsJitter, IsJsonObject, IsMomentFault, IsMomentOf, IsObject};
 ghost use Rattle.cmd_pipe.specs.Requests.{IsOfQuery, IsQueryFault, IsQueryWord, IsToldAs, IsWord, IsWordUnder};
-ghost use Rattle.cmd_pipe.specs.Requests.{SaysCall, line_of};
+ghost use Rattle.cmd_pipe.specs.Requests.{line_of};
 ghost use Rattle.cmd_pipe.specs.Requests.{AsksSeal, AsksSecured, AsksSecuredIn, AsksVerified};
 ghost use Rattle.cmd_pipe.specs.Requests.{ComesVerified, IsNoOctets, IsOctetsText, IsOfKey};
 ghost use Rattle.cmd_pipe.specs.Requests.{IsVerifiedBad, values_in};
@@ -25,8 +22,8 @@ use crate::word::LineWord;
 use its_gnvalue::GnAddress;
 use its_station::Call;
 use serde_json::Value;
-use sim_scenario::events::read_what;
-use sim_settings::keys::{Fields, Key, KeyFault, Verb, Wrong};
+use sim_scenario::events;
+use sim_settings::keys::{Fields, Key, KeyFault, Wrong};
 use std::alloc::{AllocError, Global};
 
 /// The longest text of an `id`, in octets.
@@ -390,9 +387,9 @@ fn unlike(members: &Members<'_>, word: &str) -> Wrong {
     }
 }
 
-/// Reads the call of a line. It has the keys of a scenario's event but for `deliver`, and beside
-/// these a frame that came without a plain part.
-#[tactic(auto, using(crate::proofs::Own::asks_own, crate::proofs::Own::bad_own_of))]
+/// Reads the call of a line: a frame that came without a plain part, or a call of the applications,
+/// which has the keys of a scenario's event.
+#[tactic(auto, using(crate::proofs::Own::asks_own, crate::proofs::Own::bad_call))]
 fn read_call(alloc: Global, members: &Members<'_>, word: Option<LineWord>) -> Result<Call, KeyFault>
     requires word { IsWordUnder (view members.now.0.now) word }
     requires plain { ¬ ComesVerified (view members.now.0.now) }
@@ -402,24 +399,7 @@ fn read_call(alloc: Global, members: &Members<'_>, word: Option<LineWord>) -> Re
 {
     match word {
         Some(LineWord::Receive) => Ok(Call::Receive(read_frame(alloc, members)?)),
-        Some(LineWord::Own(Verb::Deliver)) => Err(KeyFault::Refused(Key::Do, Wrong::Value)),
-        _ => read_own(alloc, members),
-    }
-}
-
-/// Reads a call of a station's own applications, which has the keys of a scenario's event.
-#[tactic(auto, using(crate::proofs::Own::says_call, crate::proofs::Own::never_delivers))]
-fn read_own(alloc: Global, members: &Members<'_>) -> Result<Call, KeyFault>
-    ensures says { IfOk result (SaysCall (view members.now.0.now)) }
-    ensures own { IfOk result IsOwn }
-    ensures range { IfOk result IsInRange }
-    ensures fault { IfErr result IsWhatFault }
-    ensures bad { (¬ IsWord (view members.now.0.now) (codes "deliver"))
-        → IfErr result (IsBadKeyOf (values_in (view members.now.0.now))) }
-{
-    match read_what(alloc, members)?.into_call() {
-        Some(call) => Ok(call),
-        None => Err(KeyFault::Refused(Key::Do, Wrong::Value)),
+        _ => Ok(Call::Own(events::read_call(alloc, members)?)),
     }
 }
 

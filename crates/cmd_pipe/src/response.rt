@@ -1,14 +1,11 @@
 //! What is answered to a line, and what takes it.
 
-ghost use Rattle.std.specs.Prelude.{◌≡◌};
-ghost use Rattle.cmd_pipe.specs.Serving.{done_by};
-
 use crate::fault::PipeFault;
 use crate::frame_octets::FrameOctets;
 use crate::request::{Id, LineFault};
 use its_gnvalue::{GnAddress, LongPv};
 use its_linkframe::FrameFault;
-use its_station::{Call, Counts, Refused, Reply};
+use its_station::{Counts, Refused, StationAnswer};
 use std::fmt;
 
 /// What is answered to a line.
@@ -20,12 +17,10 @@ pub enum Response {
         id: Option<Id>,
         /// The moment of the call, in milliseconds.
         at: u64,
-        /// What a call that tells nothing did.
-        done: Done,
         /// The source of a packet that was accepted.
         source: Option<GnAddress>,
-        /// What came of the call.
-        reply: Reply,
+        /// The answer to the call.
+        reply: StationAnswer,
     },
     /// What it asked is known.
     Known {
@@ -45,40 +40,6 @@ pub enum Response {
         /// Why it can't be read.
         fault: LineFault,
     },
-}
-
-/// What a call does that is answered by a word alone.
-#[derive(Clone, Copy, Debug, PartialEq, Eq)]
-pub enum Done {
-    /// The station moved.
-    Moved,
-    /// It opened a port.
-    Opened,
-    /// It closed a port.
-    Closed,
-    /// It restarted.
-    Restarted,
-    /// It is none of these calls.
-    Other,
-}
-
-impl Done {
-    /// What a call does, where it is done.
-    pub(crate) fn of(call: &Call) -> Done
-        ensures { result ≡ done_by call.now }
-    {
-        match call {
-            Call::MoveTo { .. } => Done::Moved,
-            Call::Open(_) => Done::Opened,
-            Call::Close(_) => Done::Closed,
-            Call::Restart(_) => Done::Restarted,
-            Call::Tick(_)
-            | Call::SendShb(_)
-            | Call::SendGeobroadcast(_)
-            | Call::SendGeoanycast(_)
-            | Call::Receive(_) => Done::Other,
-        }
-    }
 }
 
 /// What is known of what was asked.

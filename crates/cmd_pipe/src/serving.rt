@@ -22,12 +22,13 @@ use crate::lines::LONGEST_LINE;
 use crate::reading::read_request;
 use crate::receiving::{receive, receive_verified};
 use crate::request::{Id, LineRequest, Request};
-use crate::response::{Done, Response, ResponseSink};
+use crate::response::{Response, ResponseSink};
 use cmd_text::lines::Line;
 use its_gnvalue::NoMemory;
 use its_linkframe::LONGEST_SECURED_FRAME;
 use its_loctable::SortedTable;
-use its_station::{Call, Counts, Station};
+use its_station::Call;
+use its_unit::Unit;
 use std::alloc::{AllocError, Global};
 use std::io::BufRead;
 
@@ -49,13 +50,12 @@ use std::io::BufRead;
 ///   throughout.
 pub fn serve<R: BufRead, S: ResponseSink>(
     alloc: Global,
-    station: &mut Station<SortedTable>,
-    counts: &mut Counts,
+    unit: &mut Unit<SortedTable>,
     reader: &mut R,
     sink: &mut S,
 ) -> Result<Ended, PipeFault>
-    ensures { (s : Counted) → RepresentsCounted station.old counts.old s → S.Took sink.old [] →
-        IfOk result (λ ended. IsServed s station.new counts.new ended (S.Took sink.new)
+    ensures { (s : Counted) → RepresentsCounted unit.old.station unit.old.counts s → S.Took sink.old [] →
+        IfOk result (λ ended. IsServed s unit.new.station unit.new.counts ended (S.Took sink.new)
         (R.remaining reader.old)) }
 {
     let mut line = Line::new(alloc, LONGEST_LINE)?;
@@ -68,7 +68,7 @@ pub fn serve<R: BufRead, S: ResponseSink>(
         {
             return Ok(ended);
         }
-        let next = serve_line(alloc, station, counts, number, &line, sink, ended)?;
+        let next = serve_line(alloc, unit, number, &line, sink, ended)?;
         ended = next;
     }
     Err(PipeFault::CannotRead)
@@ -78,20 +78,19 @@ pub fn serve<R: BufRead, S: ResponseSink>(
 /// would have ended before this line; gives how it would end now.
 fn serve_line<S: ResponseSink>(
     alloc: Global,
-    station: &mut Station<SortedTable>,
-    counts: &mut Counts,
+    unit: &mut Unit<SortedTable>,
     number: u64,
     line: &Line,
     sink: &mut S,
     ended: Ended,
 ) -> Result<Ended, PipeFault>
-    ensures { (s : Counted) (log : List ToldLine) → RepresentsCounted station.old counts.old s
+    ensures { (s : Counted) (log : List ToldLine) → RepresentsCounted unit.old.station unit.old.counts s
         → S.Took sink.old log → ended ≡ ended_of log → IfOk result (λ next.
-        IsServedLine s number (text_of line.now) log station.new counts.new next
+        IsServedLine s number (text_of line.now) log unit.new.station unit.new.counts next
         (S.Took sink.new)) }
 {
     let asked = read_request(alloc, line.start(), line.passed().any, None)?;
-    match respond(alloc, station, counts, number, asked)? {
+    match respond(alloc, unit, number, asked)? {
         Some(response) => hand_on(response, sink, ended),
         None => Ok(ended),
     }
@@ -116,28 +115,28 @@ fn hand_on<S: ResponseSink>(
 /// `NoMemory` where an allocation failed: the station stands as before.
 fn respond(
     alloc: Global,
-    station: &mut Station<SortedTable>,
-    counts: &mut Counts,
+    unit: &mut Unit<SortedTable>,
     number: u64,
     line: LineRequest,
 ) -> Result<Option<Response>, NoMemory>
     requires { IsAskedIn IsInRange line.request }
-    ensures tells { (s : Counted) → RepresentsCounted station.old counts.old s →
+    ensures tells { (s : Counted) → RepresentsCounted unit.old.station unit.old.counts s →
         IfOk result (λ told. (next : Counted)
         × TellsAsked s number line.id line.request (told_in told) next
-        × RepresentsCounted station.new counts.new next) }
-    ensures unchanged { OnErr result (station.new ≡ station.old) }
+        × RepresentsCounted unit.new.station unit.new.counts next) }
+    ensures unchanged { OnErr result (unit.new.station ≡ unit.old.station) }
+    ensures limits { unit.new.governor ≡ unit.old.governor }
 {
     let id = line.id;
     match line.request {
         Request::Nothing => Ok(None),
-        Request::Call(at, call) => Ok(Some(make_call(alloc, station, counts, id, at, &call)?)),
+        Request::Call(at, call) => Ok(Some(make_call(alloc, unit, id, at, &call)?)),
         Request::Verified(at, octets) => {
-            let response = receive_verified(alloc, station, counts, id, at, &octets)?;
+            let response = receive_verified(alloc, unit, id, at, &octets)?;
             Ok(Some(response))
         }
         Request::Query(at, query) => {
-            let known = answer_query(alloc, station, counts, at, query)?;
+            let known = answer_query(alloc, unit, at, query)?;
             Ok(Some(Response::Known { id, at, known }))
         }
         Request::Bad(fault) => Ok(Some(Response::Fault {
@@ -156,28 +155,28 @@ fn respond(
 /// station stands as before.
 pub fn answer_line(
     alloc: Global,
-    station: &mut Station<SortedTable>,
-    counts: &mut Counts,
+    unit: &mut Unit<SortedTable>,
     now: u64,
     number: u64,
     line: &[u8],
     room: usize,
 ) -> Result<Option<Response>, Unanswered>
-    ensures tells { (s : Counted) → RepresentsCounted station.old counts.old s →
+    ensures tells { (s : Counted) → RepresentsCounted unit.old.station unit.old.counts s →
         IfOk result (λ told. (next : Counted)
         × TellsLine (Some now) s number (whole_line line.now) (told_in told) next
-        × RepresentsCounted station.new counts.new next) }
+        × RepresentsCounted unit.new.station unit.new.counts next) }
     ensures room { room < 2310 → AsksSecured (whole_line line.now) → IsErr result }
     ensures no_room { result ≡ Err Unanswered.NoRoom → (room < 2310)
-        × AsksSecured (whole_line line.now) × (counts.new ≡ counts.old) }
-    ensures unchanged { OnErr result (station.new ≡ station.old) }
+        × AsksSecured (whole_line line.now) × (unit.new.counts ≡ unit.old.counts) }
+    ensures unchanged { OnErr result (unit.new.station ≡ unit.old.station) }
+    ensures limits { unit.new.governor ≡ unit.old.governor }
 {
     let longer = line.len() > LONGEST_LINE;
     let asked = read_request(alloc, line, longer, Some(now))?;
     if asked.secured && room < LONGEST_SECURED_FRAME {
         return Err(Unanswered::NoRoom);
     }
-    Ok(respond(alloc, station, counts, number, asked)?)
+    Ok(respond(alloc, unit, number, asked)?)
 }
 
 /// Why a line isn't answered. The station stands as before.
@@ -213,30 +212,27 @@ impl From<NoMemory> for Unanswered {
 /// an allocation failed: the station stands as before.
 fn make_call(
     alloc: Global,
-    station: &mut Station<SortedTable>,
-    counts: &mut Counts,
+    unit: &mut Unit<SortedTable>,
     id: Option<Id>,
     at: u64,
     call: &Call,
 ) -> Result<Response, NoMemory>
     requires { IsInRange call.now }
-    ensures tells { (s : Counted) → RepresentsCounted station.old counts.old s →
+    ensures tells { (s : Counted) → RepresentsCounted unit.old.station unit.old.counts s →
         IfOk result (λ told. (next : Counted)
         × TellsCall s id at call.now (told ∷ []) next
-        × RepresentsCounted station.new counts.new next) }
-    ensures unchanged { OnErr result (station.new ≡ station.old) }
+        × RepresentsCounted unit.new.station unit.new.counts next) }
+    ensures unchanged { OnErr result (unit.new.station ≡ unit.old.station) }
+    ensures limits { unit.new.governor ≡ unit.old.governor }
 {
     if let Call::Receive(frame) = call {
-        return receive(alloc, station, counts, id, at, frame);
+        return receive(alloc, unit, id, at, frame);
     }
-    let answer = station.answer(at, call);
-    counts.note_reply(call, &answer);
     Ok(Response::Reply {
         id,
         at,
-        done: Done::of(call),
         source: None,
-        reply: answer?,
+        reply: unit.answer_unlimited(at, call)?,
     })
 }
 

@@ -2,6 +2,7 @@
 use Rattle.std.proofs.Common.{◌≡◌, ◌≢◌, ℕ, List, refl, subst, Err}
 use Rattle.std.specs.Prelude.{Result}
 use Rattle.its_model.specs.Station.{StationModel}
+use Rattle.its_station.specs.Answers.{StationAnswer}
 use Rattle.its_station.specs.Receiving.{IsVerifiedCall, TellsBy, VerifiedCall, sealed_by}
 use Rattle.its_station.specs.Receiving.{verified_step}
 use Rattle.its_station.specs.State.{StationState}
@@ -9,14 +10,13 @@ use Rattle.its_station.specs.Steps.{IsStepOf}
 use Rattle.its_station.specs.declared.outcome.Outcome.{Outcome}
 use Rattle.its_station.specs.declared.refused.Refused.{Refused}
 use Rattle.its_station.specs.declared.refused.Refused.TheVariants as refused
-use Rattle.its_station.specs.declared.run.Reply.{Reply}
 use Rattle.cmd_stats.proofs.Opened.{stands_by}
 use Rattle.cmd_stats.specs.Replays.{TellsSecured}
 use Rattle.cmd_stats.specs.declared.replay.heard.Heard.TheVariants as heards
 use Rattle.cmd_stats.specs.declared.replay.secured_octets.SecuredOctets.{SecuredOctets}
 
 -- what is told of it, whatever the reply
-pub received : (secured : SecuredOctets) (moment : ℕ) (s : StationModel) (reply : Reply)
+pub received : (secured : SecuredOctets) (moment : ℕ) (s : StationModel) (reply : StationAnswer)
     (w plain : List ℕ) (outcome : Result Outcome Refused) (new : StationState) (call : VerifiedCall)
     → w ≡ secured.frame.items → IsVerifiedCall w plain call
     → IsStepOf (TellsBy (sealed_by call)) outcome new (verified_step s moment call)

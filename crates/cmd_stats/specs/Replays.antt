@@ -9,7 +9,7 @@ use Rattle.cap_pcap.specs.declared.record.RecordHeader.{RecordHeader}
 use Rattle.cap_pcap.specs.declared.record.Step.{Step}
 use Rattle.cap_pcap.specs.declared.record.Step.TheVariants as steps
 use Rattle.its_station.specs.Receiving.{IsFrameCall, IsVerifiedCall, VerifiedCall, verified_step}
-use Rattle.its_station.specs.Runs.{TellsReply}
+use Rattle.its_station.specs.Answers.{TellsAnswer}
 use Rattle.its_station.specs.State.{StationState, RepresentsStation}
 use Rattle.cmd_stats.specs.OnAir.{AnswersChoice, IsOnAir}
 use Rattle.cmd_stats.specs.declared.replay.heard.Heard.{Heard}
@@ -26,7 +26,7 @@ use Rattle.cmd_stats.specs.declared.replay.replaying.Replayed.{Replayed}
 abbrev pub TellsReceived : StationModel → ℕ → Heard → StationModel → Type 0
 TellsReceived s moment (heards.Received at frame reply) next =
     (at ≡ moment) × ((call : model.Call) × IsFrameCall frame.items call
-    × TellsReply reply (station_step s moment call).answer
+    × TellsAnswer reply (station_step s moment call).answer
     × (next ≡ (station_step s moment call).station))
 TellsReceived s moment (heards.Nothing at fault) next = (at ≡ moment) × (next ≡ s)
 

@@ -1,11 +1,7 @@
 pub mod Values
-pub mod StationPtrs
-pub mod GovernorPtrs
+pub mod UnitPtrs
 pub mod Opens
 pub mod Restarts
 pub mod Lookups
 pub mod Messages
-pub mod Unlimited
-pub mod Limits
 pub mod Sealed
-pub mod Repeats

@@ -1,92 +1,162 @@
--- A handle's station still represents one of the model after a call.
-use Rattle.std.proofs.Common.{◌≡◌, Some, None, Option, refl, sym, subst, ◌∙◌}
+-- A handle's unit still represents one of the model after a call.
+use Rattle.std.proofs.Common.{◌≡◌, ℕ, Some, None, Option, refl, sym, subst, ap, ◌∙◌}
 use mathlib.Core.Bool.{Bool-set}
 use Rattle.std.proofs.Math.Logic.{∥∥₁_map, ∥∥₁_elim}
 use Rattle.std.proofs.lemmas.Grind.{merely}
-use Rattle.std.specs.Prelude.{Result, Ok, Err, IsSome, IfOk, OnErr}
-use Rattle.its_model.specs.Calls.{Answer}
-use Rattle.its_model.specs.Packet.{Transmission}
-use Rattle.its_model.specs.Station.{StationModel, Step}
+use Rattle.std.proofs.lemmas.Option.{same_Some}
+use Rattle.std.specs.Prelude.{Result, Ok, Err, IsSome, IfOk, OnErr, Vec}
 use Rattle.cmd_pipe.specs.Knowing.{Counted}
 use Rattle.cmd_pipe.specs.Serving.{RepresentsCounted}
+use Rattle.std.specs.Option.{option_map}
+use Rattle.std.specs.declared.alloc.Global.{Global}
+use Rattle.its_station.specs.State.{StationState, RepresentsStation}
 use Rattle.its_station.specs.declared.counts.Counts.{Counts}
 use Rattle.its_station.specs.declared.refused.Refused.{Refused}
-use Rattle.its_station.specs.State.{StationState, RepresentsStation}
-use Rattle.its_station.specs.Steps.{IsStepOf}
-use Rattle.its_c.specs.Open.{HoldsModel, IsOpen}
+use Rattle.its_unit.specs.Unit.{UnitModel, UnitState, UnitStep, UnitAnswer, RepresentsUnit}
+use Rattle.its_unit.specs.Steps.{IsStepOf, IsSendOf, IsSameUnit}
+use Rattle.its_unit.specs.declared.unsent.Unsent.{Unsent}
+use Rattle.its_unit.specs.declared.unsent.Unsent.TheVariants as unsent
+use Rattle.its_model.specs.Station.{StationModel}
+use Rattle.its_governor.specs.declared.rate.Limits.{Limits}
+use Rattle.its_governor.specs.Governing.{IsNewGovernor}
+use Rattle.its_unit.specs.Runs.{IsLawful}
+use Rattle.its_c.specs.Open.{HoldsNew, HoldsUnit, IsOpen}
 
--- of a station that is held
-pub held_model : (held : Option StationState) (st : StationState) (m : StationModel)
-    → held ≡ Some st → HoldsModel held m → RepresentsStation st m
-held_model held st m is model = subst (λ (h : Option StationState). HoldsModel h m) is model
+-- of a unit that is held
+pub held_unit : (held : Option UnitState) (st : UnitState) (u : UnitModel)
+    → held ≡ Some st → HoldsUnit held u → RepresentsUnit st u
+held_unit held st u is holds = subst (λ (h : Option UnitState). HoldsUnit h u) is holds
 
-pub model_held : (held : Option StationState) (st : StationState) (m : StationModel)
-    → held ≡ Some st → RepresentsStation st m → HoldsModel held m
-model_held held st m is rep = subst (λ (h : Option StationState). HoldsModel h m) (sym is) rep
+pub unit_held : (held : Option UnitState) (st : UnitState) (u : UnitModel)
+    → held ≡ Some st → RepresentsUnit st u → HoldsUnit held u
+unit_held held st u is rep = subst (λ (h : Option UnitState). HoldsUnit h u) (sym is) rep
 
-pub is_held : (held : Option StationState) → ((m : StationModel) × HoldsModel held m)
-    → IsSome held
+is_held : (held : Option UnitState) → ((u : UnitModel) × HoldsUnit held u) → IsSome held
 is_held None found = absurd found.1
 is_held (Some st) found = refl
 
-keeps : {T : Type 0} (Tells : T → Answer Transmission → Type 0) (said : Result T Refused)
-    (old new : StationState) (step : StationModel → Step)
-    → ((m : StationModel) → RepresentsStation old m → IsStepOf Tells said new (step m))
-    → OnErr said (new ≡ old) → ((m : StationModel) × RepresentsStation old m)
-    → (m : StationModel) × RepresentsStation new m
-keeps Tells (Ok x) old new step is same found =
-    ((step found.0).station, (is found.0 found.1).1)
-keeps Tells (Err e) old new step is same found =
-    (found.0, subst (λ (st : StationState). RepresentsStation st found.0) (sym same) found.1)
-
--- what is open holds a station
-pub open_some : (held : Option StationState) → IsOpen held → IsSome held
+-- what is open holds a unit
+pub open_some : (held : Option UnitState) → IsOpen held → IsSome held
 open_some held opened = ∥∥₁_elim opened (Bool-set _ _) (is_held held)
 
--- and what holds a station that represents one of the model is open
-pub is_open : (held : Option StationState) (m : StationModel) → HoldsModel held m → IsOpen held
-is_open held m model = merely (m, model)
+-- and what holds a unit that represents one of the model is open
+pub is_open : (held : Option UnitState) (u : UnitModel) → HoldsUnit held u → IsOpen held
+is_open held u holds = merely (u, holds)
 
--- a call of the station that is held keeps it open
-pub stays_open : {T : Type 0} (Tells : T → Answer Transmission → Type 0) (said : Result T Refused)
-    (old new : StationState) (step : StationModel → Step) (held after : Option StationState)
-    → ((m : StationModel) → RepresentsStation old m → IsStepOf Tells said new (step m))
-    → OnErr said (new ≡ old) → held ≡ Some old → after ≡ Some new → IsOpen held → IsOpen after
-stays_open Tells said old new step held after is same was now opened =
-    ∥∥₁_map opened (λ found. let kept = keeps Tells said old new step is same
-    (found.0, held_model held old found.0 was found.1) in
-    (kept.0, model_held after new kept.0 now kept.1))
+-- the same unit represents the same one
+pub same_rep : (old new : UnitState) (u : UnitModel) → IsSameUnit old new → RepresentsUnit old u
+    → RepresentsUnit new u
+same_rep old new u same rep = record {
+  station = subst (λ (st : StationState). RepresentsStation st u.station) (sym same.station) rep.station;
+  governor = rep.governor ∙ sym same.governor;
+}
 
--- a station that is taken out and put back as it was
-pub still_open : (held after : Option StationState) (st : StationState)
+step_keeps : {T : Type 0} (Tells : T → UnitAnswer → Type 0) (said : Result T Refused)
+    (old new : UnitState) (step : UnitModel → UnitStep)
+    → ((u : UnitModel) → RepresentsUnit old u → IsStepOf Tells said new (step u))
+    → OnErr said (IsSameUnit old new) → ((u : UnitModel) × RepresentsUnit old u)
+    → (u : UnitModel) × RepresentsUnit new u
+step_keeps Tells (Ok x) old new step is same found =
+    ((step found.0).unit, (is found.0 found.1).1)
+step_keeps Tells (Err e) old new step is same found =
+    (found.0, same_rep old new found.0 same found.1)
+
+send_keeps : (said : Result (Vec ℕ Global) Unsent) (old new : UnitState) (step : UnitModel → UnitStep)
+    → ((u : UnitModel) → RepresentsUnit old u → IsSendOf said new (step u))
+    → ((e : Refused) → said ≡ Err (unsent.Refused e) → IsSameUnit old new)
+    → ((u : UnitModel) × RepresentsUnit old u) → (u : UnitModel) × RepresentsUnit new u
+send_keeps (Ok w) old new step is same found =
+    ((step found.0).unit, (is found.0 found.1).1)
+send_keeps (Err (unsent.Refused e)) old new step is same found =
+    (found.0, same_rep old new found.0 (same e refl) found.1)
+send_keeps (Err unsent.OverRate) old new step is same found =
+    ((step found.0).unit, (is found.0 found.1).1)
+
+-- what keeps a unit keeps its handle open
+kept_open : (old new : UnitState) (held after : Option UnitState)
+    → (((u : UnitModel) × RepresentsUnit old u) → (u : UnitModel) × RepresentsUnit new u)
+    → held ≡ Some old → after ≡ Some new → IsOpen held → IsOpen after
+kept_open old new held after keeps was now opened =
+    ∥∥₁_map opened (λ found. let kept = keeps (found.0, held_unit held old found.0 was found.1) in
+    (kept.0, unit_held after new kept.0 now kept.1))
+
+pub stays_open : {T : Type 0} (Tells : T → UnitAnswer → Type 0) (said : Result T Refused)
+    (old new : UnitState) (step : UnitModel → UnitStep) (held after : Option UnitState)
+    → ((u : UnitModel) → RepresentsUnit old u → IsStepOf Tells said new (step u))
+    → OnErr said (IsSameUnit old new) → held ≡ Some old → after ≡ Some new → IsOpen held
+    → IsOpen after
+stays_open Tells said old new step held after is same =
+    kept_open old new held after (step_keeps Tells said old new step is same)
+
+pub sends_open : (said : Result (Vec ℕ Global) Unsent) (old new : UnitState)
+    (step : UnitModel → UnitStep) (held after : Option UnitState)
+    → ((u : UnitModel) → RepresentsUnit old u → IsSendOf said new (step u))
+    → ((e : Refused) → said ≡ Err (unsent.Refused e) → IsSameUnit old new)
+    → held ≡ Some old → after ≡ Some new → IsOpen held → IsOpen after
+sends_open said old new step held after is same =
+    kept_open old new held after (send_keeps said old new step is same)
+
+-- a unit that is taken out and put back, with no more than its counts changed
+pub same_open : (old new : UnitState) (held after : Option UnitState) → IsSameUnit old new
+    → held ≡ Some old → after ≡ Some new → IsOpen held → IsOpen after
+same_open old new held after same =
+    kept_open old new held after (λ found. (found.0, same_rep old new found.0 same found.1))
+
+-- and as it was
+pub still_open : (held after : Option UnitState) (st : UnitState)
     → held ≡ Some st → after ≡ Some st → IsOpen held → IsOpen after
 still_open held after st was now opened =
-    subst (λ (h : Option StationState). IsOpen h) (was ∙ sym now) opened
+    subst (λ (h : Option UnitState). IsOpen h) (was ∙ sym now) opened
 
--- the station after an answer, where one was given, represents one of the model
-pub answered : {T E : Type 0} (said : Result T E) (old new : StationState) (c d : Counts)
+-- the unit after an answer, if one was given, represents one of the model
+answered : {T E : Type 0} (said : Result T E) (old new : UnitState)
     (Tells : Counted → T → Counted → Type 0)
-    → ((s : Counted) → RepresentsCounted old c s
-    → IfOk said (λ told. (next : Counted) × Tells s told next × RepresentsCounted new d next))
-    → OnErr said (new ≡ old) → ((m : StationModel) × RepresentsStation old m)
-    → (m : StationModel) × RepresentsStation new m
-answered (Ok told) old new c d Tells tells same found =
-    let next = tells (record { station = found.0; counts = c }) (found.1, refl) in
-    (next.0.station, next.2.0)
-answered (Err e) old new c d Tells tells same found =
-    (found.0, subst (λ (st : StationState). RepresentsStation st found.0) (sym same) found.1)
+    → ((s : Counted) → RepresentsCounted old.station old.counts s
+    → IfOk said (λ told. (next : Counted) × Tells s told next
+    × RepresentsCounted new.station new.counts next))
+    → OnErr said (new.station ≡ old.station) → new.governor ≡ old.governor
+    → ((u : UnitModel) × RepresentsUnit old u) → (u : UnitModel) × RepresentsUnit new u
+answered (Ok told) old new Tells tells same limits found =
+    let next = tells (record { station = found.0.station; counts = old.counts })
+    (found.1.station, refl) in (
+      record { station = next.0.station; governor = found.0.governor },
+      record { station = next.2.0; governor = found.1.governor ∙ sym limits },
+    )
+answered (Err e) old new Tells tells same limits found =
+    (found.0, same_rep old new found.0 (record { station = same; governor = limits }) found.1)
 
--- a station that is asked so stays open
-pub stays_asked : {T E : Type 0} (said : Result T E) (old new : StationState) (c d : Counts)
-    (Tells : Counted → T → Counted → Type 0) (held after : Option StationState)
-    → ((s : Counted) → RepresentsCounted old c s
-    → IfOk said (λ told. (next : Counted) × Tells s told next × RepresentsCounted new d next))
-    → OnErr said (new ≡ old) → held ≡ Some old → after ≡ Some new → IsOpen held → IsOpen after
-stays_asked said old new c d Tells held after tells same was now opened =
-    ∥∥₁_map opened (λ found. let kept = answered said old new c d Tells tells same
-    (found.0, held_model held old found.0 was found.1) in
-    (kept.0, model_held after new kept.0 now kept.1))
+-- a unit that is asked so stays open
+pub stays_asked : {T E : Type 0} (said : Result T E) (old new : UnitState)
+    (Tells : Counted → T → Counted → Type 0) (held after : Option UnitState)
+    → ((s : Counted) → RepresentsCounted old.station old.counts s
+    → IfOk said (λ told. (next : Counted) × Tells s told next
+    × RepresentsCounted new.station new.counts next))
+    → OnErr said (new.station ≡ old.station) → new.governor ≡ old.governor
+    → held ≡ Some old → after ≡ Some new → IsOpen held → IsOpen after
+stays_asked said old new Tells held after tells same limits =
+    kept_open old new held after (answered said old new Tells tells same limits)
 
--- what holds a governor still does
-pub is_there : {A : Type 0} (o : Option A) (x : A) → o ≡ Some x → IsSome o
-is_there {A = A} o x is = subst (λ (p : Option A). IsSome p) (sym is) refl
+-- the counts of the unit that is held
+pub counts_held : {X E : Type 0} (count : Result X E → Counts → Counts) (said : Result X E)
+    (held after : Option UnitState) (old new : UnitState) → held ≡ Some old → after ≡ Some new
+    → new.counts ≡ count said old.counts
+    → option_map (λ (st : UnitState). st.counts) after
+    ≡ option_map (count said) (option_map (λ (st : UnitState). st.counts) held)
+counts_held count said held after old new was now is =
+    ap (option_map (λ (st : UnitState). st.counts)) now
+    ∙ ap (λ (c : Counts). Some c) is
+    ∙ sym (ap (λ (h : Option UnitState).
+    option_map (count said) (option_map (λ (st : UnitState). st.counts) h)) was)
+
+-- a new unit that is held
+pub new_unit : (held : Option UnitState) (st : UnitState) (m : StationModel) (limits : Limits)
+    → held ≡ Some st → RepresentsStation st.station m → IsNewGovernor limits st.governor
+    → ((u : UnitModel) → IsNewGovernor limits u.governor → IsLawful limits u)
+    → HoldsNew held m limits
+new_unit held st m limits is rep new laws = record {
+  governor = st.governor;
+  limits_are = new;
+  holds = unit_held held st (record { station = m; governor = st.governor }) is
+      (record { station = rep; governor = refl });
+  lawful = laws (record { station = m; governor = st.governor }) new;
+}

@@ -1,23 +1,17 @@
 -- Where the parts of frames lie, and how long secured frames are.
 use Rattle.std.proofs.Common.{◌≡◌, ◌≤◌, ◌+◌, ◌-◌, ◌++◌, ◌∷◌, [], ℕ, List, length, drop, ap, sym}
 use Rattle.std.proofs.Common.{subst}
-use Rattle.std.proofs.Common.{arith, ◌∙◌, refl, Option, Some, None}
+use Rattle.std.proofs.Common.{arith, ◌∙◌, Option, Some}
 use Rattle.std.specs.Prelude.{MatchOption, Vec}
 use Rattle.std.specs.declared.alloc.Global.{Global}
 use Rattle.std.proofs.Math.Seq.{drop-append_seam}
 use Rattle.std.proofs.lemmas.List.{append_assoc, length-append}
-use Rattle.its_faults.specs.declared.secured.SecuredFault.{SecuredFault}
 use Rattle.its_model.specs.Packet.{Transmission}
-use Rattle.its_model.specs.Calls.{Refusal}
-use Rattle.its_model.specs.Station.{StationModel, Step}
 use Rattle.its_headers.specs.Encoding.{Encodes}
 use Rattle.its_headers.specs.Inner.{inner_octets}
 use Rattle.its_linkframe.specs.Frames.{EncodesFrame, link_header}
 use Rattle.its_linkframe.specs.Secured.{EncodesSecured, Secured, basic_on_air}
 use Rattle.its_linkframe.proofs.SecuredFrames.{secured_bounds}
-use Rattle.its_station.specs.Receiving.{secured_step_by}
-use Rattle.its_governor.specs.declared.governor.Governor.{Governor}
-use Rattle.its_governor.specs.Governing.{governed}
 
 -- the end of some octets, and where it begins
 end_of : (w front end : List ℕ) → w ≡ front ++ end
@@ -52,17 +46,6 @@ plain_shown t w plain frame part =
           (sym found.0) part,
       found.1,
     )
-
--- limits leave a refusal as it is
-pub faulty_step : (g : Governor) (now : ℕ) (m : StationModel) (fault : SecuredFault)
-    (refusal : Option Refusal)
-    → (let s : Step = record {
-      answer = governed g now None (secured_step_by m fault refusal).answer;
-      station = (secured_step_by m fault refusal).station;
-    } in s)
-    ≡ secured_step_by m fault refusal
-faulty_step g now m fault None = refl
-faulty_step g now m fault (Some refusal) = refl
 
 -- what is said of a frame that there is
 pub some_sealed : (found : Option (Vec ℕ Global)) (w : Vec ℕ Global) (none : Type 0)

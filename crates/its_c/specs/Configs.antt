@@ -5,6 +5,7 @@ use Rattle.its_gnvalue.specs.Values.{Position, IsIndividual, IsLatitude, IsLongi
 use Rattle.its_model.specs.Station.{StationModel, new_station}
 use Rattle.its_governor.specs.declared.rate.Rate.{Rate}
 use Rattle.its_governor.specs.declared.rate.Limits.{Limits}
+use Rattle.its_governor.specs.Forwarding.{AreRemembered}
 use Rattle.its_c.specs.Arguments.{place_of}
 use Rattle.its_c.specs.declared.layout.Config.{Config}
 
@@ -19,12 +20,6 @@ HasLimits c =
     (c.forward_rate ≤ 1000000) × (c.forward_burst ≤ 1000000)
     × (c.source_rate ≤ 1000000) × (c.source_burst ≤ 1000000)
     × (c.own_rate ≤ 1000000) × (c.own_burst ≤ 1000000) × (c.hop_cap ≤ 255)
-
--- what a new station may be given
-abbrev pub IsForNew : Config → Type 0
-IsForNew c =
-    HasSizes c × IsIndividual c.address × IsLatitude c.latitude × IsLongitude c.longitude
-    × HasLimits c
 
 -- the new station of an address at a place, mobile or not, with a first number
 abbrev pub station_at : ℕ → Position → Config → StationModel
@@ -56,6 +51,12 @@ limits_of c =
       hop_cap = cap_of c.hop_cap;
       delivers_once = not (nat_eq c.deliver_once 0);
     }
+
+-- what a new station may be given: no source is forgotten before its bucket is full
+abbrev pub IsForNew : Config → Type 0
+IsForNew c =
+    HasSizes c × IsIndividual c.address × IsLatitude c.latitude × IsLongitude c.longitude
+    × HasLimits c × AreRemembered (limits_of c).forward (limits_of c).source
 
 -- what is written for a caller to change
 abbrev pub usual_config : Config

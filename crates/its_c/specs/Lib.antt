@@ -2,7 +2,7 @@ pub mod Arguments
 pub mod Configs
 pub mod Counted
 pub mod Frames
-pub mod Governed
+pub mod Held
 pub mod Handles
 pub mod Lookups
 pub mod Open

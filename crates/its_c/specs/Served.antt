@@ -2,24 +2,22 @@
 use Rattle.std.specs.Prelude.{◌≡◌, ◌≤◌, ◌<◌, ◌⊎◌, ℕ, List, length, Vec, Option, Some, None}
 use Rattle.std.specs.declared.alloc.Global.{Global}
 use Rattle.cmd_text.specs.JsonLines.{IsCompact}
-use Rattle.its_model.specs.Station.{StationModel}
-use Rattle.its_station.specs.State.{StationState, RepresentsStation}
-use Rattle.its_station.specs.declared.run.Reply.TheVariants as replies
+use Rattle.its_unit.specs.Unit.{UnitModel, UnitState, RepresentsUnit}
+use Rattle.its_station.specs.declared.answer.Answer.TheVariants as answers
 use Rattle.cmd_pipe.specs.Knowing.{Counted}
 use Rattle.cmd_pipe.specs.Lines.{whole_line}
 use Rattle.cmd_pipe.specs.Serving.{TellsLine, told_in}
 use Rattle.cmd_pipe.specs.declared.response.Known.TheVariants as knowns
 use Rattle.cmd_pipe.specs.declared.response.Response.{Response}
 use Rattle.cmd_pipe.specs.declared.response.Response.TheVariants as responses
-use Rattle.its_c.specs.Counted.{counts_of}
 use Rattle.its_c.specs.Told.{Holds}
 use Rattle.its_c.specs.declared.handle.Geostation.{Geostation}
 
 -- the frame that is to be sent after what was answered, if one is
 abbrev pub frame_in : Option Response → Option (Vec ℕ Global)
 frame_in None = None
-frame_in (Some (responses.Reply id at done source (replies.Sent frame))) = Some frame
-frame_in (Some (responses.Reply id at done source (replies.Accepted handed sent))) = sent
+frame_in (Some (responses.Reply id at source (answers.Sent frame))) = Some frame
+frame_in (Some (responses.Reply id at source (answers.Accepted handed sent))) = sent
 frame_in (Some (responses.Known id at (knowns.Sealed frame))) = Some frame
 frame_in (Some response) = None
 
@@ -40,14 +38,17 @@ ShowsFitting n room (Some w) =
     (length w.items ≤ length room → Holds n room w.items)
     × (length room < length w.items → n ≡ 0)
 
--- The line of this number was served: what was answered to it is what the station of the model
--- answers at this moment, and the handle holds the station afterwards, and its counts.
-pub record IsServedLine (now number : ℕ) (line : List ℕ) (m : StationModel) (old new : Geostation)
+-- The line of this number was served: what was answered to it is what the station of the unit
+-- answers at this moment, and the handle holds that station afterwards, the counts after it, and the
+-- limits as they were.
+pub record IsServedLine (now number : ℕ) (line : List ℕ) (u : UnitModel) (old new : Geostation)
     (told : Option Response) : Type 0 where
+  pub before : UnitState
+  pub was : old.held.unit ≡ Some before
   pub next : Counted
-  pub tells : TellsLine (Some now) (record { station = m; counts = counts_of old.counts }) number
+  pub tells : TellsLine (Some now) (record { station = u.station; counts = before.counts }) number
       (whole_line line) (told_in told) next
-  pub after : StationState
-  pub held : new.held.station ≡ Some after
-  pub represents : RepresentsStation after next.station
-  pub counts : counts_of new.counts ≡ next.counts
+  pub after : UnitState
+  pub held : new.held.unit ≡ Some after
+  pub represents : RepresentsUnit after (record { station = next.station; governor = u.governor })
+  pub counts : after.counts ≡ next.counts

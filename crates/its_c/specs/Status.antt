@@ -3,6 +3,8 @@ use Rattle.std.specs.Prelude.{ℤ, pos, Result, Ok, Err}
 use Rattle.its_btp.specs.declared.ports.PortFault.TheVariants as ports
 use Rattle.its_station.specs.declared.refused.Refused.{Refused}
 use Rattle.its_station.specs.declared.refused.Refused.TheVariants as refused
+use Rattle.its_unit.specs.declared.unsent.Unsent.{Unsent}
+use Rattle.its_unit.specs.declared.unsent.Unsent.TheVariants as unsent
 
 -- the status of a refusal
 abbrev pub status_of : Refused → ℤ
@@ -23,3 +25,12 @@ status_of (refused.Port ports.NotOpen) = pos 11
 abbrev pub status_in : {X : Type 0} → Result X Refused → ℤ
 status_in (Ok x) = pos 0
 status_in (Err e) = status_of e
+
+-- the status of a request for an own packet
+abbrev pub status_of_unsent : Unsent → ℤ
+status_of_unsent (unsent.Refused e) = status_of e
+status_of_unsent unsent.OverRate = pos 22
+
+abbrev pub status_sent : {X : Type 0} → Result X Unsent → ℤ
+status_sent (Ok x) = pos 0
+status_sent (Err e) = status_of_unsent e

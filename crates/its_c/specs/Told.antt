@@ -1,6 +1,7 @@
 -- What a call tells C.
 use Rattle.std.specs.Prelude.{◌≡◌, ◌+◌, ℕ, ℤ, List, length, take, drop, Vec, Option, Some, None}
-use Rattle.std.specs.Prelude.{Result, Ok, Err, Bool, true, false}
+use Rattle.std.specs.Prelude.{Result, Ok, Err}
+use Rattle.std.specs.Option.{option_map}
 use Rattle.std.specs.declared.alloc.Global.{Global}
 use Rattle.its_faults.specs.declared.frame.FrameFault.{FrameFault}
 use Rattle.its_faults.specs.declared.frame.FrameFault.TheVariants as faults
@@ -11,14 +12,14 @@ use Rattle.its_faults.specs.declared.packet.FaultKind.TheVariants as kinds
 use Rattle.its_model.specs.Packet.{Transmission, number_in}
 use Rattle.its_model.specs.Calls as model
 use Rattle.its_model.specs.Calls.{Answer, Call}
-use Rattle.its_model.specs.Station.{Step}
 use Rattle.its_headers.specs.Fields.{kind_of_body}
 use Rattle.its_headers.specs.declared.kind.Kind.{Kind}
 use Rattle.its_headers.specs.declared.kind.Kind.TheVariants as kinds_of
-use Rattle.its_governor.specs.declared.governor.Governor.{Governor}
-use Rattle.its_governor.specs.declared.receive.GovernedOutcome.{GovernedOutcome}
-use Rattle.its_governor.specs.declared.receive.GovernedOutcome.TheVariants as governed
-use Rattle.its_governor.specs.Governing.{frame_in, is_repeated_in, verified_frame}
+use Rattle.its_unit.specs.Unit.{UnitState, UnitStep}
+use Rattle.its_unit.specs.Steps.{IsStepOf, SaysPassed}
+use Rattle.its_unit.specs.declared.outcome.UnitOutcome.{UnitOutcome}
+use Rattle.its_unit.specs.declared.outcome.UnitOutcome.TheVariants as units
+use Rattle.its_unit.specs.declared.unsent.Unsent.{Unsent}
 use Rattle.its_station.specs.Receiving.{VerifiedCall}
 use Rattle.its_station.specs.Counting.{counted_done}
 use Rattle.its_station.specs.declared.counts.Counts.{Counts}
@@ -29,40 +30,41 @@ use Rattle.its_station.specs.declared.outcome.Why.{Why}
 use Rattle.its_station.specs.declared.outcome.Why.TheVariants as why
 use Rattle.its_station.specs.declared.refused.Refused.{Refused}
 use Rattle.its_station.specs.declared.refused.Refused.TheVariants as refused
-use Rattle.its_station.specs.State.{StationState}
-use Rattle.its_station.specs.Steps.{IsStepOf, Says}
-use Rattle.its_c.specs.Counted.{counts_of}
+use Rattle.its_station.specs.Steps.{Says}
+use Rattle.its_c.specs.Held.{counts_in}
 use Rattle.its_c.specs.declared.handle.Geostation.{Geostation}
 use Rattle.its_c.specs.declared.layout.Reception.{Reception}
 use Rattle.its_c.specs.Status.{status_in}
 
--- A call was made of the station that the handle holds: C is told what the library answered, that
--- answer and the station afterwards are those of the model's step, and the answer is counted.
-pub record IsTold {X : Type 0} (Tells : X → Answer Transmission → Type 0)
-    (Shows : Result X Refused → Type 0) (count : Result X Refused → Counts → Counts) (status : ℤ)
-    (old new : Geostation) (step : Step) : Type 0 where
-  pub said : Result X Refused
-  pub after : StationState
-  pub held : new.held.station ≡ Some after
-  pub done : IsStepOf Tells said after step
-  pub code : status ≡ status_in said
+-- A call was made of the unit that the handle holds: C is told what the library answered, that answer
+-- and the unit afterwards are those of the step, and the answer is counted.
+pub record IsTold {X E : Type 0} (IsDone : Result X E → UnitState → UnitStep → Type 0)
+    (Shows : Result X E → Type 0) (count : Result X E → Counts → Counts) (status_by : Result X E → ℤ)
+    (status : ℤ) (old new : Geostation) (step : UnitStep) : Type 0 where
+  pub said : Result X E
+  pub after : UnitState
+  pub held : new.held.unit ≡ Some after
+  pub done : IsDone said after step
+  pub code : status ≡ status_by said
   pub shown : Shows said
-  pub counts : counts_of new.counts ≡ count said (counts_of old.counts)
+  pub counts : counts_in new ≡ option_map (count said) (counts_in old)
 
 -- nothing is shown but the status
 abbrev pub ShowsNothing : {X : Type 0} → X → Type 0
 ShowsNothing x = Unit {0}
 
 -- a call that tells nothing but its status
-abbrev pub IsToldDone : Answer Transmission → ℤ → Geostation → Geostation → Step → Type 0
-IsToldDone answer = IsTold {X = Unit {0}} (Says answer) ShowsNothing counted_done
+abbrev pub IsToldDone : Answer Transmission → ℤ → Geostation → Geostation → UnitStep → Type 0
+IsToldDone answer =
+    IsTold {X = Unit {0}} {E = Refused} (IsStepOf (SaysPassed (Says answer))) ShowsNothing
+    counted_done status_in
 
 -- the buffer begins with these octets, and so many they are
 abbrev pub Holds : ℕ → List ℕ → List ℕ → Type 0
 Holds n room w = (n ≡ length w) × (take n room ≡ w)
 
 -- the buffer has the frame that is to be sent
-abbrev pub ShowsFrame : ℕ → List ℕ → Result (Vec ℕ Global) Refused → Type 0
+abbrev pub ShowsFrame : ℕ → List ℕ → Result (Vec ℕ Global) Unsent → Type 0
 ShowsFrame n room (Ok w) = Holds n room w.items
 ShowsFrame n room (Err e) = n ≡ 0
 
@@ -141,34 +143,6 @@ reception_in (model.Call.Junk fault) = nothing_received
 abbrev pub verified_reception_in : VerifiedCall → Reception
 verified_reception_in (VerifiedCall.Came v) = reception_of v.frame
 verified_reception_in (VerifiedCall.Faulty fault) = nothing_received
-
--- the number that says that the packet was delivered before
-abbrev pub with_repeat : Bool → Reception → Reception
-with_repeat true r = record r { ignored = 5 }
-with_repeat false r = r
-
--- what is told of octets behind these limits, by the answer of the station to this call
-abbrev pub governed_reception : Governor → ℕ → Call → Answer Transmission → Reception
-governed_reception g now call answer =
-    with_repeat (is_repeated_in g now (frame_in call) answer) (reception_in call)
-
--- the same of a secured frame that came with its plain part
-abbrev pub governed_verified_reception : Governor → ℕ → VerifiedCall → Answer Transmission
-    → Reception
-governed_verified_reception g now call answer =
-    with_repeat (is_repeated_in g now (verified_frame call) answer) (verified_reception_in call)
-
--- the outcome behind limits, as the outcome of a station
-abbrev pub outcome_of : Result GovernedOutcome Refused → Result Outcome Refused
-outcome_of (Ok (governed.Passed outcome)) = Ok outcome
-outcome_of (Ok governed.Repeated) = Ok (outcomes.Accepted None None)
-outcome_of (Err refused) = Err refused
-
--- whether the packet was delivered before
-abbrev pub is_repeated : Result GovernedOutcome Refused → Bool
-is_repeated (Ok (governed.Passed outcome)) = false
-is_repeated (Ok governed.Repeated) = true
-is_repeated (Err refused) = false
 
 -- the number of a reason
 abbrev pub number_of : Why → ℕ
@@ -298,8 +272,9 @@ ShowsOutcome w frame r room (outcomes.Ignored reason) =
 ShowsOutcome w frame r room (outcomes.Accepted handed sent) =
     IsBesides frame r × ShowsHanded w r handed × ShowsSent r.relay_length room sent
 
--- what became of a frame
-abbrev pub ShowsReceived : List ℕ → Reception → Reception → List ℕ → Result Outcome Refused
+-- what became of a frame; the reason 5 says that the packet was delivered before
+abbrev pub ShowsReceived : List ℕ → Reception → Reception → List ℕ → Result UnitOutcome Refused
     → Type 0
-ShowsReceived w frame r room (Ok outcome) = ShowsOutcome w frame r room outcome
+ShowsReceived w frame r room (Ok (units.Passed outcome)) = ShowsOutcome w frame r room outcome
+ShowsReceived w frame r room (Ok units.Repeated) = r ≡ record frame { ignored = 5 }
 ShowsReceived w frame r room (Err e) = r ≡ refused_reception e

@@ -1,15 +1,14 @@
 //! The calls that tell C nothing but their status.
 
 ghost use Rattle.std.specs.Prelude.{◌≡◌, ◌≢◌, pos, not, nat_eq};
-ghost use Rattle.its_model.specs.Calls.{Own, Moved, Opened, Closed, Restarted};
+ghost use Rattle.its_model.specs.Calls.{Moved, Opened, Closed, Restarted};
 ghost use Rattle.its_model.specs.Calls.OwnCall.{Move, Open, Close, Restart};
-ghost use Rattle.its_model.specs.Station.{StationModel, station_step};
-ghost use Rattle.its_station.specs.Beside.{move_at_step};
+ghost use Rattle.its_unit.specs.Unit.{UnitModel, unit_step, Own, MoveAt};
 ghost use Rattle.its_c.specs.Arguments.{AreForMove, place_of};
-ghost use Rattle.its_c.specs.Open.{HoldsModel};
+ghost use Rattle.its_c.specs.Held.{IsSame, limits_in};
+ghost use Rattle.its_c.specs.Open.{HoldsUnit};
 ghost use Rattle.its_c.specs.Told.{IsToldDone};
 
-use crate::counting::count_done;
 use crate::handle::Geostation;
 use crate::status::BAD_ARGUMENT;
 use crate::told::told;
@@ -30,14 +29,14 @@ pub extern "C" fn geostation_move(
     speed: i16,
     heading: u16,
 ) -> i32
-    ensures step { (m : StationModel) → HoldsModel s.old.held.station m → result ≢ pos 20 →
-        IsToldDone Moved result s.old s.new (station_step m now
+    ensures step { (u : UnitModel) → HoldsUnit s.old.held.unit u → result ≢ pos 20 →
+        IsToldDone Moved result s.old s.new (unit_step u now
         (Own (Move (place_of latitude longitude) (not (nat_eq accurate 0)) speed heading))) }
     ensures refused { result ≡ pos 20 → AreForMove latitude longitude speed → ⊥ }
     ensures taken { result ≢ pos 20 → AreForMove latitude longitude speed }
     ensures nothing { result ≡ pos 20 → s.new ≡ s.old }
-    ensures governor { s.new.governor.value ≡ s.old.governor.value }
-    ensures unchanged { result ≢ pos 0 → s.new.held.station ≡ s.old.held.station }
+    ensures limits { limits_in s.new ≡ limits_in s.old }
+    ensures unchanged { result ≢ pos 0 → IsSame s.old s.new }
     ensures memory { result ≢ pos 5 }
 {
     if speed < -16384 || speed > 16383 {
@@ -46,10 +45,9 @@ pub extern "C" fn geostation_move(
     let Ok(place) = Place::new(latitude, longitude) else {
         return BAD_ARGUMENT;
     };
-    let mut station = s.held.take(alloc);
-    let said = station.move_to(now, place, accurate != 0, speed, heading);
-    s.held.put(station);
-    count_done(&mut s.counts, &said);
+    let mut unit = s.held.take(alloc);
+    let said = unit.move_to(now, place, accurate != 0, speed, heading);
+    s.held.put(unit);
     told(said)
 }
 
@@ -67,14 +65,14 @@ pub extern "C" fn geostation_move_at(
     speed: i16,
     heading: u16,
 ) -> i32
-    ensures step { (m : StationModel) → HoldsModel s.old.held.station m → result ≢ pos 20 →
-        IsToldDone Moved result s.old s.new (move_at_step m now timestamp
-        (place_of latitude longitude) (not (nat_eq accurate 0)) speed heading) }
+    ensures step { (u : UnitModel) → HoldsUnit s.old.held.unit u → result ≢ pos 20 →
+        IsToldDone Moved result s.old s.new (unit_step u now (MoveAt timestamp
+        (place_of latitude longitude) (not (nat_eq accurate 0)) speed heading)) }
     ensures refused { result ≡ pos 20 → AreForMove latitude longitude speed → ⊥ }
     ensures taken { result ≢ pos 20 → AreForMove latitude longitude speed }
     ensures nothing { result ≡ pos 20 → s.new ≡ s.old }
-    ensures governor { s.new.governor.value ≡ s.old.governor.value }
-    ensures unchanged { result ≢ pos 0 → s.new.held.station ≡ s.old.held.station }
+    ensures limits { limits_in s.new ≡ limits_in s.old }
+    ensures unchanged { result ≢ pos 0 → IsSame s.old s.new }
     ensures memory { result ≢ pos 5 }
 {
     if speed < -16384 || speed > 16383 {
@@ -83,10 +81,9 @@ pub extern "C" fn geostation_move_at(
     let Ok(place) = Place::new(latitude, longitude) else {
         return BAD_ARGUMENT;
     };
-    let mut station = s.held.take(alloc);
-    let said = station.move_at(now, timestamp, place, accurate != 0, speed, heading);
-    s.held.put(station);
-    count_done(&mut s.counts, &said);
+    let mut unit = s.held.take(alloc);
+    let said = unit.move_at(now, timestamp, place, accurate != 0, speed, heading);
+    s.held.put(unit);
     told(said)
 }
 
@@ -99,16 +96,15 @@ pub extern "C" fn geostation_open_port(
     now: u64,
     port: u16,
 ) -> i32
-    ensures step { (m : StationModel) → HoldsModel s.old.held.station m →
-        IsToldDone Opened result s.old s.new (station_step m now (Own (Open port))) }
-    ensures governor { s.new.governor.value ≡ s.old.governor.value }
-    ensures unchanged { result ≢ pos 0 → s.new.held.station ≡ s.old.held.station }
+    ensures step { (u : UnitModel) → HoldsUnit s.old.held.unit u →
+        IsToldDone Opened result s.old s.new (unit_step u now (Own (Open port))) }
+    ensures limits { limits_in s.new ≡ limits_in s.old }
+    ensures unchanged { result ≢ pos 0 → IsSame s.old s.new }
     ensures memory { result ≢ pos 5 }
 {
-    let mut station = s.held.take(alloc);
-    let said = station.open(now, port);
-    s.held.put(station);
-    count_done(&mut s.counts, &said);
+    let mut unit = s.held.take(alloc);
+    let said = unit.open(now, port);
+    s.held.put(unit);
     told(said)
 }
 
@@ -120,16 +116,15 @@ pub extern "C" fn geostation_close_port(
     now: u64,
     port: u16,
 ) -> i32
-    ensures step { (m : StationModel) → HoldsModel s.old.held.station m →
-        IsToldDone Closed result s.old s.new (station_step m now (Own (Close port))) }
-    ensures governor { s.new.governor.value ≡ s.old.governor.value }
-    ensures unchanged { result ≢ pos 0 → s.new.held.station ≡ s.old.held.station }
+    ensures step { (u : UnitModel) → HoldsUnit s.old.held.unit u →
+        IsToldDone Closed result s.old s.new (unit_step u now (Own (Close port))) }
+    ensures limits { limits_in s.new ≡ limits_in s.old }
+    ensures unchanged { result ≢ pos 0 → IsSame s.old s.new }
     ensures memory { result ≢ pos 5 }
 {
-    let mut station = s.held.take(alloc);
-    let said = station.close(now, port);
-    s.held.put(station);
-    count_done(&mut s.counts, &said);
+    let mut unit = s.held.take(alloc);
+    let said = unit.close(now, port);
+    s.held.put(unit);
     told(said)
 }
 
@@ -142,16 +137,15 @@ pub extern "C" fn geostation_restart(
     now: u64,
     number: u16,
 ) -> i32
-    ensures step { (m : StationModel) → HoldsModel s.old.held.station m →
+    ensures step { (u : UnitModel) → HoldsUnit s.old.held.unit u →
         IsToldDone Restarted result s.old s.new
-        (station_step m now (Own (Restart number))) }
-    ensures governor { s.new.governor.value ≡ s.old.governor.value }
-    ensures unchanged { result ≢ pos 0 → s.new.held.station ≡ s.old.held.station }
+        (unit_step u now (Own (Restart number))) }
+    ensures limits { limits_in s.new ≡ limits_in s.old }
+    ensures unchanged { result ≢ pos 0 → IsSame s.old s.new }
     ensures memory { result ≢ pos 5 }
 {
-    let mut station = s.held.take(alloc);
-    let said = station.restart(now, number);
-    s.held.put(station);
-    count_done(&mut s.counts, &said);
+    let mut unit = s.held.take(alloc);
+    let said = unit.restart(now, number);
+    s.held.put(unit);
     told(said)
 }

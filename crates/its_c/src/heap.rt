@@ -1,28 +1,27 @@
 //! Handles on the heap: how one is made, and how its memory is given back.
 
 ghost use Rattle.std.specs.Borrow.{sem};
-ghost use Rattle.std.specs.Prelude.{◌≡◌, ◌≢◌, ◌⊎◌, pos, IfSome, IsSomeAnd, None};
-ghost use Rattle.its_model.specs.Station.{new_station};
+ghost use Rattle.std.specs.Prelude.{◌≡◌, ◌≢◌, ◌⊎◌, pos, IfSome, IsSomeAnd, None, Some};
 ghost use Rattle.its_station.specs.Counting.{nothing};
 ghost use Rattle.its_c.specs.Arguments.{AreForNew, place_of};
-ghost use Rattle.its_c.specs.Counted.{counts_of};
 ghost use Rattle.its_c.specs.Configs.{IsForNew, HasSizes, HasLimits, station_for, station_at};
 ghost use Rattle.its_c.specs.Configs.{limits_of, usual_config};
-ghost use Rattle.its_governor.specs.Governing.{IsNewGovernor};
 ghost use Rattle.its_c.specs.Handles.{handle_owns};
-ghost use Rattle.its_c.specs.Open.{HoldsModel};
+ghost use Rattle.its_c.specs.Held.{counts_in};
+ghost use Rattle.its_c.specs.Open.{HoldsNew};
+ghost use Rattle.its_model.specs.Station.{new_station};
 ghost use Rattle.its_c.specs.declared.handle.Geostation.{Geostation as Handle};
 
 use crate::config::{has_limits, has_sizes, limits_of, station_at};
-use crate::governor_ptr::GovernorPtr;
 use crate::handle::Geostation;
 use crate::handle_out::HandleOut;
 use crate::layout::Config;
 use crate::raw_box::RawBox;
-use crate::station_ptr::StationPtr;
 use crate::status::{BAD_ARGUMENT, NO_MEMORY, OK};
+use crate::unit_ptr::UnitPtr;
 use its_gnvalue::{GnAddress, Place};
-use its_governor::Governor;
+use its_unit::Unit;
+use its_unit::laws::units_are_lawful;
 use std::alloc::Global;
 use std::ptr::null_mut;
 
@@ -41,11 +40,11 @@ pub extern "C" fn geostation_new(
     capacity: u16,
     remember: u8,
 ) -> i32
-    ensures new { result ≡ pos 0 → IsSomeAnd out.new.handle (λ h. HoldsModel h.held.station
-        (new_station address (place_of latitude longitude) capacity remember)) }
-    ensures counts { result ≡ pos 0 → IsSomeAnd out.new.handle (λ h. counts_of h.counts ≡ nothing) }
-    ensures governor { result ≡ pos 0 → IsSomeAnd out.new.handle (λ h.
-        IsSomeAnd h.governor.value (IsNewGovernor (limits_of usual_config))) }
+    ensures new { result ≡ pos 0 → IsSomeAnd out.new.handle (λ h. HoldsNew h.held.unit
+        (new_station address (place_of latitude longitude) capacity remember)
+        (limits_of usual_config)) }
+    ensures counts { result ≡ pos 0 → IsSomeAnd out.new.handle (λ h.
+        counts_in h ≡ Some nothing) }
     ensures none { result ≢ pos 0 → out.new.handle ≡ None }
     ensures only { (result ≡ pos 0) ⊎ (result ≡ pos 5) ⊎ (result ≡ pos 20) }
     ensures refused { result ≡ pos 20 →
@@ -64,19 +63,19 @@ pub extern "C" fn geostation_new(
 }
 
 /// Makes a station as `geostation_new` does, from a struct that also has whether the station is
-/// mobile, the sequence number of its first packet for an area, and its limits. A struct of another
-/// size is `BAD_ARGUMENT` too.
+/// mobile, the sequence number of its first packet for an area, and its limits. `BAD_ARGUMENT` too
+/// for a struct of another size, and for rates with which a source would be forgotten before its
+/// bucket is full (`Limits::remembers_sources`).
 #[unsafe(no_mangle)]
 pub extern "C" fn geostation_new_from_config(
     alloc: Global,
     out: &mut HandleOut,
     config: &Config,
 ) -> i32
-    ensures new { result ≡ pos 0 → IsSomeAnd out.new.handle (λ h. HoldsModel h.held.station
-        (station_for config.now)) }
-    ensures counts { result ≡ pos 0 → IsSomeAnd out.new.handle (λ h. counts_of h.counts ≡ nothing) }
-    ensures governor { result ≡ pos 0 → IsSomeAnd out.new.handle (λ h.
-        IsSomeAnd h.governor.value (IsNewGovernor (limits_of config.now))) }
+    ensures new { result ≡ pos 0 → IsSomeAnd out.new.handle (λ h. HoldsNew h.held.unit
+        (station_for config.now) (limits_of config.now)) }
+    ensures counts { result ≡ pos 0 → IsSomeAnd out.new.handle (λ h.
+        counts_in h ≡ Some nothing) }
     ensures none { result ≢ pos 0 → out.new.handle ≡ None }
     ensures only { (result ≡ pos 0) ⊎ (result ≡ pos 5) ⊎ (result ≡ pos 20) }
     ensures refused { result ≡ pos 20 → IsForNew config.now → ⊥ }
@@ -87,7 +86,7 @@ pub extern "C" fn geostation_new_from_config(
     if !has_sizes(config) {
         return BAD_ARGUMENT;
     }
-    if !has_limits(config) {
+    if !has_limits(config) || !limits_of(config).remembers_sources() {
         return BAD_ARGUMENT;
     }
     let Ok(address) = GnAddress::from_u64(config.address) else {
@@ -103,37 +102,31 @@ pub extern "C" fn geostation_new_from_config(
     OK
 }
 
-/// The handle of a new station on the heap, or none where an allocation failed.
+/// The handle of a new unit on the heap, or none where an allocation failed.
 fn make(alloc: Global, address: GnAddress, place: Place, config: &Config) -> Option<Box<Geostation>>
     requires sizes { HasSizes config.now }
     requires limits { HasLimits config.now }
-    ensures model { IfSome result (λ h. HoldsModel h.value.held.station
-        (station_at address place config.now)) }
-    ensures counts { IfSome result (λ h. counts_of h.value.counts ≡ nothing) }
-    ensures governor { IfSome result (λ h.
-        IsSomeAnd h.value.governor.value (IsNewGovernor (limits_of config.now))) }
+    ensures unit { IfSome result (λ h. HoldsNew h.value.held.unit
+        (station_at address place config.now) (limits_of config.now)) }
+    ensures counts { IfSome result (λ h. counts_in h.value ≡ Some nothing) }
 {
-    let governor = Governor::new(alloc, &limits_of(config)).ok()?;
-    let governor = Box::new(alloc, governor).ok()?;
+    // The laws of a unit, for the proof alone.
+    units_are_lawful();
     let station = station_at(alloc, address, place, config)?;
-    let station = Box::new(alloc, station).ok()?;
-    let handle = Geostation::new(StationPtr::new(station), GovernorPtr::new(governor));
+    let unit = Unit::new(alloc, station, &limits_of(config)).ok()?;
+    let unit = Box::new(alloc, unit).ok()?;
+    let handle = Geostation::new(UnitPtr::new(unit));
     match Box::new(alloc, handle) {
         Ok(handle) => Some(handle),
         Err(failed) => {
-            let Geostation {
-                mut held,
-                mut governor,
-                ..
-            } = failed.value;
+            let Geostation { mut held, .. } = failed.value;
             drop(held.take(alloc));
-            drop(governor.take(alloc));
             None
         }
     }
 }
 
-/// Gives the memory of a handle back, and that of its station and its governor.
+/// Gives the memory of a handle back, and that of its unit.
 #[unsafe(no_mangle)]
 pub unsafe extern "C" fn geostation_release(alloc: Global, s: *mut Geostation)
     ghost handle: { Handle }
@@ -145,11 +138,6 @@ pub unsafe extern "C" fn geostation_release(alloc: Global, s: *mut Geostation)
 fn release(raw_box: RawBox<Geostation, Global>) {
     let handle = raw_box.into_box();
     let alloc = *Box::allocator(&handle);
-    let Geostation {
-        mut held,
-        mut governor,
-        ..
-    } = Box::into_inner(handle);
+    let Geostation { mut held, .. } = Box::into_inner(handle);
     drop(held.take(alloc));
-    drop(governor.take(alloc));
 }

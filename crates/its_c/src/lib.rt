@@ -2,25 +2,25 @@
 //!
 //! C holds an opaque handle, which `geostation_new` makes on the heap. Each call answers an integer
 //! (`status`), and writes what it gives into the caller's buffers; it has no state but the
-//! handle's, does no input or output and reads no clock. Its contract is the station's own over
-//! the handle's station, with what C finds in its memory in place of the answer.
+//! handle's, does no input or output and reads no clock. Its contract is the unit's own over the
+//! handle's unit, with what C finds in its memory in place of the answer.
 //!
-//! The handle has a governor next to its station. It limits what goes out: forwarded frames, and own
-//! packets of the calls that send one. A line of `geostation_handle_json` passes no governor.
+//! The handle holds a unit (`its_unit`): the station, the limits on what goes out, forwarded frames
+//! and own packets, and counts. A line of `geostation_handle_json` passes no limit.
 //!
 //! # What is proved
 //!
 //! Each export of `c/geostation.h` but the sentences and the free is a function of this crate. Its
-//! contract is about the handle's own station and what C finds in its memory.
+//! contract is about the handle's own unit and what C finds in its memory.
 //!
 //! The conditions are C's own: pointers that are not NULL and lie apart, lengths as they are, a
 //! handle that was made and not freed, in one call at a time.
 //!
-//! - **State.** From `geostation_new` on, and after every call, the handle's station represents a
-//!   station of the model. This is a fact of the handle's type (`IsOpen`).
-//! - **Calls.** Each call is a step of that station in the model (`step`). The status is that of
-//!   the model's answer, and the station afterwards is that of the step. The C caller finds the
-//!   answer in its memory: the bytes of the frame at the front of the buffer, and their number; why
+//! - **State.** From `geostation_new` on, and after every call, the handle's unit represents a unit of
+//!   the model: a station and its limits. This is a fact of the handle's type (`IsOpen`).
+//! - **Calls.** Each call is a step of that unit (`step`, `unit_step` of `its_unit`). The status is
+//!   that of its answer, and the unit afterwards is that of the step. The C caller finds the answer in
+//!   its memory: the bytes of the frame at the front of the buffer, and their number; why
 //!   a frame is ignored; port, info and position of a delivered payload; the fault of a bad frame.
 //! - **Errors.** `NO_ROOM` is returned if a buffer has fewer than 1468 octets (`room`). Otherwise
 //!   `BAD_ARGUMENT` is returned if and only if an argument is out of its range (`refused`,
@@ -38,14 +38,15 @@
 //!   (`reception_of`). The payload ends where the frame ends. `geostation_frame_length` returns the
 //!   length of the one prefix that is a frame, or 0 (`found`, `only`).
 //! - **Counts.** Each answer is counted as Rust's `Counts` does, from 0 (`counts`, and in `step`).
-//!   `geostation_counts` writes the counts.
-//! - **Limits.** The step of `geostation_receive` is the governed one: the model's step, of whose
-//!   answer that is kept which the limits let pass (`governed_step`). Without limits it is the
-//!   model's step itself (`unlimited`). A call that sends an own packet, and did not fail with
-//!   `NO_ROOM` or `BAD_ARGUMENT`, fails with `OVER_RATE` if and only if its bucket has no room, at
-//!   a time that the station accepts (`over_rate`, `limit`). Otherwise it is the model's step, and
-//!   a packet that is sent is taken out of the bucket (`step`, `sent`). Each clause is about one
-//!   call. No clause of this crate is about many calls of a handle (`its_governor`).
+//!   `geostation_counts` writes them, and what the limits withheld (`withheld`).
+//! - **Limits.** The step of the unit is the station's, of whose answer that is kept which the limits let
+//!   pass. A call that sends an own packet, and did not fail with `NO_ROOM` or `BAD_ARGUMENT`, fails
+//!   with `OVER_RATE` if and only if its bucket has no room, at a time that the station accepts
+//!   (`over_rate`, `limit`).
+//! - **A handle's life.** Of the unit of a new handle all laws of a unit hold (`new`, `IsLawful` of
+//!   `its_unit`), in every list of calls: its station makes those very calls, what is forwarded and sent
+//!   is within the limits, and a message is delivered if no copy of its packet was. As each call of C
+//!   but a line of JSON is a step of that unit, they hold of every list of such calls of a handle.
 //! - **JSON.** `geostation_handle_json` answers as the model's station does to the request
 //!   (`served`). It writes compact JSON, or nothing if none could be printed. Its memory is
 //!   allocated before the call is made. That its text says what was answered is tested.
@@ -55,15 +56,15 @@
 //! - **Reading.** `geostation_read_frame` returns 0 if and only if the octets are a frame. It then
 //!   writes each field that they encode, and where the payload is (`fields`, `frame`). Otherwise it
 //!   writes the first fault (`fault`).
-//! - **Secured frames.** `geostation_receive_verified` is the governed step of the packet that the
-//!   secured frame and its plain part are (`governed_verified_step`). What is forwarded has the
-//!   message that arrived (`sealed_by`), and the payload lies in the plain part.
+//! - **Secured frames.** `geostation_receive_verified` is the step of the packet that the secured frame
+//!   and its plain part are (`verified_step`). What is forwarded has the message that arrived
+//!   (`sealed_by`), and the payload lies in the plain part.
 //!   `geostation_message` and `geostation_plain_part` return 0 if and only if the octets are a
 //!   secured frame or a frame (`message`, `plain`). `geostation_seal` writes the one secured frame
 //!   of a frame with this message (`sealed`). A buffer under 2310 octets is refused before anything
 //!   is done (`room`, `no_room`).
-//! - **Creation and release.** A new handle represents a new station with the given address,
-//!   position and sizes (`new`). If the status is not 0, there is no handle (`none`).
+//! - **Creation and release.** A new handle represents a new station with the given address, position
+//!   and sizes, with new limits (`new`). If the status is not 0, there is no handle (`none`).
 //!   `geostation_release` is safe for such a handle. That it frees all memory is tested.
 //!
 //! # Only tested
@@ -86,8 +87,6 @@ mod calls;
 mod config;
 mod counting;
 mod fault;
-mod governing;
-mod governor_ptr;
 mod handle;
 mod handle_out;
 mod heap;
@@ -99,10 +98,10 @@ mod receiving;
 mod sealing;
 mod sending;
 mod serving;
-mod station_ptr;
 mod status;
 mod to_area;
 mod told;
+mod unit_ptr;
 
 pub use handle::Geostation;
 pub use handle_out::HandleOut;

@@ -11,7 +11,8 @@ ghost use Rattle.its_model.specs.Station.{StationModel, station_step, beacon_of}
 ghost use Rattle.its_station.specs.State.{RepresentsStation};
 ghost use Rattle.its_c.specs.Lookups.{IsMoment, neighbour_above, source_at, shown_vector};
 ghost use Rattle.its_c.specs.Lookups.{no_vector, TellsFound};
-ghost use Rattle.its_c.specs.Open.{HoldsModel};
+ghost use Rattle.its_unit.specs.Unit.{UnitModel};
+ghost use Rattle.its_c.specs.Open.{HoldsUnit};
 
 use crate::handle::Geostation;
 use crate::layout::Vector;
@@ -28,36 +29,32 @@ const GROUP_BIT: u64 = 1 << 40;
 /// sleeps until this moment; it asks again after a packet of the station's own and after a restart.
 #[unsafe(no_mangle)]
 pub extern "C" fn geostation_beacon_at(alloc: Global, s: &mut Geostation, jitter: u16) -> u64
-    ensures due { (m : StationModel) (now : ℕ) → HoldsModel s.old.held.station m →
+    ensures due { (u : UnitModel) (now : ℕ) → HoldsUnit s.old.held.unit u →
         jitter ≤ 750 → result ≤ now → now ≤ 2 ^ 62 →
-        (station_step m now (Own (Tick jitter))).answer ≡ Sent (beacon_of m) }
-    ensures early { (m : StationModel) (now : ℕ) → HoldsModel s.old.held.station m →
+        (station_step u.station now (Own (Tick jitter))).answer ≡ Sent (beacon_of u.station) }
+    ensures early { (u : UnitModel) (now : ℕ) → HoldsUnit s.old.held.unit u →
         jitter ≤ 750 → now < result → now ≤ 2 ^ 62 →
-        ((station_step m now (Own (Tick jitter))).answer ≡ Quiet)
-        ⊎ ((station_step m now (Own (Tick jitter))).answer ≡ IsRefused MomentEarlier) }
+        ((station_step u.station now (Own (Tick jitter))).answer ≡ Quiet)
+        ⊎ ((station_step u.station now (Own (Tick jitter))).answer ≡ IsRefused MomentEarlier) }
     ensures never { 750 < jitter → result ≡ 2 ^ 64 - 1 }
-    ensures governor { s.new.governor.value ≡ s.old.governor.value }
-    ensures unchanged { s.new.held.station ≡ s.old.held.station }
-    ensures counts { s.new.counts ≡ s.old.counts }
+    ensures unchanged { s.new.held.unit ≡ s.old.held.unit }
 {
-    let station = s.held.take(alloc);
-    let due = station.beacon_at(jitter);
-    s.held.put(station);
+    let unit = s.held.take(alloc);
+    let due = unit.station().beacon_at(jitter);
+    s.held.put(unit);
     due
 }
 
 /// The sequence number of the station's next packet for an area.
 #[unsafe(no_mangle)]
 pub extern "C" fn geostation_next_number(alloc: Global, s: &mut Geostation) -> u16
-    ensures number { (m : StationModel) → HoldsModel s.old.held.station m →
-        result ≡ m.next_number }
-    ensures governor { s.new.governor.value ≡ s.old.governor.value }
-    ensures unchanged { s.new.held.station ≡ s.old.held.station }
-    ensures counts { s.new.counts ≡ s.old.counts }
+    ensures number { (u : UnitModel) → HoldsUnit s.old.held.unit u →
+        result ≡ u.station.next_number }
+    ensures unchanged { s.new.held.unit ≡ s.old.held.unit }
 {
-    let station = s.held.take(alloc);
-    let number = station.next_number();
-    s.held.put(station);
+    let unit = s.held.take(alloc);
+    let number = unit.station().next_number();
+    s.held.put(unit);
     number
 }
 
@@ -66,20 +63,18 @@ pub extern "C" fn geostation_next_number(alloc: Global, s: &mut Geostation) -> u
 /// `geostation_beacon_at`.
 #[unsafe(no_mangle)]
 pub extern "C" fn geostation_next_beacon(alloc: Global, s: &mut Geostation) -> u64
-    ensures due { (m : StationModel) (now : ℕ) → HoldsModel s.old.held.station m →
+    ensures due { (u : UnitModel) (now : ℕ) → HoldsUnit s.old.held.unit u →
         result ≤ now → now ≤ 2 ^ 62 →
-        (station_step m now (Own (Tick 0))).answer ≡ Sent (beacon_of m) }
-    ensures early { (m : StationModel) (now : ℕ) → HoldsModel s.old.held.station m →
+        (station_step u.station now (Own (Tick 0))).answer ≡ Sent (beacon_of u.station) }
+    ensures early { (u : UnitModel) (now : ℕ) → HoldsUnit s.old.held.unit u →
         now < result → now ≤ 2 ^ 62 →
-        ((station_step m now (Own (Tick 0))).answer ≡ Quiet)
-        ⊎ ((station_step m now (Own (Tick 0))).answer ≡ IsRefused MomentEarlier) }
-    ensures governor { s.new.governor.value ≡ s.old.governor.value }
-    ensures unchanged { s.new.held.station ≡ s.old.held.station }
-    ensures counts { s.new.counts ≡ s.old.counts }
+        ((station_step u.station now (Own (Tick 0))).answer ≡ Quiet)
+        ⊎ ((station_step u.station now (Own (Tick 0))).answer ≡ IsRefused MomentEarlier) }
+    ensures unchanged { s.new.held.unit ≡ s.old.held.unit }
 {
-    let station = s.held.take(alloc);
-    let due = station.next_beacon();
-    s.held.put(station);
+    let unit = s.held.take(alloc);
+    let due = unit.station().next_beacon();
+    s.held.put(unit);
     due
 }
 
@@ -94,17 +89,15 @@ pub extern "C" fn geostation_neighbour(
     after: u64,
     vector: &mut Vector,
 ) -> i32
-    ensures found { (m : StationModel) → HoldsModel s.old.held.station m → IsMoment m now →
-        TellsFound (neighbour_above m now after) result vector.new }
-    ensures none { (m : StationModel) → HoldsModel s.old.held.station m → ¬ IsMoment m now →
+    ensures found { (u : UnitModel) → HoldsUnit s.old.held.unit u → IsMoment u.station now →
+        TellsFound (neighbour_above u.station now after) result vector.new }
+    ensures none { (u : UnitModel) → HoldsUnit s.old.held.unit u → ¬ IsMoment u.station now →
         TellsFound None result vector.new }
-    ensures governor { s.new.governor.value ≡ s.old.governor.value }
-    ensures unchanged { s.new.held.station ≡ s.old.held.station }
-    ensures counts { s.new.counts ≡ s.old.counts }
+    ensures unchanged { s.new.held.unit ≡ s.old.held.unit }
 {
-    let station = s.held.take(alloc);
-    let found = tell_neighbour(&station, now, after, vector);
-    s.held.put(station);
+    let unit = s.held.take(alloc);
+    let found = tell_neighbour(unit.station(), now, after, vector);
+    s.held.put(unit);
     found
 }
 
@@ -118,18 +111,16 @@ pub extern "C" fn geostation_look_up(
     address: u64,
     vector: &mut Vector,
 ) -> i32
-    ensures found { (m : StationModel) → HoldsModel s.old.held.station m → IsMoment m now →
-        IsIndividual address → TellsFound (source_at m now address) result vector.new }
-    ensures none { (m : StationModel) → HoldsModel s.old.held.station m → ¬ IsMoment m now →
+    ensures found { (u : UnitModel) → HoldsUnit s.old.held.unit u → IsMoment u.station now →
+        IsIndividual address → TellsFound (source_at u.station now address) result vector.new }
+    ensures none { (u : UnitModel) → HoldsUnit s.old.held.unit u → ¬ IsMoment u.station now →
         TellsFound None result vector.new }
     ensures group { IsGroup address → TellsFound None result vector.new }
-    ensures governor { s.new.governor.value ≡ s.old.governor.value }
-    ensures unchanged { s.new.held.station ≡ s.old.held.station }
-    ensures counts { s.new.counts ≡ s.old.counts }
+    ensures unchanged { s.new.held.unit ≡ s.old.held.unit }
 {
-    let station = s.held.take(alloc);
-    let found = tell_source(&station, now, address, vector);
-    s.held.put(station);
+    let unit = s.held.take(alloc);
+    let found = tell_source(unit.station(), now, address, vector);
+    s.held.put(unit);
     found
 }
 

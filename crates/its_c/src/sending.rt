@@ -3,25 +3,23 @@
 
 ghost use Rattle.std.specs.Prelude.{◌≡◌, ◌≢◌, ◌≤◌, ◌<◌, ◌+◌, pos, length, IsTrue, nat_le, None};
 ghost use Rattle.std.specs.Prelude.{Some};
-ghost use Rattle.its_governor.specs.declared.governor.Governor.{Governor as Limited};
-ghost use Rattle.its_governor.specs.Governing.{is_over_rate, after_sent};
-ghost use Rattle.its_model.specs.Calls.{Own};
+ghost use Rattle.its_governor.specs.Governing.{is_over_rate};
 ghost use Rattle.its_model.specs.Calls.OwnCall.{Tick, SendShb};
-ghost use Rattle.its_model.specs.Station.{StationModel, station_step};
 ghost use Rattle.its_model.specs.Station.{first, moment_refusal, own_refusal};
-ghost use Rattle.its_station.specs.Counting.{counted_send, counted_tick};
-ghost use Rattle.its_station.specs.Beside.{send_shb_for_step, shb_refusal};
-ghost use Rattle.its_station.specs.Requests.{TellsTick, TellsSent, shb_request};
+ghost use Rattle.its_station.specs.Counting.{counted_tick};
+ghost use Rattle.its_station.specs.Beside.{shb_refusal};
+ghost use Rattle.its_station.specs.Requests.{TellsTick, shb_request};
+ghost use Rattle.its_unit.specs.Unit.{UnitModel, unit_step, Own, SendShbFor};
+ghost use Rattle.its_unit.specs.Steps.{IsStepOf, IsSendOf, SaysPassed, counted_request};
 ghost use Rattle.its_c.specs.Arguments.{shb_asked};
-ghost use Rattle.its_c.specs.Governed.{IsOverRate};
-ghost use Rattle.its_c.specs.Open.{HoldsModel};
+ghost use Rattle.its_c.specs.Held.{IsSame, limits_in, station_in};
+ghost use Rattle.its_c.specs.Open.{HoldsUnit};
+ghost use Rattle.its_c.specs.Status.{status_in, status_sent};
 ghost use Rattle.its_c.specs.Told.{IsTold, ShowsBeacon, ShowsFrame};
 
-use crate::counting::{count_send, count_tick};
-use crate::governing::{is_over_rate, note_sent};
 use crate::handle::Geostation;
 use crate::layout::ShbRequest;
-use crate::status::{NO_ROOM, OVER_RATE};
+use crate::status::NO_ROOM;
 use crate::told::{told_beacon, told_frame};
 use its_gnvalue::{Lifetime, TrafficClass};
 use its_headers::Kind;
@@ -42,25 +40,24 @@ pub extern "C" fn geostation_tick(
     written: &mut usize,
 ) -> i32
     ensures room { length frame.old < 1468 → (result ≡ pos 21) × (s.new ≡ s.old) }
-    ensures step { (m : StationModel) → 1468 ≤ length frame.old →
-        HoldsModel s.old.held.station m →
-        IsTold TellsTick (ShowsBeacon written.new frame.new) counted_tick result s.old s.new
-        (station_step m now (Own (Tick jitter))) }
-    ensures governor { s.new.governor.value ≡ s.old.governor.value }
-    ensures unchanged { result ≢ pos 0 → s.new.held.station ≡ s.old.held.station }
+    ensures step { (u : UnitModel) → 1468 ≤ length frame.old →
+        HoldsUnit s.old.held.unit u →
+        IsTold (IsStepOf (SaysPassed TellsTick)) (ShowsBeacon written.new frame.new) counted_tick
+        status_in result s.old s.new (unit_step u now (Own (Tick jitter))) }
+    ensures limits { limits_in s.new ≡ limits_in s.old }
+    ensures unchanged { result ≢ pos 0 → IsSame s.old s.new }
     ensures nothing { result ≢ pos 0 → written.new ≡ 0 }
-    ensures memory { (m : StationModel) → HoldsModel s.old.held.station m → result ≡ pos 5 →
-        (first (moment_refusal m now) (own_refusal m (Tick jitter)) ≡ None)
-        × IsTrue (nat_le (m.beacon_from + jitter) now) }
+    ensures memory { (u : UnitModel) → HoldsUnit s.old.held.unit u → result ≡ pos 5 →
+        (first (moment_refusal u.station now) (own_refusal u.station (Tick jitter)) ≡ None)
+        × IsTrue (nat_le (u.station.beacon_from + jitter) now) }
 {
     *written = 0;
     if frame.len() < LONGEST_FRAME {
         return NO_ROOM;
     }
-    let mut station = s.held.take(alloc);
-    let said = station.tick(now, jitter);
-    s.held.put(station);
-    count_tick(&mut s.counts, &said);
+    let mut unit = s.held.take(alloc);
+    let said = unit.tick(now, jitter);
+    s.held.put(unit);
     told_beacon(said, frame, written)
 }
 
@@ -78,40 +75,30 @@ pub extern "C" fn geostation_send_shb(
     written: &mut usize,
 ) -> i32
     ensures room { length frame.old < 1468 → (result ≡ pos 21) × (s.new ≡ s.old) }
-    ensures step { (m : StationModel) → 1468 ≤ length frame.old →
-        HoldsModel s.old.held.station m → result ≢ pos 22 →
-        IsTold TellsSent (ShowsFrame written.new frame.new) (counted_send Kind.Shb) result
-        s.old s.new
-        (station_step m now (Own (SendShb (shb_asked request.now payload.now)))) }
-    ensures over_rate { result ≡ pos 22 → IsOverRate now s.old s.new }
-    ensures limit { (m : StationModel) (g : Limited) → 1468 ≤ length frame.old →
-        HoldsModel s.old.held.station m → s.old.governor.value ≡ Some g →
-        IsTrue (is_over_rate g m.clock now) → result ≡ pos 22 }
-    ensures unlimited { (g : Limited) → s.old.governor.value ≡ Some g → g.own ≡ None →
-        result ≢ pos 22 }
-    ensures sent { (g : Limited) → s.old.governor.value ≡ Some g → result ≡ pos 0 →
-        s.new.governor.value ≡ Some (after_sent g now) }
-    ensures governor { result ≢ pos 0 → result ≢ pos 22 →
-        s.new.governor.value ≡ s.old.governor.value }
-    ensures unchanged { result ≢ pos 0 → s.new.held.station ≡ s.old.held.station }
+    ensures step { (u : UnitModel) → 1468 ≤ length frame.old →
+        HoldsUnit s.old.held.unit u →
+        IsTold IsSendOf (ShowsFrame written.new frame.new) (counted_request Kind.Shb) status_sent
+        result s.old s.new
+        (unit_step u now (Own (SendShb (shb_asked request.now payload.now)))) }
+    ensures over_rate { (u : UnitModel) → HoldsUnit s.old.held.unit u → result ≡ pos 22 →
+        IsTrue (is_over_rate u.governor u.station.clock now) }
+    ensures limit { (u : UnitModel) → 1468 ≤ length frame.old → HoldsUnit s.old.held.unit u →
+        IsTrue (is_over_rate u.governor u.station.clock now) → result ≡ pos 22 }
+    ensures unchanged { result ≢ pos 0 → result ≢ pos 22 → IsSame s.old s.new }
+    ensures station { result ≢ pos 0 → station_in s.new ≡ station_in s.old }
     ensures nothing { result ≢ pos 0 → written.new ≡ 0 }
-    ensures memory { (m : StationModel) → HoldsModel s.old.held.station m → result ≡ pos 5 →
-        first (moment_refusal m now)
-        (own_refusal m (SendShb (shb_asked request.now payload.now))) ≡ None }
+    ensures memory { (u : UnitModel) → HoldsUnit s.old.held.unit u → result ≡ pos 5 →
+        first (moment_refusal u.station now)
+        (own_refusal u.station (SendShb (shb_asked request.now payload.now))) ≡ None }
 {
     *written = 0;
     if frame.len() < LONGEST_FRAME {
         return NO_ROOM;
     }
-    if is_over_rate(alloc, &mut s.held, &mut s.governor, now) {
-        return OVER_RATE;
-    }
     let r = single_hop_request(request, payload);
-    let mut station = s.held.take(alloc);
-    let said = station.send_shb(now, &r);
-    s.held.put(station);
-    note_sent(alloc, &mut s.governor, now, &said);
-    count_send(&mut s.counts, Kind::Shb, &said);
+    let mut unit = s.held.take(alloc);
+    let said = unit.send_shb(now, &r);
+    s.held.put(unit);
     told_frame(said, frame, written)
 }
 
@@ -129,39 +116,29 @@ pub extern "C" fn geostation_send_shb_with_lifetime(
     written: &mut usize,
 ) -> i32
     ensures room { length frame.old < 1468 → (result ≡ pos 21) × (s.new ≡ s.old) }
-    ensures step { (m : StationModel) → 1468 ≤ length frame.old →
-        HoldsModel s.old.held.station m → result ≢ pos 22 →
-        IsTold TellsSent (ShowsFrame written.new frame.new) (counted_send Kind.Shb) result
-        s.old s.new
-        (send_shb_for_step m now lifetime (shb_asked request.now payload.now)) }
-    ensures over_rate { result ≡ pos 22 → IsOverRate now s.old s.new }
-    ensures limit { (m : StationModel) (g : Limited) → 1468 ≤ length frame.old →
-        HoldsModel s.old.held.station m → s.old.governor.value ≡ Some g →
-        IsTrue (is_over_rate g m.clock now) → result ≡ pos 22 }
-    ensures unlimited { (g : Limited) → s.old.governor.value ≡ Some g → g.own ≡ None →
-        result ≢ pos 22 }
-    ensures sent { (g : Limited) → s.old.governor.value ≡ Some g → result ≡ pos 0 →
-        s.new.governor.value ≡ Some (after_sent g now) }
-    ensures governor { result ≢ pos 0 → result ≢ pos 22 →
-        s.new.governor.value ≡ s.old.governor.value }
-    ensures unchanged { result ≢ pos 0 → s.new.held.station ≡ s.old.held.station }
+    ensures step { (u : UnitModel) → 1468 ≤ length frame.old →
+        HoldsUnit s.old.held.unit u →
+        IsTold IsSendOf (ShowsFrame written.new frame.new) (counted_request Kind.Shb) status_sent
+        result s.old s.new
+        (unit_step u now (SendShbFor lifetime (shb_asked request.now payload.now))) }
+    ensures over_rate { (u : UnitModel) → HoldsUnit s.old.held.unit u → result ≡ pos 22 →
+        IsTrue (is_over_rate u.governor u.station.clock now) }
+    ensures limit { (u : UnitModel) → 1468 ≤ length frame.old → HoldsUnit s.old.held.unit u →
+        IsTrue (is_over_rate u.governor u.station.clock now) → result ≡ pos 22 }
+    ensures unchanged { result ≢ pos 0 → result ≢ pos 22 → IsSame s.old s.new }
+    ensures station { result ≢ pos 0 → station_in s.new ≡ station_in s.old }
     ensures nothing { result ≢ pos 0 → written.new ≡ 0 }
-    ensures memory { (m : StationModel) → HoldsModel s.old.held.station m → result ≡ pos 5 →
-        shb_refusal m now (shb_asked request.now payload.now) ≡ None }
+    ensures memory { (u : UnitModel) → HoldsUnit s.old.held.unit u → result ≡ pos 5 →
+        shb_refusal u.station now (shb_asked request.now payload.now) ≡ None }
 {
     *written = 0;
     if frame.len() < LONGEST_FRAME {
         return NO_ROOM;
     }
-    if is_over_rate(alloc, &mut s.held, &mut s.governor, now) {
-        return OVER_RATE;
-    }
     let r = single_hop_request(request, payload);
-    let mut station = s.held.take(alloc);
-    let said = station.send_shb_for(now, &r, Lifetime::from_octet(lifetime));
-    s.held.put(station);
-    note_sent(alloc, &mut s.governor, now, &said);
-    count_send(&mut s.counts, Kind::Shb, &said);
+    let mut unit = s.held.take(alloc);
+    let said = unit.send_shb_for(now, &r, Lifetime::from_octet(lifetime));
+    s.held.put(unit);
     told_frame(said, frame, written)
 }
 

@@ -1,23 +1,22 @@
 //! The call that takes a line of JSON, as the command `station` does, and answers it.
 
 ghost use Rattle.std.specs.Prelude.{◌≡◌, ◌≢◌, ◌≤◌, ◌<◌, ◌⊎◌, pos, length, Option};
-ghost use Rattle.its_model.specs.Station.{StationModel};
 ghost use Rattle.cmd_pipe.specs.declared.response.Response.{Response as ToldLine};
 ghost use Rattle.cmd_pipe.specs.Lines.{whole_line};
 ghost use Rattle.cmd_pipe.specs.Requests.{AsksSecured};
-ghost use Rattle.its_c.specs.Counted.{counts_of};
-ghost use Rattle.its_c.specs.Open.{HoldsModel};
+ghost use Rattle.its_unit.specs.Unit.{UnitModel};
+ghost use Rattle.its_c.specs.Held.{counts_in, limits_in, station_in};
+ghost use Rattle.its_c.specs.Open.{HoldsUnit};
 ghost use Rattle.its_c.specs.Served.{IsServedLine, ShowsAnswer, ShowsFitting, ShowsLine, frame_in};
 ghost use Rattle.its_c.specs.Told.{Holds};
 
-use crate::counting::{counts_of, told_counts};
 use crate::handle::Geostation;
 use crate::status::{NO_MEMORY, NO_ROOM, OK};
 use crate::told::hand_out;
 use cmd_pipe::{Known, Response, Unanswered, answer_line, print_response};
 use cmd_text::json_lines::JsonLine;
 use its_linkframe::LONGEST_FRAME;
-use its_station::Reply;
+use its_station::Answer;
 use std::alloc::Global;
 
 /// How many octets an answer may have: a call that writes one wants room for it.
@@ -46,13 +45,13 @@ pub extern "C" fn geostation_handle_json(
         (result ≡ pos 21) × (s.new ≡ s.old) }
     ensures secured_room { length frame.old < 2310 → AsksSecured (whole_line line.now) →
         result ≢ pos 0 }
-    ensures no_room { result ≡ pos 21 → counts_of s.new.counts ≡ counts_of s.old.counts }
-    ensures served { (m : StationModel) → HoldsModel s.old.held.station m → result ≡ pos 0 →
-        (told : Option ToldLine) × IsServedLine now number line.now m s.old s.new told
+    ensures no_room { result ≡ pos 21 → counts_in s.new ≡ counts_in s.old }
+    ensures served { (u : UnitModel) → HoldsUnit s.old.held.unit u → result ≡ pos 0 →
+        (told : Option ToldLine) × IsServedLine now number line.now u s.old s.new told
         × ShowsAnswer answer_length.new answer.new told
         × ShowsFitting frame_length.new frame.new (frame_in told) }
-    ensures governor { s.new.governor.value ≡ s.old.governor.value }
-    ensures unchanged { result ≢ pos 0 → s.new.held.station ≡ s.old.held.station }
+    ensures limits { limits_in s.new ≡ limits_in s.old }
+    ensures unchanged { result ≢ pos 0 → station_in s.new ≡ station_in s.old }
     ensures nothing { result ≢ pos 0 → (answer_length.new ≡ 0) × (frame_length.new ≡ 0) }
     ensures only { (result ≡ pos 0) ⊎ (result ≡ pos 5) ⊎ (result ≡ pos 21) }
 {
@@ -65,12 +64,10 @@ pub extern "C" fn geostation_handle_json(
     let Ok(mut text) = JsonLine::with_room(alloc, LONGEST_ANSWER) else {
         return NO_MEMORY;
     };
-    let mut station = s.held.take(alloc);
-    let mut counts = counts_of(&s.counts);
+    let mut unit = s.held.take(alloc);
     let room = frame.len();
-    let said = answer_line(alloc, &mut station, &mut counts, now, number, line, room);
-    s.held.put(station);
-    s.counts = told_counts(&counts);
+    let said = answer_line(alloc, &mut unit, now, number, line, room);
+    s.held.put(unit);
     let told = match said {
         Ok(told) => told,
         Err(Unanswered::NoRoom) => return NO_ROOM,
@@ -88,8 +85,8 @@ fn write_frame(told: &Option<Response>, room: &mut [u8]) -> usize
 {
     match told {
         Some(Response::Reply { reply, .. }) => match reply {
-            Reply::Sent(frame) => write_fitting(frame.as_slice(), room),
-            Reply::Accepted {
+            Answer::Sent(frame) => write_fitting(frame.as_slice(), room),
+            Answer::Accepted {
                 sent: Some(frame),
                 ..
             } => write_fitting(frame.as_slice(), room),

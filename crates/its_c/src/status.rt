@@ -1,10 +1,11 @@
 //! The statuses that calls from C return.
 
 ghost use Rattle.std.specs.Prelude.{◌≡◌, ◌≢◌, pos};
-ghost use Rattle.its_c.specs.Status.{status_of};
+ghost use Rattle.its_c.specs.Status.{status_of, status_of_unsent};
 
 use its_btp::PortFault;
 use its_station::Refused;
+use its_unit::Unsent;
 
 /// The call was done.
 pub(crate) const OK: i32 = 0;
@@ -43,5 +44,18 @@ pub(crate) fn status_of(refused: Refused) -> i32
         Refused::JitterRange => 9,
         Refused::Port(PortFault::Full) => 10,
         Refused::Port(PortFault::NotOpen) => 11,
+    }
+}
+
+/// The status of a request for an own packet that gives no frame.
+pub(crate) fn status_of_unsent(unsent: Unsent) -> i32
+    ensures status { result ≡ status_of_unsent unsent }
+    ensures memory { result ≡ pos 5 → unsent ≡ Unsent.Refused Refused.NoMemory }
+    ensures rate { result ≡ pos 22 → unsent ≡ Unsent.OverRate }
+    ensures refused { result ≢ pos 0 }
+{
+    match unsent {
+        Unsent::Refused(refused) => status_of(refused),
+        Unsent::OverRate => OVER_RATE,
     }
 }

@@ -2,26 +2,24 @@
 
 ghost use Rattle.std.specs.Prelude.{◌≡◌, ◌≢◌, ◌≤◌, ◌<◌, pos, length};
 ghost use Rattle.std.specs.Prelude.{None, Some, IfSome, IsTrue};
-ghost use Rattle.its_governor.specs.declared.governor.Governor.{Governor as Limited};
-ghost use Rattle.its_governor.specs.Governing.{is_over_rate, after_sent};
+ghost use Rattle.its_governor.specs.Governing.{is_over_rate};
 ghost use Rattle.its_geometry.specs.Area.{GeoArea};
 ghost use Rattle.its_headers.specs.declared.kind.Kind.TheVariants as kinds;
-ghost use Rattle.its_model.specs.Calls.{Own, area_call};
+ghost use Rattle.its_model.specs.Calls.{area_call};
 ghost use Rattle.its_model.specs.Calls.OwnCall.{SendGbc, SendGac};
-ghost use Rattle.its_model.specs.Station.{StationModel, station_step};
 ghost use Rattle.its_model.specs.Station.{first, moment_refusal, own_refusal};
-ghost use Rattle.its_station.specs.Counting.{counted_send};
-ghost use Rattle.its_station.specs.Requests.{TellsSent, gbc_request, kind_cast, kind_of_cast};
+ghost use Rattle.its_station.specs.Requests.{gbc_request, kind_cast, kind_of_cast};
+ghost use Rattle.its_unit.specs.Unit.{UnitModel, unit_step, Own};
+ghost use Rattle.its_unit.specs.Steps.{IsSendOf, counted_request};
 ghost use Rattle.its_c.specs.Arguments.{IsAreaOf, gbc_asked};
-ghost use Rattle.its_c.specs.Governed.{IsOverRate};
-ghost use Rattle.its_c.specs.Open.{HoldsModel};
+ghost use Rattle.its_c.specs.Held.{IsSame, station_in};
+ghost use Rattle.its_c.specs.Open.{HoldsUnit};
+ghost use Rattle.its_c.specs.Status.{status_sent};
 ghost use Rattle.its_c.specs.Told.{IsTold, ShowsFrame};
 
-use crate::counting::count_send;
-use crate::governing::{is_over_rate, note_sent};
 use crate::handle::Geostation;
 use crate::layout::AreaRequest;
-use crate::status::{BAD_ARGUMENT, NO_ROOM, OVER_RATE};
+use crate::status::{BAD_ARGUMENT, NO_ROOM};
 use crate::told::told_frame;
 use its_geometry::Area;
 use its_gnvalue::{Lifetime, Place, TrafficClass};
@@ -44,30 +42,25 @@ pub extern "C" fn geostation_send_gbc(
     written: &mut usize,
 ) -> i32
     ensures room { length frame.old < 1468 → (result ≡ pos 21) × (s.new ≡ s.old) }
-    ensures step { (m : StationModel) → 1468 ≤ length frame.old →
-        HoldsModel s.old.held.station m → result ≢ pos 20 → result ≢ pos 22 →
+    ensures step { (u : UnitModel) → 1468 ≤ length frame.old →
+        HoldsUnit s.old.held.unit u → result ≢ pos 20 →
         (area : GeoArea) × IsAreaOf request.now area ×
-        IsTold TellsSent (ShowsFrame written.new frame.new) (counted_send kinds.Gbc) result
-        s.old s.new
-        (station_step m now (Own (SendGbc (gbc_asked request.now area payload.now)))) }
+        IsTold IsSendOf (ShowsFrame written.new frame.new) (counted_request kinds.Gbc) status_sent
+        result s.old s.new
+        (unit_step u now (Own (SendGbc (gbc_asked request.now area payload.now)))) }
     ensures refused { result ≡ pos 20 → (area : GeoArea) → IsAreaOf request.now area → ⊥ }
     ensures argument { result ≡ pos 20 → s.new ≡ s.old }
-    ensures over_rate { result ≡ pos 22 → IsOverRate now s.old s.new }
-    ensures limit { (m : StationModel) (g : Limited) → 1468 ≤ length frame.old →
-        HoldsModel s.old.held.station m → s.old.governor.value ≡ Some g →
-        result ≢ pos 20 → IsTrue (is_over_rate g m.clock now) → result ≡ pos 22 }
-    ensures unlimited { (g : Limited) → s.old.governor.value ≡ Some g → g.own ≡ None →
-        result ≢ pos 22 }
-    ensures sent { (g : Limited) → s.old.governor.value ≡ Some g → result ≡ pos 0 →
-        s.new.governor.value ≡ Some (after_sent g now) }
-    ensures governor { result ≢ pos 0 → result ≢ pos 22 →
-        s.new.governor.value ≡ s.old.governor.value }
-    ensures unchanged { result ≢ pos 0 → s.new.held.station ≡ s.old.held.station }
+    ensures over_rate { (u : UnitModel) → HoldsUnit s.old.held.unit u → result ≡ pos 22 →
+        IsTrue (is_over_rate u.governor u.station.clock now) }
+    ensures limit { (u : UnitModel) → 1468 ≤ length frame.old → HoldsUnit s.old.held.unit u →
+        result ≢ pos 20 → IsTrue (is_over_rate u.governor u.station.clock now) → result ≡ pos 22 }
+    ensures unchanged { result ≢ pos 0 → result ≢ pos 22 → IsSame s.old s.new }
+    ensures station { result ≢ pos 0 → station_in s.new ≡ station_in s.old }
     ensures nothing { result ≢ pos 0 → written.new ≡ 0 }
-    ensures memory { (m : StationModel) → HoldsModel s.old.held.station m → result ≡ pos 5 →
+    ensures memory { (u : UnitModel) → HoldsUnit s.old.held.unit u → result ≡ pos 5 →
         (area : GeoArea) × IsAreaOf request.now area ×
-        (first (moment_refusal m now)
-        (own_refusal m (SendGbc (gbc_asked request.now area payload.now))) ≡ None) }
+        (first (moment_refusal u.station now)
+        (own_refusal u.station (SendGbc (gbc_asked request.now area payload.now))) ≡ None) }
 {
     send_to_area(
         alloc,
@@ -94,30 +87,25 @@ pub extern "C" fn geostation_send_gac(
     written: &mut usize,
 ) -> i32
     ensures room { length frame.old < 1468 → (result ≡ pos 21) × (s.new ≡ s.old) }
-    ensures step { (m : StationModel) → 1468 ≤ length frame.old →
-        HoldsModel s.old.held.station m → result ≢ pos 20 → result ≢ pos 22 →
+    ensures step { (u : UnitModel) → 1468 ≤ length frame.old →
+        HoldsUnit s.old.held.unit u → result ≢ pos 20 →
         (area : GeoArea) × IsAreaOf request.now area ×
-        IsTold TellsSent (ShowsFrame written.new frame.new) (counted_send kinds.Gac) result
-        s.old s.new
-        (station_step m now (Own (SendGac (gbc_asked request.now area payload.now)))) }
+        IsTold IsSendOf (ShowsFrame written.new frame.new) (counted_request kinds.Gac) status_sent
+        result s.old s.new
+        (unit_step u now (Own (SendGac (gbc_asked request.now area payload.now)))) }
     ensures refused { result ≡ pos 20 → (area : GeoArea) → IsAreaOf request.now area → ⊥ }
     ensures argument { result ≡ pos 20 → s.new ≡ s.old }
-    ensures over_rate { result ≡ pos 22 → IsOverRate now s.old s.new }
-    ensures limit { (m : StationModel) (g : Limited) → 1468 ≤ length frame.old →
-        HoldsModel s.old.held.station m → s.old.governor.value ≡ Some g →
-        result ≢ pos 20 → IsTrue (is_over_rate g m.clock now) → result ≡ pos 22 }
-    ensures unlimited { (g : Limited) → s.old.governor.value ≡ Some g → g.own ≡ None →
-        result ≢ pos 22 }
-    ensures sent { (g : Limited) → s.old.governor.value ≡ Some g → result ≡ pos 0 →
-        s.new.governor.value ≡ Some (after_sent g now) }
-    ensures governor { result ≢ pos 0 → result ≢ pos 22 →
-        s.new.governor.value ≡ s.old.governor.value }
-    ensures unchanged { result ≢ pos 0 → s.new.held.station ≡ s.old.held.station }
+    ensures over_rate { (u : UnitModel) → HoldsUnit s.old.held.unit u → result ≡ pos 22 →
+        IsTrue (is_over_rate u.governor u.station.clock now) }
+    ensures limit { (u : UnitModel) → 1468 ≤ length frame.old → HoldsUnit s.old.held.unit u →
+        result ≢ pos 20 → IsTrue (is_over_rate u.governor u.station.clock now) → result ≡ pos 22 }
+    ensures unchanged { result ≢ pos 0 → result ≢ pos 22 → IsSame s.old s.new }
+    ensures station { result ≢ pos 0 → station_in s.new ≡ station_in s.old }
     ensures nothing { result ≢ pos 0 → written.new ≡ 0 }
-    ensures memory { (m : StationModel) → HoldsModel s.old.held.station m → result ≡ pos 5 →
+    ensures memory { (u : UnitModel) → HoldsUnit s.old.held.unit u → result ≡ pos 5 →
         (area : GeoArea) × IsAreaOf request.now area ×
-        (first (moment_refusal m now)
-        (own_refusal m (SendGac (gbc_asked request.now area payload.now))) ≡ None) }
+        (first (moment_refusal u.station now)
+        (own_refusal u.station (SendGac (gbc_asked request.now area payload.now))) ≡ None) }
 {
     send_to_area(
         alloc,
@@ -144,30 +132,25 @@ fn send_to_area(
     written: &mut usize,
 ) -> i32
     ensures room { length frame.old < 1468 → (result ≡ pos 21) × (s.new ≡ s.old) }
-    ensures step { (m : StationModel) → 1468 ≤ length frame.old →
-        HoldsModel s.old.held.station m → result ≢ pos 20 → result ≢ pos 22 →
+    ensures step { (u : UnitModel) → 1468 ≤ length frame.old →
+        HoldsUnit s.old.held.unit u → result ≢ pos 20 →
         (area : GeoArea) × IsAreaOf request.now area ×
-        IsTold TellsSent (ShowsFrame written.new frame.new) (counted_send (kind_cast cast))
-        result s.old s.new
-        (station_step m now
+        IsTold IsSendOf (ShowsFrame written.new frame.new) (counted_request (kind_cast cast))
+        status_sent result s.old s.new
+        (unit_step u now
         (Own (area_call (kind_of_cast cast) (gbc_asked request.now area payload.now)))) }
     ensures refused { result ≡ pos 20 → (area : GeoArea) → IsAreaOf request.now area → ⊥ }
     ensures argument { result ≡ pos 20 → s.new ≡ s.old }
-    ensures over_rate { result ≡ pos 22 → IsOverRate now s.old s.new }
-    ensures limit { (m : StationModel) (g : Limited) → 1468 ≤ length frame.old →
-        HoldsModel s.old.held.station m → s.old.governor.value ≡ Some g →
-        result ≢ pos 20 → IsTrue (is_over_rate g m.clock now) → result ≡ pos 22 }
-    ensures unlimited { (g : Limited) → s.old.governor.value ≡ Some g → g.own ≡ None →
-        result ≢ pos 22 }
-    ensures sent { (g : Limited) → s.old.governor.value ≡ Some g → result ≡ pos 0 →
-        s.new.governor.value ≡ Some (after_sent g now) }
-    ensures governor { result ≢ pos 0 → result ≢ pos 22 →
-        s.new.governor.value ≡ s.old.governor.value }
-    ensures unchanged { result ≢ pos 0 → s.new.held.station ≡ s.old.held.station }
+    ensures over_rate { (u : UnitModel) → HoldsUnit s.old.held.unit u → result ≡ pos 22 →
+        IsTrue (is_over_rate u.governor u.station.clock now) }
+    ensures limit { (u : UnitModel) → 1468 ≤ length frame.old → HoldsUnit s.old.held.unit u →
+        result ≢ pos 20 → IsTrue (is_over_rate u.governor u.station.clock now) → result ≡ pos 22 }
+    ensures unchanged { result ≢ pos 0 → result ≢ pos 22 → IsSame s.old s.new }
+    ensures station { result ≢ pos 0 → station_in s.new ≡ station_in s.old }
     ensures nothing { result ≢ pos 0 → written.new ≡ 0 }
-    ensures memory { (m : StationModel) → HoldsModel s.old.held.station m → result ≡ pos 5 →
+    ensures memory { (u : UnitModel) → HoldsUnit s.old.held.unit u → result ≡ pos 5 →
         (area : GeoArea) × IsAreaOf request.now area ×
-        (first (moment_refusal m now) (own_refusal m
+        (first (moment_refusal u.station now) (own_refusal u.station
         (area_call (kind_of_cast cast) (gbc_asked request.now area payload.now))) ≡ None) }
 {
     *written = 0;
@@ -177,15 +160,10 @@ fn send_to_area(
     let Some(area) = area_of(request) else {
         return BAD_ARGUMENT;
     };
-    if is_over_rate(alloc, &mut s.held, &mut s.governor, now) {
-        return OVER_RATE;
-    }
     let r = area_request(request, area, payload);
-    let mut station = s.held.take(alloc);
-    let said = station.send_to_area(now, cast, &r);
-    s.held.put(station);
-    note_sent(alloc, &mut s.governor, now, &said);
-    count_send(&mut s.counts, cast.kind(), &said);
+    let mut unit = s.held.take(alloc);
+    let said = unit.send_to_area(now, cast, &r);
+    s.held.put(unit);
     told_frame(said, frame, written)
 }
 

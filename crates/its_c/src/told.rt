@@ -1,15 +1,17 @@
 //! What a call tells C: its status, and what it writes into the caller's buffers.
 
-ghost use Rattle.std.specs.Prelude.{◌≡◌, ◌≢◌, ◌≤◌, pos, length, Err, IfOk, IfSome, IsOk, IsErr};
+ghost use Rattle.std.specs.Prelude.{◌≡◌, ◌≢◌, ◌≤◌, pos, length, Ok, Err, IfOk, IfSome, IsOk, IsErr};
 ghost use Rattle.its_station.specs.Receiving.{DeliversEndOf, HandsOutEndOf, SendsAtMost};
-ghost use Rattle.its_c.specs.Status.{status_in};
+ghost use Rattle.its_unit.specs.Steps.{WherePassed};
+ghost use Rattle.its_c.specs.Status.{status_in, status_sent};
 ghost use Rattle.its_c.specs.Told.{Holds, ShowsFrame, ShowsBeacon, ShowsHanded, ShowsReceived};
 ghost use Rattle.its_c.specs.Told.{IsHeard, IsBesides, number_of, refused_reception};
 
 use crate::fault::FaultNumbers;
 use crate::layout::Reception;
-use crate::status::{OK, status_of};
+use crate::status::{OK, status_of, status_of_unsent};
 use its_station::{Handed, Outcome, Refused, Why};
+use its_unit::{UnitOutcome, Unsent};
 
 /// The status of a call that tells nothing else.
 pub(crate) fn told(said: Result<(), Refused>) -> i32
@@ -24,17 +26,17 @@ pub(crate) fn told(said: Result<(), Refused>) -> i32
 
 /// The status of a call that sends; its frame is written.
 pub(crate) fn told_frame(
-    said: Result<Vec<u8>, Refused>,
+    said: Result<Vec<u8>, Unsent>,
     frame: &mut [u8],
     written: &mut usize,
 ) -> i32
     requires nothing { written.old ≡ 0 }
     requires room { 1468 ≤ length frame.old }
     requires short { IfOk said (λ sent. length sent.items ≤ 1468) }
-    ensures status { result ≡ status_in said }
+    ensures status { result ≡ status_sent said }
     ensures shown { ShowsFrame written.new frame.new said }
-    ensures memory { result ≡ pos 5 → said ≡ Err Refused.NoMemory }
-    ensures rate { result ≢ pos 22 }
+    ensures memory { result ≡ pos 5 → said ≡ Err (Unsent.Refused Refused.NoMemory) }
+    ensures rate { result ≡ pos 22 → said ≡ Err Unsent.OverRate }
     ensures done { result ≡ pos 0 → IsOk said }
     ensures failed { result ≢ pos 0 → IsErr said }
 {
@@ -43,7 +45,7 @@ pub(crate) fn told_frame(
             *written = hand_out(octets.as_slice(), frame);
             OK
         }
-        Err(refused) => status_of(refused),
+        Err(unsent) => status_of_unsent(unsent),
     }
 }
 
@@ -73,38 +75,50 @@ pub(crate) fn told_beacon(
 /// The status of a call that takes a frame. If the frame isn't refused, its outcome is written
 /// into `reception`.
 pub(crate) fn told_outcome(
-    said: Result<Outcome<'_>, Refused>,
+    said: Result<UnitOutcome<'_>, Refused>,
     heard: Reception,
     frame: &[u8],
     reception: &mut Reception,
     relay: &mut [u8],
 ) -> i32
     requires heard { IsHeard heard }
-    requires end { IfOk said (DeliversEndOf frame.now) }
-    requires short { IfOk said (SendsAtMost (length relay.old)) }
+    requires end { IfOk said (WherePassed (DeliversEndOf frame.now)) }
+    requires short { IfOk said (WherePassed (SendsAtMost (length relay.old))) }
     ensures status { result ≡ status_in said.entry }
     ensures shown { ShowsReceived frame.now heard reception.new relay.new said.entry }
     ensures memory { result ≡ pos 5 → said.entry ≡ Err Refused.NoMemory }
     ensures done { result ≡ pos 0 → IsOk said.entry }
 {
     match said {
-        Ok(Outcome::Ignored(why)) => {
+        Ok(outcome) => {
             *reception = heard;
-            reception.ignored = number_of(why);
-            OK
-        }
-        Ok(Outcome::Accepted { handed, sent }) => {
-            *reception = heard;
-            tell_handed(handed, frame, reception);
-            if let Some(sent) = sent {
-                reception.relay_length = hand_out(sent.as_slice(), relay);
-            }
+            tell_outcome(outcome, frame, reception, relay);
             OK
         }
         Err(refused) => {
             *reception = refused_reception(refused);
             status_of(refused)
         }
+    }
+}
+
+/// Writes the outcome of a frame that isn't refused.
+fn tell_outcome(outcome: UnitOutcome<'_>, frame: &[u8], reception: &mut Reception, relay: &mut [u8])
+    requires heard { IsHeard reception.old }
+    requires end { WherePassed (DeliversEndOf frame.now) outcome }
+    requires short { WherePassed (SendsAtMost (length relay.old)) outcome }
+    ensures shown { ShowsReceived frame.now reception.old reception.new relay.new
+        (Ok outcome.entry) }
+{
+    match outcome {
+        UnitOutcome::Passed(Outcome::Ignored(why)) => reception.ignored = number_of(why),
+        UnitOutcome::Passed(Outcome::Accepted { handed, sent }) => {
+            tell_handed(handed, frame, reception);
+            if let Some(sent) = sent {
+                reception.relay_length = hand_out(sent.as_slice(), relay);
+            }
+        }
+        UnitOutcome::Repeated => reception.ignored = REPEATED,
     }
 }
 
@@ -143,7 +157,7 @@ fn refused_reception(refused: Refused) -> Reception
 }
 
 /// The number in a reception of a packet that was delivered before.
-pub(crate) const REPEATED: u32 = 5;
+const REPEATED: u32 = 5;
 
 fn number_of(why: Why) -> u32
     ensures { result ≡ number_of why }

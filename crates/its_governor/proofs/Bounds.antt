@@ -47,10 +47,10 @@ is_in-false from stretch time out = by (is_in from stretch time) refl
         let parts = both _ _ e in
         absurd (out (leb-true _ _ parts.0) (leb-true _ _ parts.1))
 
-room_since : (b : Bucket) (now : ℕ) → has_room b now ≡ true → b.since ≤ now
+pub room_since : (b : Bucket) (now : ℕ) → has_room b now ≡ true → b.since ≤ now
 room_since b now h = leb-true _ _ (both _ _ h).0
 
-room_parts : (b : Bucket) (now : ℕ) → has_room b now ≡ true → 1000 ≤ parts_at b now
+pub room_parts : (b : Bucket) (now : ℕ) → has_room b now ≡ true → 1000 ≤ parts_at b now
 room_parts b now h = leb-true _ _ (both _ _ h).1
 
 -- no frame passes before the last one
@@ -64,7 +64,7 @@ none_later b from stretch (time ∷ times) pass late =
     ∙ none_later (drawn b time) from stretch times pass.1 (omega arith)
 
 -- what one step adds
-sum_of_parts : (rate a b c : ℕ) → a + b ≡ c → rate * a + rate * b ≡ rate * c
+pub sum_of_parts : (rate a b c : ℕ) → a + b ≡ c → rate * a + rate * b ≡ rate * c
 sum_of_parts rate a b c e = sym (mul-add rate a b) ∙ ap (λ n. rate * n) e
 
 -- a time outside of the stretch that isn't before it is after it

@@ -27,7 +27,7 @@ some_front rate source (d ∷ a) b x e =
     (some_front rate source a b x) e
 
 -- it isn't
-none_front : (rate : Rate) (source : ℕ) (a b : List SourceDraw)
+pub none_front : (rate : Rate) (source : ℕ) (a b : List SourceDraw)
     → latest rate source a ≡ None → bucket_of rate source (a ++ b) ≡ bucket_of rate source b
 none_front rate source [] b e = refl
 none_front rate source (d ∷ a) b e =
@@ -35,7 +35,7 @@ none_front rate source (d ∷ a) b e =
     (bucket_of rate source b) (latest rate source a) (none_front rate source a b) e
 
 -- it is in neither
-none_of : (rate : Rate) (source : ℕ) (b : List SourceDraw)
+pub none_of : (rate : Rate) (source : ℕ) (b : List SourceDraw)
     → latest rate source b ≡ None → bucket_of rate source b ≡ full rate
 none_of rate source [] e = refl
 none_of rate source (d ∷ b) e =

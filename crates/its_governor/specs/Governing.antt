@@ -7,7 +7,6 @@ use Rattle.its_gnvalue.specs.Values.{PositionVector}
 use Rattle.its_model.specs.Packet.{Message, Transmission, number_in}
 use Rattle.its_model.specs.Calls as model
 use Rattle.its_model.specs.Calls.{Answer, Call}
-use Rattle.its_model.specs.Station.{Step}
 use Rattle.its_station.specs.Counting.{one_more}
 use Rattle.its_governor.specs.declared.bucket.Bucket.{Bucket}
 use Rattle.its_governor.specs.declared.rate.Limits.{Limits}
@@ -172,20 +171,10 @@ abbrev pub is_repeated_in : Governor → ℕ → Option Transmission → Answer 
 is_repeated_in g now frame (model.Answer.Accepted handed relayed) = is_echo_in g now frame
 is_repeated_in g now frame answer = false
 
--- a step of the station, of whose answer that is kept which passes
-abbrev pub governed_step : Governor → ℕ → Call → Step → Step
-governed_step g now call step =
-    record { answer = governed g now (frame_in call) step.answer; station = step.station }
-
 -- the packet that came as a secured frame, if it is one
 abbrev pub verified_frame : VerifiedCall → Option Transmission
 verified_frame (VerifiedCall.Came v) = Some v.frame
 verified_frame (VerifiedCall.Faulty fault) = None
-
--- the same of the step of a secured frame that came with its plain part
-abbrev pub governed_verified_step : Governor → ℕ → VerifiedCall → Step → Step
-governed_verified_step g now call step =
-    record { answer = governed g now (verified_frame call) step.answer; station = step.station }
 
 -- the governor after an accepted packet
 abbrev pub after_accepted : Governor → ℕ → Option Transmission → Bool → Bool → Governor

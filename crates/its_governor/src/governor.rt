@@ -6,13 +6,14 @@ ghost use Rattle.its_governor.specs.Governing.{IsNewGovernor, room_in, draw_from
 ghost use Rattle.its_governor.specs.Governing.{source_drawn, is_echo, may_forward, passed_of};
 ghost use Rattle.its_governor.specs.Governing.{after_forwarding, after_delivery, after_judging};
 ghost use Rattle.its_governor.specs.Governing.{IsDraw, IsDrawOf, has_room_for, id_of};
+ghost use Rattle.its_governor.specs.Governing.{is_over_rate, after_refusal, after_sent};
 
 use crate::bucket::Bucket;
 use crate::memory::{DeliveryMemory, PacketId};
 use crate::rate::Limits;
 use crate::sources::SourceBuckets;
 use its_gnvalue::{GnAddress, NoMemory};
-use its_station::ReceivedFrame;
+use its_station::{LAST_MOMENT, ReceivedFrame};
 use std::alloc::Global;
 
 /// How often something was withheld. A count stays at 2^64 - 1 once it is there.
@@ -199,6 +200,21 @@ impl Governor {
         }
     }
 
+    /// Whether a request for an own packet at this time finds no room. `clock` is that of the station:
+    /// a request at a time that the station refuses (S1, S2) is not over its rate.
+    pub fn is_over_rate(&self, clock: u64, now: u64) -> bool
+        ensures { result ≡ is_over_rate self.now clock now }
+    {
+        clock <= now && now <= LAST_MOMENT && !self.may_send(now)
+    }
+
+    /// Counts a request that was refused for its rate.
+    pub fn note_refusal(&mut self)
+        ensures { self.new ≡ after_refusal self.old }
+    {
+        self.counts.over_rate = self.counts.over_rate.saturating_add(1);
+    }
+
     /// Whether an own packet may be sent.
     pub fn may_send(&self, now: u64) -> bool
         ensures { result ≡ room_in self.now.own now }
@@ -208,7 +224,7 @@ impl Governor {
 
     /// An own packet was sent.
     pub fn note_sent(&mut self, now: u64)
-        ensures { self.new ≡ record self.old { own = draw_from self.old.own now } }
+        ensures { self.new ≡ after_sent self.old now }
     {
         draw(&mut self.own, now);
     }

@@ -1,12 +1,16 @@
 //! Laws of the definitions, each a function whose contract is the law.
 
-ghost use Rattle.std.specs.Prelude.{ℕ, List, IsTrue};
+ghost use Rattle.std.specs.Prelude.{◌≡◌, ℕ, List, IsTrue, Some};
+ghost use Rattle.its_model.specs.Packet.{Transmission};
 ghost use Rattle.its_governor.specs.declared.bucket.Bucket.{Bucket};
 ghost use Rattle.its_governor.specs.Bucket.{MayPass, IsBounded};
 ghost use Rattle.its_governor.specs.Sources.{SourceState, Forwarded, SourcesMayPass};
 ghost use Rattle.its_governor.specs.Sources.{SourcesAreBounded};
 ghost use Rattle.its_governor.specs.declared.governor.Governor.{Governor as Limited};
 ghost use Rattle.its_governor.specs.declared.rate.Limits.{Limits};
+ghost use Rattle.its_governor.specs.declared.rate.Rate.{Rate};
+ghost use Rattle.its_governor.specs.Forwarding.{ForwardsAreBounded, SourcesStayBounded};
+ghost use Rattle.its_governor.specs.Forwarding.{RemembersSources, IsWithheld};
 ghost use Rattle.its_governor.specs.Governing.{IsNewGovernor};
 ghost use Rattle.its_governor.specs.Deliveries.{AreApart, AreOwed};
 
@@ -35,4 +39,25 @@ pub fn deliveries_are_owed()
 pub fn deliveries_are_apart()
     ensures { (limits : Limits) (g : Limited) → IsNewGovernor limits g →
         IsTrue limits.delivers_once → AreApart g }
+{}
+
+/// In every list of calls, in each stretch of time, its ends included, at most as many frames are
+/// forwarded as the burst of the common limit and what its rate adds in the stretch.
+pub fn forwards_are_bounded()
+    ensures { (limits : Limits) (g : Limited) (rate : Rate) → IsNewGovernor limits g →
+        limits.forward ≡ Some rate → ForwardsAreBounded g rate }
+{}
+
+/// The frames of each source that are forwarded keep the limit per source, if the rates are such that
+/// no bucket is forgotten before it is full (`Limits::remembers_sources`).
+pub fn sources_stay_bounded()
+    ensures { (limits : Limits) (g : Limited) (forward source : Rate) → IsNewGovernor limits g →
+        limits.forward ≡ Some forward → limits.source ≡ Some source →
+        RemembersSources (Some forward) source → SourcesStayBounded g source }
+{}
+
+/// A packet that the station would forward is withheld only if it was delivered before and is
+/// remembered, has more hops left than the greatest, or finds no room in one of its two buckets.
+pub fn withheld_for_a_reason()
+    ensures { (g : Limited) (now : ℕ) (t : Transmission) → IsWithheld g now t }
 {}

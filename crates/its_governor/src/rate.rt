@@ -1,5 +1,8 @@
 //! Rates of frames, and the limits of a station.
 
+ghost use Rattle.std.specs.Prelude.{◌↔◌, IsTrue, Some};
+ghost use Rattle.its_governor.specs.Forwarding.{AreRemembered, RemembersSources};
+
 /// How many frames may pass at once, and how many per second from then on.
 #[derive(Clone, Copy, Debug, PartialEq, Eq)]
 pub struct Rate {
@@ -66,4 +69,28 @@ impl Limits {
         hop_cap: 10,
         delivers_once: true,
     };
+
+    /// Whether the limit per source holds in every list of calls. The sources of the last 256 frames that
+    /// were forwarded are remembered. So the common limit has to be such that a source whose last frame
+    /// is no longer among these has a full bucket again. Without a common limit it isn't. With a burst
+    /// below 256 it is, if the source's burst times the common rate is at most `256 - burst` times the
+    /// source's rate.
+    pub fn remembers_sources(&self) -> bool
+        ensures { IsTrue result ↔ AreRemembered self.now.forward self.now.source }
+    {
+        match (self.forward, self.source) {
+            (_, None) => true,
+            (None, Some(_)) => false,
+            (Some(forward), Some(source)) => remembers(forward, source),
+        }
+    }
+}
+
+/// Whether a source has a full bucket again before it is forgotten.
+fn remembers(forward: Rate, source: Rate) -> bool
+    ensures { IsTrue result ↔ RemembersSources (Some forward) source }
+{
+    forward.burst < 256
+        && u64::from(source.burst) * u64::from(forward.per_second)
+            <= u64::from(256 - forward.burst) * u64::from(source.per_second)
 }

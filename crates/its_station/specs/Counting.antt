@@ -13,12 +13,14 @@ use Rattle.its_station.specs.declared.outcome.Outcome.{Outcome}
 use Rattle.its_station.specs.declared.outcome.Outcome.TheVariants as outcomes
 use Rattle.its_station.specs.declared.outcome.Why.{Why}
 use Rattle.its_station.specs.declared.outcome.Why.TheVariants as why
-use Rattle.its_station.specs.declared.run.Call.{Call}
-use Rattle.its_station.specs.declared.run.Call.TheVariants as calls
-use Rattle.its_station.specs.declared.run.Reply.{Reply}
-use Rattle.its_station.specs.declared.run.Reply.TheVariants as replies
+use Rattle.its_station.specs.declared.answer.Answer.TheVariants as answers
+use Rattle.its_station.specs.declared.call.Call.{Call}
+use Rattle.its_station.specs.declared.call.Call.TheVariants as calls
+use Rattle.its_station.specs.declared.call.OwnCall.{OwnCall}
+use Rattle.its_station.specs.declared.call.OwnCall.TheVariants as own_calls
 use Rattle.its_station.specs.declared.refused.Refused.{Refused}
 use Rattle.its_station.specs.declared.refused.Refused.TheVariants as refused
+use Rattle.its_station.specs.Answers.{StationAnswer}
 
 -- one more, up to the greatest number
 abbrev pub one_more : ℕ → ℕ
@@ -116,28 +118,32 @@ counted_tick (Ok (Some frame)) c = counted_sent kinds.Beacon c
 counted_tick (Err refused) c = counted_refusal refused c
 
 -- the kind of packet that a call sends, if it sends one
+abbrev pub own_kind : OwnCall → Option Kind
+own_kind (own_calls.Tick jitter) = Some kinds.Beacon
+own_kind (own_calls.SendShb r) = Some kinds.Shb
+own_kind (own_calls.SendGeobroadcast r) = Some kinds.Gbc
+own_kind (own_calls.SendGeoanycast r) = Some kinds.Gac
+own_kind call = None
+
 abbrev pub kind_sent : Call → Option Kind
-kind_sent (calls.Tick jitter) = Some kinds.Beacon
-kind_sent (calls.SendShb r) = Some kinds.Shb
-kind_sent (calls.SendGeobroadcast r) = Some kinds.Gbc
-kind_sent (calls.SendGeoanycast r) = Some kinds.Gac
-kind_sent call = None
+kind_sent (calls.Own own) = own_kind own
+kind_sent (calls.Receive frame) = None
 
 -- one more sent, of the kind if there is one
 abbrev pub counted_kind_sent : Option Kind → Counts → Counts
 counted_kind_sent None c = c
 counted_kind_sent (Some kind) c = counted_sent kind c
 
--- by the reply to a call that sends packets of this kind
-abbrev pub counted_reply : Option Kind → Result Reply NoMemory → Counts → Counts
-counted_reply kind (Ok (replies.Sent frame)) c = counted_kind_sent kind c
-counted_reply kind (Ok (replies.Ignored why)) c =
+-- by the answer to a call that sends packets of this kind
+abbrev pub counted_answer : Option Kind → Result StationAnswer NoMemory → Counts → Counts
+counted_answer kind (Ok (answers.Sent frame)) c = counted_kind_sent kind c
+counted_answer kind (Ok (answers.Ignored why)) c =
     record c { ignored = counted_ignored why c.ignored }
-counted_reply kind (Ok (replies.Accepted handed sent)) c =
+counted_answer kind (Ok (answers.Accepted handed sent)) c =
     counted_accepted (is_some handed) (is_some sent) c
-counted_reply kind (Ok (replies.Refused refused)) c = counted_refusal refused c
-counted_reply kind (Ok reply) c = c
-counted_reply kind (Err no_memory) c = counted_refusal refused.NoMemory c
+counted_answer kind (Ok (answers.Refused refused)) c = counted_refusal refused c
+counted_answer kind (Ok answer) c = c
+counted_answer kind (Err no_memory) c = counted_refusal refused.NoMemory c
 
 -- one more received where a frame came
 abbrev pub counted_call : Call → Counts → Counts

@@ -2,6 +2,7 @@ pub mod State
 pub mod Steps
 pub mod Requests
 pub mod Receiving
+pub mod Answers
 pub mod Runs
 pub mod Walks
 pub mod Counting

@@ -1,14 +1,16 @@
 //! Counts of what a station heard, sent and refused, beside it: an embedding program keeps them.
 
-ghost use Rattle.std.specs.Prelude.{◌≡◌};
+ghost use Rattle.std.specs.Prelude.{◌≡◌, Ok};
 ghost use Rattle.its_station.specs.Counting.{nothing, counted, counted_sent, counted_accepted};
 ghost use Rattle.its_station.specs.Counting.{counted_ignored, counted_refused, counted_refusal};
 ghost use Rattle.its_station.specs.Counting.{counted_done, counted_send, counted_tick};
-ghost use Rattle.its_station.specs.Counting.{counted_call, counted_reply, kind_sent};
+ghost use Rattle.its_station.specs.Counting.{counted_answer, counted_call, kind_sent, own_kind};
+ghost use Rattle.its_station.specs.Counting.{counted_outcome, one_more};
 
+use crate::answer::{Answer, StationAnswer};
+use crate::call::{Call, OwnCall};
 use crate::outcome::{Outcome, Why};
 use crate::refused::Refused;
-use crate::run::{Call, Reply};
 use its_gnvalue::NoMemory;
 use its_headers::Kind;
 
@@ -113,13 +115,29 @@ impl Counts {
     pub fn note_received(&mut self, answer: &Result<Outcome<'_>, Refused>)
         ensures { self.new ≡ counted answer.now self.old }
     {
-        self.received = self.received.saturating_add(1);
+        self.note_frame();
         match answer {
-            Ok(Outcome::Accepted { handed, sent }) => {
+            Ok(outcome) => self.note_outcome(outcome),
+            Err(refused) => self.note_refused(*refused),
+        }
+    }
+
+    /// Counts a frame that came.
+    pub fn note_frame(&mut self)
+        ensures { self.new ≡ record self.old { received = one_more self.old.received } }
+    {
+        self.received = self.received.saturating_add(1);
+    }
+
+    /// A frame was ignored for its reason, or accepted.
+    pub fn note_outcome(&mut self, outcome: &Outcome<'_>)
+        ensures { self.new ≡ counted_outcome (Ok outcome.now) self.old }
+    {
+        match outcome {
+            Outcome::Accepted { handed, sent } => {
                 self.note_accepted(handed.is_some(), sent.is_some());
             }
-            Ok(Outcome::Ignored(why)) => self.ignored.note(*why),
-            Err(refused) => self.note_refused(*refused),
+            Outcome::Ignored(why) => self.ignored.note(*why),
         }
     }
 
@@ -173,26 +191,28 @@ impl Counts {
         self.refused.note(refused);
     }
 
-    /// Counts any call, as the station's `answer` returned: the same as the other notes of that
-    /// call. If memory ran out, it is a call refused by S5; a frame also counts as one that came.
-    pub fn note_reply(&mut self, call: &Call, answer: &Result<Reply, NoMemory>)
+    /// Counts any call by its answer, as the note of that call does. If memory ran out, it counts
+    /// as refused by S5, and a frame also as received.
+    pub fn note_answer(&mut self, call: &Call, answer: &Result<StationAnswer, NoMemory>)
         ensures { self.new
-            ≡ counted_reply (kind_sent call.now) answer.now (counted_call call.now self.old) }
+            ≡ counted_answer (kind_sent call.now) answer.now (counted_call call.now self.old) }
     {
         self.note_call(call);
         match answer {
-            Ok(Reply::Done | Reply::Quiet) => {}
-            Ok(Reply::Sent(_)) => {
+            Ok(Answer::Sent(_)) => {
                 if let Some(kind) = kind_sent(call) {
                     self.note_sent(kind);
                 }
             }
-            Ok(Reply::Ignored(why)) => self.ignored.note(*why),
-            Ok(Reply::Accepted { handed, sent }) => {
+            Ok(Answer::Ignored(why)) => self.ignored.note(*why),
+            Ok(Answer::Accepted { handed, sent }) => {
                 let delivered = handed.is_some();
                 self.note_accepted(delivered, sent.is_some());
             }
-            Ok(Reply::Refused(refused)) => self.note_refused(*refused),
+            Ok(Answer::Refused(refused)) => self.note_refused(*refused),
+            Ok(
+                Answer::Moved | Answer::Opened | Answer::Closed | Answer::Restarted | Answer::Quiet,
+            ) => {}
             Err(_) => self.note_refused(Refused::NoMemory),
         }
     }
@@ -202,11 +222,12 @@ impl Counts {
         ensures { self.new ≡ counted_call call.now self.old }
     {
         if let Call::Receive(_) = call {
-            self.received = self.received.saturating_add(1);
+            self.note_frame();
         }
     }
 
-    fn note_accepted(&mut self, delivered: bool, relayed: bool)
+    /// A packet was accepted: whether its payload was delivered, and whether it was forwarded.
+    pub fn note_accepted(&mut self, delivered: bool, relayed: bool)
         ensures { self.new ≡ counted_accepted delivered relayed self.old }
     {
         self.accepted = self.accepted.saturating_add(1);
@@ -219,20 +240,26 @@ impl Counts {
     }
 }
 
-/// The kind of packet that a call sends, if it sends one.
+/// Returns the kind of packet that a call sends, if it sends one.
 fn kind_sent(call: &Call) -> Option<Kind>
     ensures { result ≡ kind_sent call.now }
 {
     match call {
-        Call::Tick(_) => Some(Kind::Beacon),
-        Call::SendShb(_) => Some(Kind::Shb),
-        Call::SendGeobroadcast(_) => Some(Kind::Gbc),
-        Call::SendGeoanycast(_) => Some(Kind::Gac),
-        Call::MoveTo { .. }
-        | Call::Open(_)
-        | Call::Close(_)
-        | Call::Restart(_)
-        | Call::Receive(_) => None,
+        Call::Own(own) => own_kind(own),
+        Call::Receive(_) => None,
+    }
+}
+
+/// Returns the kind of packet that a call of the applications sends, if it sends one.
+fn own_kind(call: &OwnCall) -> Option<Kind>
+    ensures { result ≡ own_kind call.now }
+{
+    match call {
+        OwnCall::Tick(_) => Some(Kind::Beacon),
+        OwnCall::SendShb(_) => Some(Kind::Shb),
+        OwnCall::SendGeobroadcast(_) => Some(Kind::Gbc),
+        OwnCall::SendGeoanycast(_) => Some(Kind::Gac),
+        OwnCall::MoveTo { .. } | OwnCall::Open(_) | OwnCall::Close(_) | OwnCall::Restart(_) => None,
     }
 }
 

@@ -78,6 +78,8 @@
 //!   the longest payload; printed codes and sentences.
 #![tactic(auto)]
 
+mod answer;
+mod call;
 mod counts;
 mod known;
 pub mod laws;
@@ -94,6 +96,8 @@ mod run;
 mod sending;
 mod station;
 
+pub use answer::{Answer, Delivery, StationAnswer, make_room};
+pub use call::{Call, OwnCall};
 pub use counts::{Counts, IgnoredCounts, RefusedCounts, SentCounts};
 pub use known::{FrameContents, KnownFrame};
 pub use neighbours::Neighbours;
@@ -101,6 +105,6 @@ pub use outcome::{Handed, Outcome, Why};
 pub use received::ReceivedFrame;
 pub use refused::{Refused, RefusedCode};
 pub use requests::{GbcRequest, OwnedGbcRequest, OwnedShbRequest, ShbRequest};
-pub use run::{Call, Delivery, Ran, Reply, make_room};
+pub use run::{Ran, Reply};
 pub use sending::{AreaCast, MAX_PAYLOAD};
 pub use station::{LAST_MOMENT, Station};

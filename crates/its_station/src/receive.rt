@@ -6,14 +6,14 @@ ghost use Rattle.its_gnvalue.specs.Values.{Position};
 ghost use Rattle.std.specs.Option.{option_map};
 ghost use Rattle.its_model.specs.Packet.{Transmission};
 ghost use Rattle.its_model.specs.Calls.{Call};
-ghost use Rattle.its_model.specs.Calls.Call.{Receive};
+ghost use Rattle.its_model.specs.Calls.Call.{Receive, Junk};
 ghost use Rattle.its_model.specs.History.{Reception, is_live};
 ghost use Rattle.its_model.specs.Station as station;
 ghost use Rattle.its_model.specs.Station.{StationModel, station_step, verdict, receive_step};
 ghost use Rattle.its_model.specs.Station.{moment_refusal};
 ghost use Rattle.its_model.specs.Station.{handing, relayed};
 ghost use Rattle.its_headers.specs.Encoding.{payload_of};
-ghost use Rattle.its_linkframe.specs.Frames.{EncodesFrame, IsFrame, transmission_of};
+ghost use Rattle.its_linkframe.specs.Frames.{EncodesFrame, IsFrame};
 ghost use Rattle.its_linkframe.specs.Secured.{Verified, EncodesVerified, IsVerified};
 ghost use Rattle.its_loctable.specs.Content.{Represents};
 ghost use Rattle.its_loctable.specs.Found.{Admits, IsIndexOf, verdict_of};
@@ -25,9 +25,8 @@ ghost use Rattle.its_station.specs.Receiving.{IsRelayBy, TakesMemory, copy_of, g
 ghost use Rattle.its_station.specs.Receiving.{accept_step, DeliversEndOf, HandsOutEndOf, IsAdmitted};
 ghost use Rattle.its_station.specs.Receiving.{SendsAtMost, VerifiedCall, IsVerifiedCall};
 ghost use Rattle.its_station.specs.Receiving.{EncodesSealed, verified_step, sealed_by, secured_step_by};
-ghost use Rattle.its_station.specs.Runs.{Fits, HandingFits};
+ghost use Rattle.its_station.specs.Answers.{Fits, HandingFits};
 
-use crate::known::KnownFrame;
 use crate::outcome::{Handed, Outcome, Why};
 use crate::received::ReceivedFrame;
 use crate::refused::Refused;
@@ -37,7 +36,7 @@ use its_forwarding::{Choice, choose_and_keep};
 use its_geometry::contains;
 use its_gnvalue::{GnAddress, Mac, NoMemory};
 use its_headers::Kind;
-use its_linkframe::{FrameView, SecuredFault, VerifiedFrame, read_frame};
+use its_linkframe::{FrameFault, SecuredFault, VerifiedFrame, read_frame};
 use its_loctable::{EntryIndex, Found, Heard, LocationStore};
 
 impl<S: LocationStore> Station<S> {
@@ -71,81 +70,44 @@ impl<S: LocationStore> Station<S> {
     {
         match read_frame(frame) {
             Ok(view) => self.receive_frame(now, &view),
-            Err(fault) => {
-                // Octets that are no frame are refused for their moment before that.
-                self.check_moment(now)?;
-                Err(Refused::Frame(fault))
-            }
+            Err(fault) => Err(self.refuse_frame(now, fault)),
         }
     }
 
-    /// Takes octets in which `read_frame` found no fault, as `receive` takes them, and without a second
-    /// check: for a frame that many stations receive.
-    ///
-    /// - `step`, `unchanged`: the step of `receive`, of octets that are a frame.
-    #[inline(always)]
-    pub fn receive_checked<'a>(&mut self, now: u64, frame: &'a [u8]) -> Result<Outcome<'a>, Refused>
-        requires { IsFrame frame.now }
-        ensures step { (call : Call) × IsFrameCall frame.now call
-            × ((s : StationModel) → RepresentsStation self.old s →
-            IsStepOf Tells result self.new (station_step s now call)) }
-        ensures memory { (s : StationModel) (t : Transmission) → RepresentsStation self.old s →
-            EncodesFrame t frame.now → result ≡ Err Refused.NoMemory →
-            (verdict s now t ≡ station.Verdict.Accept) × TakesMemory s now t }
-        ensures unchanged { OnErr result (self.new ≡ self.old) }
-        ensures payload { IfOk result (DeliversEndOf frame.now) }
-        ensures short { IfOk result (Fits 1394) }
-        ensures short_frame { IfOk result (SendsAtMost 1468) }
+    /// Why octets with this fault are refused: for the moment (S1, S2), else for the fault (S3).
+    /// Nothing changes.
+    pub fn refuse_frame(&self, now: u64, fault: FrameFault) -> Refused
+        ensures step { (s : StationModel) → RepresentsStation self.now s →
+            IsRefusedStep result self.now (station_step s now (Junk fault)) }
+        ensures memory { result ≢ Refused.NoMemory }
     {
-        self.receive_frame(now, &FrameView::of_frame(frame))
+        match self.check_moment(now) {
+            Ok(()) => Refused::Frame(fault),
+            Err(refused) => refused,
+        }
     }
 
-    /// Takes a frame that was read, as `receive` takes its octets: for a program that reads more of
-    /// it than what is delivered, as its source, its traffic class or its hops. Refused as there,
-    /// but for `Frame` (S3).
+    /// Takes a frame that was read, as `receive` takes its octets: a frame whose fields are read
+    /// besides (`FrameView`), one that was read once for many receivers (`KnownFrame`), or a secured
+    /// one with its plain part (`VerifiedFrame`). Refused as there, but for its octets (S3). What
+    /// goes on of a secured frame is that frame, with other link addresses and one hop fewer left.
     #[inline(always)]
-    pub fn receive_frame<'a>(
+    pub fn receive_frame<'a, F: ReceivedFrame<'a>>(
         &mut self,
         now: u64,
-        frame: &FrameView<'a>,
+        frame: &F,
     ) -> Result<Outcome<'a>, Refused>
         ensures step { (s : StationModel) → RepresentsStation self.old s →
-            IsStepOf Tells result self.new
-            (station_step s now (Receive (transmission_of frame.now))) }
+            IsStepOf (TellsBy (F.Encodes frame.now)) result self.new
+            (station_step s now (Receive (F.frame frame.now))) }
         ensures memory { (s : StationModel) → RepresentsStation self.old s →
             result ≡ Err Refused.NoMemory →
-            (verdict s now (transmission_of frame.now) ≡ station.Verdict.Accept)
-            × TakesMemory s now (transmission_of frame.now) }
+            (verdict s now (F.frame frame.now) ≡ station.Verdict.Accept)
+            × TakesMemory s now (F.frame frame.now) }
         ensures unchanged { OnErr result (self.new ≡ self.old) }
-        ensures payload { IfOk result (DeliversEndOf (payload_of frame.now.packet.pdu.body)) }
+        ensures payload { IfOk result (DeliversEndOf (payload_of (F.frame frame.now).pdu.body)) }
         ensures short { IfOk result (Fits 1394) }
-        ensures short_frame { IfOk result (SendsAtMost 1468) }
-    {
-        self.check_moment(now)?;
-        self.hear(now, frame)
-    }
-
-    /// Takes a frame that was read once for many receivers, as `receive` takes its octets. Refused as
-    /// there, but for `Frame` (S3).
-    ///
-    /// - `step`, `unchanged`, `memory`, `short`, `short_frame`: the same as `receive`, of a frame
-    ///   whose contents were read before.
-    /// - `payload`: what is delivered is the end of the frame's payload.
-    #[inline(always)]
-    pub fn receive_known<'a>(
-        &mut self,
-        now: u64,
-        frame: &KnownFrame<'a, '_>,
-    ) -> Result<Outcome<'a>, Refused>
-        ensures step { (s : StationModel) → RepresentsStation self.old s →
-            IsStepOf Tells result self.new (station_step s now (Receive frame.now)) }
-        ensures memory { (s : StationModel) → RepresentsStation self.old s →
-            result ≡ Err Refused.NoMemory →
-            (verdict s now frame.now ≡ station.Verdict.Accept) × TakesMemory s now frame.now }
-        ensures unchanged { OnErr result (self.new ≡ self.old) }
-        ensures payload { IfOk result (DeliversEndOf (payload_of frame.now.pdu.body)) }
-        ensures short { IfOk result (Fits 1394) }
-        ensures short_frame { IfOk result (SendsAtMost 1468) }
+        ensures short_frame { IfOk result (SendsAtMost (F.most frame.now)) }
     {
         self.check_moment(now)?;
         self.hear(now, frame)
@@ -198,7 +160,7 @@ impl<S: LocationStore> Station<S> {
         ensures short_frame { IfOk result (SendsAtMost 2310) }
     {
         match VerifiedFrame::read(frame, plain) {
-            Ok(verified) => self.receive_verified_frame(now, &verified),
+            Ok(verified) => self.receive_frame(now, &verified),
             Err(fault) => Err(self.refuse_secured(now, fault)),
         }
     }
@@ -214,29 +176,6 @@ impl<S: LocationStore> Station<S> {
             Ok(()) => Refused::Secured(fault),
             Err(refused) => refused,
         }
-    }
-
-    /// Takes a secured frame that was read with its plain part, as `receive_verified` takes its
-    /// octets. Refused as there, but for `Secured` (S3).
-    pub fn receive_verified_frame<'a>(
-        &mut self,
-        now: u64,
-        frame: &VerifiedFrame<'_, 'a>,
-    ) -> Result<Outcome<'a>, Refused>
-        ensures step { (s : StationModel) → RepresentsStation self.old s →
-            IsStepOf (TellsBy (EncodesSealed frame.now.message)) result self.new
-            (station_step s now (Receive frame.now.frame)) }
-        ensures memory { (s : StationModel) → RepresentsStation self.old s →
-            result ≡ Err Refused.NoMemory →
-            (verdict s now frame.now.frame ≡ station.Verdict.Accept)
-            × TakesMemory s now frame.now.frame }
-        ensures unchanged { OnErr result (self.new ≡ self.old) }
-        ensures payload { IfOk result (DeliversEndOf (payload_of frame.now.frame.pdu.body)) }
-        ensures short { IfOk result (Fits 1394) }
-        ensures short_frame { IfOk result (SendsAtMost 2310) }
-    {
-        self.check_moment(now)?;
-        self.hear(now, frame)
     }
 
     /// Takes a frame at a moment that isn't refused.

@@ -1,75 +1,30 @@
 //! Many calls, one after the other.
 
-ghost use Rattle.std.specs.Prelude.{◌≡◌, ◌≢◌, ◌≤◌, ◌<◌, ℕ, Option, List, [], All, length, take};
-ghost use Rattle.std.specs.Prelude.{Err, IfOk, OnErr, OnOk, IsTrue, IsFalse, IsSome, MatchResult};
-ghost use Rattle.std.specs.Prelude.{vec_len, vec_capacity};
-ghost use Rattle.std.specs.Option.{option_map};
-ghost use Rattle.its_model.specs.Packet.{Transmission};
-ghost use Rattle.its_model.specs.Calls.{Answer, Call as ModelCall};
-ghost use Rattle.its_model.specs.Station.{StationModel, Step, station_step};
+ghost use Rattle.std.specs.Prelude.{◌≡◌, ◌≤◌, ◌<◌, ℕ, List, All, length, take};
+ghost use Rattle.std.specs.Prelude.{IfOk, OnErr, IsTrue, IsFalse};
+ghost use Rattle.its_model.specs.Calls.{Call as ModelCall};
+ghost use Rattle.its_model.specs.Calls.Call.{Own};
+ghost use Rattle.its_model.specs.Station.{StationModel, station_step};
 ghost use Rattle.its_linkframe.specs.Frames.{IsFrame};
-ghost use Rattle.its_station.specs.State.{StationState, RepresentsStation};
-ghost use Rattle.its_station.specs.Steps.{IsStepOf, Says, refusal_of};
-ghost use Rattle.its_station.specs.Requests.{TellsSent, TellsTick};
-ghost use Rattle.its_station.specs.Receiving.{IsFrameCall, Tells, said_by};
-ghost use Rattle.its_station.specs.Runs.{IsCall, IsInRange, IsReplyTo, IsDone, TellsReply};
-ghost use Rattle.its_station.specs.Runs.{IsRunOf, IsIsolatedRunOf, IsThisWhereDone};
-ghost use Rattle.its_station.specs.Runs.{Fits, HandingFits, IsReplyOf, Owns, delivered};
+ghost use Rattle.its_station.specs.State.{RepresentsStation};
+ghost use Rattle.its_station.specs.Receiving.{IsFrameCall};
+ghost use Rattle.its_station.specs.Answers.{IsAnswerTo};
+ghost use Rattle.its_station.specs.Runs.{IsCall, IsInRange, IsOwnInRange, own_of};
+ghost use Rattle.its_station.specs.Runs.{IsRunOf, IsIsolatedRunOf};
 
-use crate::outcome::{Handed, Outcome, Why};
+use crate::answer::{
+    Answer, Delivery, StationAnswer, answer_of_done, answer_of_send, answer_of_tick, make_room,
+};
+use crate::call::{Call, OwnCall};
+use crate::outcome::Why;
 use crate::refused::Refused;
-use crate::requests::{OwnedGbcRequest, OwnedShbRequest};
 use crate::station::Station;
-use its_gnvalue::{NoMemory, Place};
+use its_gnvalue::NoMemory;
 use its_loctable::LocationStore;
 use its_model::laws::{calls_go_on, sources_are_isolated};
 use std::alloc::Global;
-use std::mem;
 
-/// A call of a station, with its arguments but for the moment. It owns its octets.
-#[derive(Debug, Drop, PartialEq, Eq)]
-pub enum Call {
-    /// `move_to`; the speed is in its range.
-    MoveTo {
-        /// Where the station stands.
-        place: Place,
-        /// Whether the place is accurate.
-        pai: bool,
-        /// In 0.01 m/s, from -16384 to 16383.
-        speed: i16,
-        /// In 0.1 degree.
-        heading: u16,
-    },
-    /// `open`, of this port.
-    Open(u16),
-    /// `close`, of this port.
-    Close(u16),
-    /// `tick`, with this jitter in milliseconds.
-    Tick(u16),
-    /// `send_shb`.
-    SendShb(OwnedShbRequest),
-    /// `send_geobroadcast`.
-    SendGeobroadcast(OwnedGbcRequest),
-    /// `send_geoanycast`.
-    SendGeoanycast(OwnedGbcRequest),
-    /// `restart`, with the next sequence number.
-    Restart(u16),
-    /// `receive`, of these octets.
-    Receive(Vec<u8>),
-}
-
-/// What was delivered to a port, with a payload of its own.
-#[derive(Debug, Drop, PartialEq, Eq)]
-pub struct Delivery {
-    /// The destination port (BTP-B).
-    pub port: u16,
-    /// The destination port info.
-    pub info: u16,
-    /// What was sent to the port.
-    pub payload: Vec<u8>,
-}
-
-/// The answer to a call.
+/// The answer to a call that was one of many.
 #[derive(Debug, Drop, PartialEq, Eq)]
 pub enum Reply {
     /// The station moved, opened or closed a port, or restarted.
@@ -84,11 +39,28 @@ pub enum Reply {
     Accepted {
         /// What was delivered to a port, if anything was.
         handed: Option<Delivery>,
-        /// The frame in which the packet goes on, if it does.
+        /// The frame in which the packet is forwarded, if it is.
         sent: Option<Vec<u8>>,
     },
     /// The call was refused, and changed nothing. It is never refused for memory here.
     Refused(Refused),
+}
+
+impl From<StationAnswer> for Reply {
+    ghost use Rattle.its_station.specs.Runs.{reply_of};
+
+    ghost from_gives = { λ answer reply. reply ≡ reply_of answer };
+
+    fn from(answer: StationAnswer) -> Reply {
+        match answer {
+            Answer::Moved | Answer::Opened | Answer::Closed | Answer::Restarted => Reply::Done,
+            Answer::Quiet => Reply::Quiet,
+            Answer::Sent(frame) => Reply::Sent(frame),
+            Answer::Ignored(why) => Reply::Ignored(why),
+            Answer::Accepted { handed, sent } => Reply::Accepted { handed, sent },
+            Answer::Refused(refused) => Reply::Refused(refused),
+        }
+    }
 }
 
 /// The outcome of the calls: a reply for each that was made.
@@ -155,13 +127,13 @@ impl<S: LocationStore> Station<S> {
                     out_of_memory: true,
                 };
             }
-            let Ok(reply) = self.answer(call.0, &call.1) else {
+            let Ok(answer) = self.answer(call.0, &call.1) else {
                 return Ran {
                     replies,
                     out_of_memory: true,
                 };
             };
-            let Ok(()) = replies.push(reply) else {
+            let Ok(()) = replies.push(Reply::from(answer)) else {
                 unreachable!()
             };
         }
@@ -175,220 +147,64 @@ impl<S: LocationStore> Station<S> {
         self.alloc
     }
 
-    /// Makes one call at its moment: what the call of that name answers, as a reply that owns its
-    /// octets. The speed of a `MoveTo` has to be in its range. `NoMemory` where an allocation
-    /// failed: the station stands as before.
-    pub fn answer(&mut self, moment: u64, call: &Call) -> Result<Reply, NoMemory>
+    /// Makes one call at its time, and returns what the call of that name answers, with octets of
+    /// its own. The speed of a `MoveTo` has to be in its range. `NoMemory` if an allocation failed:
+    /// nothing changed then.
+    pub fn answer(&mut self, moment: u64, call: &Call) -> Result<StationAnswer, NoMemory>
         requires { IsInRange call.now }
-        ensures step { IfOk result (λ reply. (c : ModelCall) × IsCall call.now c
+        ensures step { IfOk result (λ answer. (c : ModelCall) × IsCall call.now c
             × ((s : StationModel) → RepresentsStation self.old s →
-            IsReplyTo reply self.new (station_step s moment c))) }
+            IsAnswerTo answer self.new (station_step s moment c))) }
         ensures unchanged { OnErr result (self.new ≡ self.old) }
     {
         match call {
-            Call::MoveTo {
-                place,
-                pai,
-                speed,
-                heading,
-            } => Reply::of_done(self.move_to(moment, *place, *pai, *speed, *heading)),
-            Call::Open(port) => Reply::of_done(self.open(moment, *port)),
-            Call::Close(port) => Reply::of_done(self.close(moment, *port)),
-            Call::Restart(number) => Reply::of_done(self.restart(moment, *number)),
-            Call::Tick(jitter) => Reply::of_tick(self.tick(moment, *jitter)),
-            Call::SendShb(r) => Reply::of_send(self.send_shb(moment, &r.lend())),
-            Call::SendGeobroadcast(r) => Reply::of_send(self.send_geobroadcast(moment, &r.lend())),
-            Call::SendGeoanycast(r) => Reply::of_send(self.send_geoanycast(moment, &r.lend())),
+            Call::Own(own) => self.answer_own(moment, own),
             Call::Receive(frame) => self.receive_owned(moment, frame),
         }
     }
 
-    /// A frame that came, with a payload of its own in the reply.
-    fn receive_owned(&mut self, moment: u64, frame: &[u8]) -> Result<Reply, NoMemory>
-        ensures step { IfOk result (λ reply. (c : ModelCall) × IsFrameCall frame.now c
-            × ((s : StationModel) → RepresentsStation self.old s →
-            IsReplyTo reply self.new (station_step s moment c))) }
+    /// Makes one call of the applications at its time, as `answer` does.
+    pub fn answer_own(&mut self, moment: u64, call: &OwnCall) -> Result<StationAnswer, NoMemory>
+        requires { IsOwnInRange call.now }
+        ensures step { IfOk result (λ answer.
+            (s : StationModel) → RepresentsStation self.old s →
+            IsAnswerTo answer self.new (station_step s moment (Own (own_of call.now)))) }
         ensures unchanged { OnErr result (self.new ≡ self.old) }
     {
-        let mut room = Vec::new(self.alloc());
-        self.receive_in(moment, frame, &mut room)
-    }
-
-    /// `receive`, with a reply that owns its octets. A payload that is delivered takes `room`, which
-    /// is emptied first; where nothing is delivered the room stays, for the next frame. `NoMemory`
-    /// where an allocation failed: the station stands as before.
-    pub fn receive_in(
-        &mut self,
-        moment: u64,
-        frame: &[u8],
-        room: &mut Vec<u8>,
-    ) -> Result<Reply, NoMemory>
-        ensures step { IfOk result (λ reply. (c : ModelCall) × IsFrameCall frame.now c
-            × ((s : StationModel) → RepresentsStation self.old s →
-            IsReplyTo reply self.new (station_step s moment c))) }
-        ensures answered { IfOk result (λ reply. reply ≢ Reply.Done) }
-        ensures unchanged { OnErr result (self.new ≡ self.old) }
-    {
-        make_room(room, frame)?;
-        let alloc = self.alloc();
-        Reply::of_received(alloc, self.receive(moment, frame), room)
-    }
-
-    /// `receive_in` of octets in which `read_frame` found no fault, without a second check.
-    pub fn receive_checked_in(
-        &mut self,
-        moment: u64,
-        frame: &[u8],
-        room: &mut Vec<u8>,
-    ) -> Result<Reply, NoMemory>
-        requires { IsFrame frame.now }
-        ensures step { IfOk result (λ reply. (c : ModelCall) × IsFrameCall frame.now c
-            × ((s : StationModel) → RepresentsStation self.old s →
-            IsReplyTo reply self.new (station_step s moment c))) }
-        ensures answered { IfOk result (λ reply. reply ≢ Reply.Done) }
-        ensures unchanged { OnErr result (self.new ≡ self.old) }
-    {
-        make_room(room, frame)?;
-        let alloc = self.alloc();
-        Reply::of_received(alloc, self.receive_checked(moment, frame), room)
-    }
-}
-
-impl Reply {
-    /// The reply to a call that tells nothing: `move_to`, `open`, `close` or `restart`. `NoMemory`
-    /// where an allocation failed.
-    pub fn of_done(answer: Result<(), Refused>) -> Result<Reply, NoMemory>
-        ensures reply { (this : Answer Transmission) (new : StationState) (step : Step) →
-            IsDone this → IsStepOf (Says this) answer new step →
-            IfOk result (λ reply. IsReplyTo reply new step) }
-        ensures done { (this : Answer Transmission) (new : StationState) (step : Step) →
-            IsStepOf (Says this) answer new step →
-            IfOk result (λ reply. IsThisWhereDone this reply step.answer) }
-        ensures memory { OnErr result (answer ≡ Err Refused.NoMemory) }
-    {
-        match answer {
-            Ok(()) => Ok(Reply::Done),
-            Err(refused) => refusal(refused),
-        }
-    }
-
-    /// The reply to `tick`. `NoMemory` where an allocation failed.
-    pub fn of_tick(answer: Result<Option<Vec<u8>>, Refused>) -> Result<Reply, NoMemory>
-        ensures reply { (new : StationState) (step : Step) → IsStepOf TellsTick answer new step →
-            IfOk result (λ reply. IsReplyTo reply new step) }
-        ensures answered { IfOk result (λ reply. reply ≢ Reply.Done) }
-        ensures memory { OnErr result (answer ≡ Err Refused.NoMemory) }
-    {
-        match answer {
-            Ok(Some(frame)) => Ok(Reply::Sent(frame)),
-            Ok(None) => Ok(Reply::Quiet),
-            Err(refused) => refusal(refused),
-        }
-    }
-
-    /// The reply to a call that sends. `NoMemory` where an allocation failed.
-    pub fn of_send(answer: Result<Vec<u8>, Refused>) -> Result<Reply, NoMemory>
-        ensures reply { (new : StationState) (step : Step) → IsStepOf TellsSent answer new step →
-            IfOk result (λ reply. IsReplyTo reply new step) }
-        ensures answered { IfOk result (λ reply. reply ≢ Reply.Done) }
-        ensures memory { OnErr result (answer ≡ Err Refused.NoMemory) }
-    {
-        match answer {
-            Ok(frame) => Ok(Reply::Sent(frame)),
-            Err(refused) => refusal(refused),
-        }
-    }
-
-    /// The reply to a frame that was received. A payload that is delivered takes `room`, an empty
-    /// vector in which it fits. `NoMemory` if an allocation failed.
-    #[inline(always)]
-    pub fn of_received(
-        alloc: Global,
-        answer: Result<Outcome<'_>, Refused>,
-        room: &mut Vec<u8>,
-    ) -> Result<Reply, NoMemory>
-        requires empty { room.old.items ≡ [] }
-        requires size { vec_len room.old ≡ 0 }
-        requires room { IfOk answer (Fits (vec_capacity room.old)) }
-        ensures same { IfOk result (λ reply. IsReplyOf reply answer.entry) }
-        ensures reply { (new : StationState) (step : Step) →
-            IsStepOf Tells answer.entry new step → IfOk result (λ reply. IsReplyTo reply new step) }
-        ensures answered { IfOk result (λ reply. reply ≢ Reply.Done) }
-        ensures memory { OnErr result (answer.entry ≡ Err Refused.NoMemory) }
-    {
-        match answer {
-            Ok(outcome) => Ok(reply_of(alloc, outcome, room)),
-            Err(refused) => refusal(refused),
-        }
-    }
-}
-
-/// Empties a buffer, and gives it the size of a frame: what is delivered of that frame then fits in it.
-/// `NoMemory` if an allocation failed.
-#[inline(always)]
-pub fn make_room(room: &mut Vec<u8>, frame: &[u8]) -> Result<(), NoMemory>
-    ensures empty { room.new.items ≡ [] }
-    ensures size { vec_len room.new ≡ 0 }
-    ensures room { OnOk result (length frame.now ≤ vec_capacity room.new) }
-{
-    room.clear();
-    room.reserve(frame.len())?;
-    Ok(())
-}
-
-/// The outcome as a reply, which takes the payload into the room that was made for it.
-#[inline(always)]
-fn reply_of(alloc: Global, outcome: Outcome<'_>, room: &mut Vec<u8>) -> Reply
-    requires empty { room.old.items ≡ [] }
-    requires size { vec_len room.old ≡ 0 }
-    requires room { Fits (vec_capacity room.old) outcome }
-    ensures same { Owns result outcome.entry }
-{
-    match outcome {
-        Outcome::Ignored(why) => Reply::Ignored(why),
-        Outcome::Accepted { handed, sent } => Reply::Accepted {
-            handed: Delivery::in_room(alloc, handed, room),
-            sent,
-        },
-    }
-}
-
-impl Delivery {
-    /// What was delivered, with a payload of its own. It is in `room`, an empty buffer that is large
-    /// enough (`make_room`), and another empty buffer takes its place. If nothing was delivered, `room`
-    /// stays.
-    #[inline(always)]
-    pub fn in_room(
-        alloc: Global,
-        handed: Option<Handed<'_>>,
-        room: &mut Vec<u8>,
-    ) -> Option<Delivery>
-        requires empty { room.old.items ≡ [] }
-        requires size { vec_len room.old ≡ 0 }
-        requires room { HandingFits (vec_capacity room.old) handed }
-        ensures { option_map delivered result ≡ option_map said_by handed.entry }
-    {
-        match handed {
-            Some(handed) => {
-                let Ok(()) = room.extend_from_slice(handed.payload) else {
-                    unreachable!()
-                };
-                Some(Delivery {
-                    port: handed.port,
-                    info: handed.info,
-                    payload: mem::replace(room, Vec::new(alloc)),
-                })
+        match call {
+            OwnCall::MoveTo {
+                place,
+                pai,
+                speed,
+                heading,
+            } => answer_of_done(
+                self.move_to(moment, *place, *pai, *speed, *heading),
+                Answer::Moved,
+            ),
+            OwnCall::Open(port) => answer_of_done(self.open(moment, *port), Answer::Opened),
+            OwnCall::Close(port) => answer_of_done(self.close(moment, *port), Answer::Closed),
+            OwnCall::Restart(number) => {
+                answer_of_done(self.restart(moment, *number), Answer::Restarted)
             }
-            None => None,
+            OwnCall::Tick(jitter) => answer_of_tick(self.tick(moment, *jitter)),
+            OwnCall::SendShb(r) => answer_of_send(self.send_shb(moment, &r.lend())),
+            OwnCall::SendGeobroadcast(r) => {
+                answer_of_send(self.send_geobroadcast(moment, &r.lend()))
+            }
+            OwnCall::SendGeoanycast(r) => answer_of_send(self.send_geoanycast(moment, &r.lend())),
         }
     }
-}
 
-/// A refusal is a reply, unless an allocation failed.
-fn refusal(refused: Refused) -> Result<Reply, NoMemory>
-    ensures { MatchResult result
-        (λ reply. (reply ≡ Reply.Refused refused) × IsSome (refusal_of refused))
-        (λ _. refused ≡ Refused.NoMemory) }
-{
-    Ok(Reply::Refused(refused.except_memory()?))
+    /// Receives a frame, and returns an answer with a payload of its own.
+    fn receive_owned(&mut self, moment: u64, frame: &[u8]) -> Result<StationAnswer, NoMemory>
+        ensures step { IfOk result (λ answer. (c : ModelCall) × IsFrameCall frame.now c
+            × ((s : StationModel) → RepresentsStation self.old s →
+            IsAnswerTo answer self.new (station_step s moment c))) }
+        ensures unchanged { OnErr result (self.new ≡ self.old) }
+    {
+        let alloc = self.alloc();
+        let mut room = Vec::new(alloc);
+        make_room(&mut room, frame)?;
+        StationAnswer::of_received(alloc, self.receive(moment, frame), &mut room)
+    }
 }

@@ -12,10 +12,9 @@ use Rattle.its_linkframe.specs.Frames.{EncodesFrame}
 use Rattle.its_linkframe.specs.FrameFaults.{IsFrameFault}
 use Rattle.its_station.specs.State.{StationState, RepresentsStation}
 use Rattle.its_world.specs.State.{WorldState, RepresentsWorld}
-use Rattle.its_world.specs.Entries.{TellsEntry}
+use Rattle.its_world.specs.Entries.{Entry, TellsEntry}
 use Rattle.its_world.specs.Frames.{AreFrames}
 use Rattle.its_world.specs.Steps.{IsAskedBy, IsDelivered, IsDoneBy, IsKept}
-use Rattle.its_world.specs.declared.entry.Entry.{Entry}
 use Rattle.its_world.proofs.Giving.{IsToldOf, given_numbered}
 use Rattle.its_world.proofs.Worlds.{count_kept}
 use Rattle.its_world.proofs.Logs.{answered_step, station_at}

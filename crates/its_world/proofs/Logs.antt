@@ -23,8 +23,7 @@ use Rattle.its_station.specs.Receiving.{IsFrameCall}
 use Rattle.its_world.specs.State.{WorldState, RepresentsWorld, RepresentStations}
 use Rattle.its_world.specs.Frames.{AreFrames, frame_in}
 use Rattle.its_world.specs.Steps.{IsAskedBy, IsDelivered, IsKept}
-use Rattle.its_world.specs.declared.entry.Entry.{Entry}
-use Rattle.its_world.specs.Entries.{AreEntries, TellsEntry}
+use Rattle.its_world.specs.Entries.{AreEntries, Entry, TellsEntry}
 use Rattle.its_world.specs.Runs.{IsRunOf}
 use Rattle.its_world.proofs.Worlds.{length_stations, get_station, no_station, set_station}
 use Rattle.its_world.proofs.Worlds.{get_kept, no_kept}

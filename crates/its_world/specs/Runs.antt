@@ -3,9 +3,8 @@ use Rattle.std.specs.Prelude.{◌≡◌, ℕ, List, ◌++◌}
 use Rattle.its_model.specs.Calls.{Answer}
 use Rattle.its_model.specs.World.{WorldModel, Config, Event, opening, world_run, entries}
 use Rattle.its_model.specs.EverySchedule.{HoldsOfSchedules}
-use Rattle.its_world.specs.declared.entry.Entry.{Entry}
 use Rattle.its_world.specs.State.{WorldState, RepresentsWorld}
-use Rattle.its_world.specs.Entries.{AreEntries}
+use Rattle.its_world.specs.Entries.{AreEntries, Entry}
 
 -- From a world of the model these events were done: the world afterwards represents the model's,
 -- and the log is the model's entries.

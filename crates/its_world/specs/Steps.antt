@@ -12,8 +12,7 @@ use Rattle.its_station.specs.State.{StationState}
 use Rattle.its_station.specs.Receiving.{IsFrameCall}
 use Rattle.its_world.specs.Frames.{frame_in}
 use Rattle.its_world.specs.State.{RepresentsWorld, WorldState}
-use Rattle.its_world.specs.Entries.{TellsEntry}
-use Rattle.its_world.specs.declared.entry.Entry.{Entry}
+use Rattle.its_world.specs.Entries.{Entry, TellsEntry}
 
 -- a call of its own, or the frame that these octets are
 abbrev pub IsAskedBy : What → List ℕ → Call → Type 0
@@ -40,11 +39,6 @@ IsDelivered released frames (Deliver k) octets =
 abbrev pub AreSameBut : ℕ → List StationState → List StationState → Type 0
 AreSameBut number old new = (length new ≡ length old)
     × ((n : ℕ) → n ≢ number → slice_get new n ≡ slice_get old n)
-
--- what happens is a call of the station's own, and delivers no frame
-abbrev pub IsOwnCall : What → Type 0
-IsOwnCall (Calls call) = Unit {0}
-IsOwnCall (Deliver k) = ⊥
 
 -- where an event delivers no frame that was released, the world goes one step of the model, and the
 -- entry is what that logs

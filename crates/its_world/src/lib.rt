@@ -28,16 +28,14 @@ mod entry;
 mod event;
 pub mod laws;
 mod mids;
-mod outcome;
 mod run;
 mod stations;
 mod world;
 
 pub use config::{Config, WorldFault};
-pub use entry::{Entry, EntryCode, EntryFault};
+pub use entry::{Entry, EntryCode, EntryFault, entry_of, frame_of};
 pub use event::{Event, What};
 pub use mids::refuse_shared;
-pub use outcome::CallOutcome;
 pub use run::Run;
 pub use stations::stations_of;
 pub use world::World;

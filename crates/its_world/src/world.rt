@@ -4,38 +4,37 @@ ghost use Rattle.std.specs.Prelude.{◌≡◌, ◌<◌, ◌≤◌, ◌+◌, ◌-
 ghost use Rattle.std.specs.Prelude.{IfOk, IfErr, OnOk, OnErr, Some, slice_get, drop, min, max};
 ghost use Rattle.std.specs.Prelude.{IfSome, IsTrue};
 ghost use Rattle.std.specs.Option.{option_map};
-ghost use Rattle.its_model.specs.Calls.{Answer, Call};
+ghost use Rattle.its_model.specs.Calls.{Answer as ModelAnswer, Call};
 ghost use Rattle.its_model.specs.Station.{StationModel, station_step};
 ghost use Rattle.its_model.specs.World.{WorldModel, opening, world_step, entries};
-ghost use Rattle.its_model.specs.World.What.{Deliver};
+ghost use Rattle.its_model.specs.World.What.{Calls, Deliver};
 ghost use Rattle.its_model.specs.Reach.{HasOwnAddress};
 ghost use Rattle.its_headers.specs.Encoding.{IsBytes};
 ghost use Rattle.its_station.specs.Known.{AreContentsOf};
 ghost use Rattle.its_station.specs.Receiving.{DeliversEndOf, IsFrameCall, Tells};
-ghost use Rattle.its_station.specs.Runs.{IsReplyTo, IsThisWhereDone};
+ghost use Rattle.its_station.specs.Runs.{IsOwnInRange, own_of};
 ghost use Rattle.its_station.specs.State.{StationState, RepresentsStation};
 ghost use Rattle.its_station.specs.Steps.{IsStepOf};
 ghost use Rattle.its_world.specs.Frames.{frame_in};
 ghost use Rattle.its_world.specs.State.{RepresentsWorld};
 ghost use Rattle.its_world.specs.Events.{IsConfig, IsInRange, config_of, event_of, what_of};
-ghost use Rattle.its_world.specs.Entries.{TellsEntry, done_answer};
+ghost use Rattle.its_world.specs.Entries.{TellsEntry};
 ghost use Rattle.its_world.specs.Mids.{AreApart, IsMidFault};
-ghost use Rattle.its_world.specs.Steps.{AreSameBut, IsAskedBy, IsDoneBy, IsGone, IsKept, IsOwnCall};
+ghost use Rattle.its_world.specs.Steps.{AreSameBut, IsDoneBy, IsGone, IsKept};
 ghost use Rattle.its_world.specs.Late.{with_station};
 
 use crate::air::Air;
 use crate::config::{Config, WorldFault};
-use crate::entry::{Entry, EntryFault};
+use crate::entry::{Entry, EntryFault, entry_of, number_of, refusal};
 use crate::event::{Event, What};
 use crate::mids::refuse_shared;
-use crate::outcome::{CallOutcome, number_of, refusal};
 use crate::stations::{begin_station, stations_of};
 use its_gnvalue::{GnAddress, NoMemory};
 use its_linkframe::laws::{one_frame, one_frame_fault};
 use its_loctable::{HALVINGS, SIDE_BY_SIDE, SortedTable, narrow};
 use its_model::laws::addresses_are_own;
 use its_station::{
-    Delivery, FrameContents, KnownFrame, Outcome, Refused, Reply, Station, make_room,
+    Answer, Delivery, FrameContents, KnownFrame, Outcome, OwnCall, Refused, Station, make_room,
 };
 use std::alloc::Global;
 use std::array;
@@ -218,28 +217,21 @@ impl World {
         ensures step { IfOk result (λ entry. (w : WorldModel) → RepresentsWorld self.old w →
             IsKept self.old.released (what_of event.now.what) →
             RepresentsWorld self.new (world_step w (event_of event.now))
-            × (answer : Answer ℕ) × TellsEntry entry answer
+            × (answer : ModelAnswer ℕ) × TellsEntry entry answer
             × (entries (world_step w (event_of event.now)).log ≡ entries w.log ++ answer ∷ [])) }
         ensures gone { IsGone self.old.released (what_of event.now.what) →
             event.now.station < length self.old.stations → IfOk result (λ entry.
-            (entry ≡ Entry.Refused EntryFault.NoSuchFrame) × (self.new ≡ self.old)) }
+            (entry ≡ Answer.Refused EntryFault.NoSuchFrame) × (self.new ≡ self.old)) }
         ensures others { AreSameBut event.now.station self.old.stations self.new.stations }
         ensures released { self.new.released ≡ self.old.released }
         ensures unchanged { OnErr result (self.new ≡ self.old) }
     {
         if event.station >= self.stations.len() {
-            return Ok(Entry::Refused(EntryFault::NoSuchStation));
+            return Ok(Answer::Refused(EntryFault::NoSuchStation));
         }
         match &event.what {
+            What::Call(call) => self.call(event.station, event.moment, call),
             What::Deliver(number) => self.deliver(event.station, event.moment, *number),
-            What::MoveTo { .. }
-            | What::Open(_)
-            | What::Close(_)
-            | What::Tick(_)
-            | What::SendShb(_)
-            | What::SendGeobroadcast(_)
-            | What::SendGeoanycast(_)
-            | What::Restart(_) => self.call(event),
         }
     }
 
@@ -253,14 +245,14 @@ impl World {
           what = Deliver number;
         })) }
         ensures gone { number < self.old.released → IfOk result (λ entry.
-            (entry ≡ Entry.Refused EntryFault.NoSuchFrame) × (self.new ≡ self.old)) }
+            (entry ≡ Answer.Refused EntryFault.NoSuchFrame) × (self.new ≡ self.old)) }
         ensures others { AreSameBut station self.old.stations self.new.stations }
         ensures released { self.new.released ≡ self.old.released }
         ensures unchanged { OnErr result (self.new ≡ self.old) }
     {
         self.air.make_room()?;
         let Some(frame) = self.air.get(number) else {
-            return Ok(Entry::Refused(EntryFault::NoSuchFrame));
+            return Ok(Answer::Refused(EntryFault::NoSuchFrame));
         };
         // Laws, for the proof alone.
         one_frame();
@@ -269,12 +261,12 @@ impl World {
         let contents = contents_of(number, &self.read);
         let answer = receive(&mut self.stations[station], moment, frame, contents);
         match answer {
-            Ok(Outcome::Ignored(why)) => Ok(Entry::Ignored(why)),
+            Ok(Outcome::Ignored(why)) => Ok(Answer::Ignored(why)),
             Ok(Outcome::Accepted { handed, sent }) => {
                 let handed = Delivery::in_room(self.alloc, handed, &mut self.room);
                 let number = number_of(&sent, self.air.count());
                 self.air.number(sent);
-                Ok(Entry::Accepted {
+                Ok(Answer::Accepted {
                     handed,
                     sent: number,
                 })
@@ -283,14 +275,17 @@ impl World {
         }
     }
 
-    /// Has a station that is there make a call of its own.
+    /// Has a station that is there make a call of its applications.
     #[inline(never)]
-    fn call(&mut self, event: &Event) -> Result<Entry, NoMemory>
-        requires there { event.now.station < length self.old.stations }
-        requires range { IsInRange event.now.what }
-        requires own { IsOwnCall (what_of event.now.what) }
-        ensures step { IfOk result (IsDoneBy self.old self.new (event_of event.now)) }
-        ensures others { AreSameBut event.now.station self.old.stations self.new.stations }
+    fn call(&mut self, station: usize, moment: u64, call: &OwnCall) -> Result<Entry, NoMemory>
+        requires there { station < length self.old.stations }
+        requires range { IsOwnInRange call.now }
+        ensures step { IfOk result (IsDoneBy self.old self.new (record {
+          station = station;
+          moment = moment;
+          what = Calls (own_of call.now);
+        })) }
+        ensures others { AreSameBut station self.old.stations self.new.stations }
         ensures released { self.new.released ≡ self.old.released }
         ensures unchanged { OnErr result (self.new ≡ self.old) }
     {
@@ -298,12 +293,10 @@ impl World {
         // Laws, for the proof alone.
         one_frame();
         one_frame_fault();
-        let station = &mut self.stations[event.station];
-        let reply = ask(station, event.moment, &event.what)?;
-        let done = event.what.done_entry();
-        let outcome = CallOutcome::of_reply(done, reply, self.air.count());
-        self.air.number(outcome.frame);
-        Ok(outcome.entry)
+        let answer = self.stations[station].answer_own(moment, call)?;
+        let (entry, frame) = entry_of(answer, self.air.count());
+        self.air.number(frame);
+        Ok(entry)
     }
 }
 
@@ -386,7 +379,7 @@ impl World {
     pub fn reuse(&mut self, entry: Entry)
         ensures { self.new ≡ self.old }
     {
-        if let Entry::Accepted {
+        if let Answer::Accepted {
             handed: Some(handed),
             ..
         } = entry
@@ -442,43 +435,11 @@ fn receive<'a>(
     ensures bytes { IsBytes frame.now }
 {
     match contents {
-        Some(contents) => station.receive_known(moment, &KnownFrame::new(frame, contents)),
+        Some(contents) => station.receive_frame(moment, &KnownFrame::new(frame, contents)),
         None => {
             // In a place of its own, so that an answer of the other arm stays in registers.
             let answer = station.receive(moment, frame);
             answer
         }
-    }
-}
-
-/// What a station replies to a call of its own.
-fn ask(station: &mut Station<SortedTable>, moment: u64, what: &What) -> Result<Reply, NoMemory>
-    requires range { IsInRange what.now }
-    requires own { IsOwnCall (what_of what.now) }
-    ensures step { IfOk result (λ reply. (call : Call) × IsAskedBy (what_of what.now) [] call
-        × ((s : StationModel) → RepresentsStation station.old s →
-        IsReplyTo reply station.new (station_step s moment call)
-        × IsThisWhereDone (done_answer (what_of what.now)) reply
-        (station_step s moment call).answer)) }
-    ensures unchanged { OnErr result (station.new ≡ station.old) }
-{
-    match what {
-        What::MoveTo {
-            place,
-            pai,
-            speed,
-            heading,
-        } => Reply::of_done(station.move_to(moment, *place, *pai, *speed, *heading)),
-        What::Open(port) => Reply::of_done(station.open(moment, *port)),
-        What::Close(port) => Reply::of_done(station.close(moment, *port)),
-        What::Restart(number) => Reply::of_done(station.restart(moment, *number)),
-        What::Tick(jitter) => Reply::of_tick(station.tick(moment, *jitter)),
-        What::SendShb(r) => Reply::of_send(station.send_shb(moment, &r.lend())),
-        What::SendGeobroadcast(r) => {
-            Reply::of_send(station.send_geobroadcast(moment, &r.lend()))
-        }
-        What::SendGeoanycast(r) => Reply::of_send(station.send_geoanycast(moment, &r.lend())),
-        // A delivery is no call of the station's own.
-        What::Deliver(_) => unreachable!(),
     }
 }

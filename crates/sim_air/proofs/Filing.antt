@@ -10,7 +10,7 @@ use Rattle.std.proofs.lemmas.Option.{get_or_from_slice_get, slice_get_within}
 use denote.Ref.{Bor}
 use Rattle.its_model.specs.World.{Config, Event, What, opening}
 use Rattle.its_model.specs.World.What.{Calls, Deliver}
-use Rattle.its_world.specs.declared.entry.Entry.{Entry}
+use Rattle.its_world.specs.Entries.{Entry}
 use Rattle.its_world.specs.Events.{event_of, what_of}
 use Rattle.its_world.specs.Steps.{IsKept}
 use Rattle.sim_scenario.specs.Airs.{moment_of}

@@ -14,8 +14,8 @@ use Rattle.its_model.specs.Reach.{is_moved}
 use Rattle.its_model.specs.Calls as model
 use Rattle.its_model.specs.Calls.{Answer, Refusal}
 use Rattle.its_station.specs.Steps.{refusal_of}
-use Rattle.its_world.specs.Entries.{TellsEntry, TellsFault}
-use Rattle.its_world.specs.declared.entry.Entry.TheVariants as entries
+use Rattle.its_world.specs.Entries.{Entry, TellsEntry, TellsFault}
+use Rattle.its_station.specs.declared.answer.Answer.TheVariants as entries
 use Rattle.its_world.specs.declared.entry.EntryFault.{EntryFault}
 use Rattle.its_world.specs.declared.entry.EntryFault.TheVariants as faults
 use Rattle.std.specs.Prelude.{IsSomeAnd, reverse, map}
@@ -27,7 +27,6 @@ use Rattle.sim_settings.specs.declared.air.Air.{Air}
 use Rattle.sim_air.specs.AirTimed.{rules_of}
 use Rattle.sim_queue.specs.Keeps.{Keeps}
 use Rattle.its_model.specs.World.{Config, Event}
-use Rattle.its_world.specs.declared.entry.Entry.{Entry}
 use Rattle.its_world.specs.State.{WorldState}
 use Rattle.sim_simulation.specs.Simulated.{IsSimulated}
 use Rattle.sim_queue.specs.declared.draws.Draws.{Draws}

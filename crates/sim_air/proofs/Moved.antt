@@ -12,10 +12,9 @@ use Rattle.its_model.specs.World.What.{Calls, Deliver}
 use Rattle.its_model.specs.EverySchedule.{HoldsOfSchedules}
 use Rattle.its_model.specs.World.{entries}
 use Rattle.sim_simulation.specs.Simulated.{IsSimulated, IsSimulation}
-use Rattle.its_world.specs.Entries.{AreEntries}
+use Rattle.its_world.specs.Entries.{AreEntries, Entry}
 use Rattle.its_world.proofs.Late.{were_there}
 use Rattle.its_world.proofs.Worlds.{count_kept, length_stations}
-use Rattle.its_world.specs.declared.entry.Entry.{Entry}
 use Rattle.its_world.specs.State.{WorldState, RepresentsWorld}
 use Rattle.its_world.specs.Steps.{IsKept}
 use Rattle.sim_air_model.specs.Timetable.{moment_in}

@@ -23,7 +23,7 @@ use Rattle.sim_scenario.specs.declared.events.event.AddressedEvent.{AddressedEve
 use Rattle.sim_scenario.specs.declared.events.event.Addressee.TheVariants as addressees
 use Rattle.sim_scenario.specs.declared.events.event.FileEvent.TheVariants as files
 use Rattle.sim_settings.specs.declared.moves.Moves.{Moves}
-use Rattle.its_world.specs.declared.entry.Entry.{Entry}
+use Rattle.its_world.specs.Entries.{Entry}
 use Rattle.sim_air.specs.Outside.{Came, IsBrought, IsByMoment, IsOutside, Brings, asked_at}
 use Rattle.sim_air.specs.Outside.{asked_of, ids_of, turn_of, MayAsk, MayCome, row_move, opening_at}
 use Rattle.sim_air.specs.Outside.{IsOfStation, filed_when, station_of_filed}

@@ -3,7 +3,7 @@ use Rattle.std.proofs.Common.{◌≡◌, ℕ, List, [], ◌∷◌, ◌++◌, sym
 use Rattle.std.proofs.Common.{subst, cond, Bool, true, false}
 use Rattle.std.specs.Prelude.{slice_get}
 use Rattle.its_model.specs.World.{Config, Event, WorldModel, opening, world_run}
-use Rattle.its_world.specs.declared.entry.Entry.{Entry}
+use Rattle.its_world.specs.Entries.{Entry}
 use Rattle.sim_simulation.specs.Simulated.{IsSimulated}
 use Rattle.sim_queue.specs.declared.scheduled.Scheduled.{Scheduled}
 use Rattle.sim_queue.specs.declared.queue.Queue.{Queue}

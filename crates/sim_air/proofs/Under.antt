@@ -4,7 +4,7 @@ use Rattle.std.proofs.Common.{subst, ◌∙◌, take, refl}
 use Rattle.std.specs.Prelude.{slice_get}
 use denote.Ref.{Bor}
 use Rattle.its_model.specs.World.{Config, Event}
-use Rattle.its_world.specs.declared.entry.Entry.{Entry}
+use Rattle.its_world.specs.Entries.{Entry}
 use Rattle.sim_scenario.specs.declared.events.event.FileEvent.{FileEvent}
 use Rattle.its_world.specs.State.{WorldState}
 use Rattle.sim_simulation.specs.Simulated.{IsSimulated}

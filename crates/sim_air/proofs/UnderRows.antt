@@ -16,7 +16,7 @@ use Rattle.its_model.specs.World.{Config, Event}
 use Rattle.sim_moves.specs.Rows.{IsRowBetween}
 use Rattle.sim_moves.specs.declared.row.Row.{Row}
 use Rattle.sim_scenario.specs.declared.events.event.AddressedEvent.{AddressedEvent}
-use Rattle.its_world.specs.declared.entry.Entry.{Entry}
+use Rattle.its_world.specs.Entries.{Entry}
 use Rattle.sim_air.specs.Moving.{DoesAt, IsMoving}
 use Rattle.sim_air_model.specs.Timetable.{Rules}
 use Rattle.sim_air_model.specs.Timetable.{Filed}

@@ -2,7 +2,7 @@
 use Rattle.std.specs.Prelude.{◌≡◌, ◌≤◌, ◌+◌, [], ℕ, List, Some, false, slice_get, take}
 use denote.Ref.{Bor}
 use Rattle.its_model.specs.World.{Config, Event}
-use Rattle.its_world.specs.declared.entry.Entry.{Entry}
+use Rattle.its_world.specs.Entries.{Entry}
 use Rattle.sim_air.specs.Moving.{IsMoving}
 use Rattle.sim_air.specs.declared.filed_run.FiledRun.{FiledRun}
 use Rattle.sim_air_model.specs.Timetable.{Rules}

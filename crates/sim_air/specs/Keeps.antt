@@ -3,8 +3,7 @@ use Rattle.std.specs.Prelude.{◌≡◌, ℕ, List, Bool, Option, cond, not, ◌
 use Rattle.its_model.specs.Calls.{Answer}
 use Rattle.its_model.specs.Station.{StationModel}
 use Rattle.its_model.specs.World.{Config, Event, WorldModel, frame_of}
-use Rattle.its_world.specs.Entries.{TellsEntry}
-use Rattle.its_world.specs.declared.entry.Entry.{Entry}
+use Rattle.its_world.specs.Entries.{Entry, TellsEntry}
 use Rattle.sim_simulation.specs.Simulated.{IsSimulated}
 use Rattle.sim_air.specs.AirTimed.{rules_of}
 use Rattle.sim_queue.specs.Keeps.{Keeps}

@@ -7,7 +7,7 @@ use Rattle.its_model.specs.World.{Config, Event, What, opening, world_run}
 use Rattle.its_model.specs.World.What.{Calls, Deliver}
 use Rattle.sim_scenario.specs.declared.events.event.AddressedEvent.{AddressedEvent}
 use Rattle.sim_settings.specs.declared.moves.Moves.{Moves}
-use Rattle.its_world.specs.declared.entry.Entry.{Entry}
+use Rattle.its_world.specs.Entries.{Entry}
 use Rattle.its_world.specs.State.{WorldState}
 use Rattle.sim_air.specs.AirRun.{AreAmong, events_in}
 use Rattle.sim_air.specs.AirTimed.{IsTimedRun}

@@ -1,7 +1,7 @@
 -- A run that is under way.
 use Rattle.std.specs.Prelude.{◌≡◌, List}
 use Rattle.its_model.specs.World.{Event}
-use Rattle.its_world.specs.declared.entry.Entry.{Entry}
+use Rattle.its_world.specs.Entries.{Entry}
 use Rattle.sim_queue.specs.PlaceIndexes.{AreStandingsOf}
 use Rattle.sim_air.specs.declared.run.Run.{Run}
 

@@ -1,7 +1,7 @@
 -- What the run of a scenario did.
 use Rattle.std.specs.Prelude.{List, [], map}
 use Rattle.its_model.specs.World.{Event}
-use Rattle.its_world.specs.declared.entry.Entry.{Entry}
+use Rattle.its_world.specs.Entries.{Entry}
 use Rattle.its_world.specs.State.{WorldState}
 use Rattle.its_world.specs.Events.{config_of, event_of}
 use Rattle.sim_scenario.specs.declared.scenario.Scenario.{Scenario}

@@ -9,7 +9,7 @@ use denote.Ref.{Bor}
 use Rattle.its_model.specs.World.{Config, Event}
 use Rattle.sim_moves.specs.declared.row.Row.{Row}
 use Rattle.sim_scenario.specs.declared.events.event.AddressedEvent.{AddressedEvent}
-use Rattle.its_world.specs.declared.entry.Entry.{Entry}
+use Rattle.its_world.specs.Entries.{Entry}
 use Rattle.sim_air.specs.Moving.{IsMoving}
 use Rattle.sim_air.specs.Outside.{Came, InTurn, IsBrought, MayAsk, MayCome, asked_of, ids_of}
 use Rattle.sim_air.specs.Outside.{opening_at, row_move, turn_of}

@@ -260,7 +260,7 @@ fn delivered(filed: &FileEvent) -> usize
     match filed {
         FileEvent::Happens(event) => match &event.what {
             What::Deliver(frame) => *frame,
-            _ => usize::MAX,
+            What::Call(_) => usize::MAX,
         },
         FileEvent::Leaves { .. } => usize::MAX,
     }

@@ -40,6 +40,7 @@ use crate::step::{do_at, do_filed, move_in, take_own};
 use crate::vehicles::Vehicles;
 use its_gnvalue::Place;
 use its_model::laws::every_schedule;
+use its_station::OwnCall;
 use its_world::{Config, Event, What, World};
 use sim_moves::{MovesFault, Row, Rows, Word};
 use sim_scenario::events::{AFTER_EVENTS, AddressedEvent, Addressee, FileEvent};
@@ -642,11 +643,11 @@ fn move_of(station: usize, row: &Row) -> Event
     Event {
         station,
         moment: row.moment,
-        what: What::MoveTo {
+        what: What::Call(OwnCall::MoveTo {
             place: row.place,
             pai: true,
             speed: row.speed,
             heading: row.heading,
-        },
+        }),
     }
 }

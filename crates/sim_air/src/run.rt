@@ -44,7 +44,7 @@ use crate::fault::AirFault;
 use its_gnvalue::Place;
 use its_model::laws::every_schedule;
 use its_world::laws::late_stations_were_there;
-use its_world::{Config, Entry, Event, What, World};
+use its_world::{Config, Entry, Event, What, World, frame_of};
 use sim_queue::places::PlaceIndex;
 use sim_queue::{
     AirAction, Delivery, Draws, Queue, Scheduled, is_present, schedule_coming_sends,
@@ -186,7 +186,7 @@ impl<'a> Run<'a> {
     {
         match what {
             What::Deliver(frame) => self.world.released() <= *frame,
-            _ => true,
+            What::Call(_) => true,
         }
     }
 
@@ -417,7 +417,7 @@ impl<'a> Run<'a> {
         let entry = do_event(&mut self.world, self.done, event, sink)?;
         self.done = next;
         self.update_place(event.station, stood);
-        if let Some(frame) = entry.frame() {
+        if let Some(frame) = frame_of(&entry) {
             self.schedule_frame(event, frame, sink)?;
         }
         Ok(entry)

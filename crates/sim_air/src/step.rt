@@ -18,6 +18,7 @@ ghost use Rattle.sim_air_model.specs.Timetable.Filed.{Happens};
 use crate::fault::AirFault;
 use crate::frames::{FrameCount, release_delivered};
 use crate::run::{Run, place_of};
+use its_station::OwnCall;
 use its_world::{Event, What};
 use sim_queue::{Delivery, Scheduled};
 use sim_scenario::events::{AddressedEvent, FileEvent};
@@ -247,7 +248,7 @@ fn open_ports<S: EventSink>(
         let open = Event {
             station: event.station,
             moment: event.moment,
-            what: What::Open(*port),
+            what: What::Call(OwnCall::Open(*port)),
         };
         // No station comes with it.
         run.do_outer(&open, sink)?;

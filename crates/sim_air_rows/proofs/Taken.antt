@@ -4,8 +4,7 @@ use Rattle.std.proofs.lemmas.Grind.{reverse_onto}
 use Rattle.std.proofs.lemmas.List.{map_push}
 use Rattle.its_model.specs.Calls.{Answer}
 use Rattle.its_model.specs.World.{Config, LogLine, opening, world_run, entries}
-use Rattle.its_world.specs.declared.entry.Entry.{Entry}
-use Rattle.its_world.specs.Entries.{AreEntries}
+use Rattle.its_world.specs.Entries.{AreEntries, Entry}
 use Rattle.sim_air_model.specs.Carried.{world_at}
 use Rattle.sim_air_model.specs.Heard.{air_at}
 use Rattle.sim_air_model.specs.Timetable.{Rules, Filed, AirModel}

@@ -2,8 +2,7 @@
 use Rattle.std.specs.Prelude.{◌≡◌, ℕ, List, [], ◌∷◌, ◌++◌, map, length}
 use Rattle.its_model.specs.Calls.{Answer}
 use Rattle.its_model.specs.World.{Config, Event, LogLine, What}
-use Rattle.its_world.specs.declared.entry.Entry.{Entry}
-use Rattle.its_world.specs.Entries.{AreEntries}
+use Rattle.its_world.specs.Entries.{AreEntries, Entry}
 use Rattle.its_world.specs.State.{WorldState}
 use Rattle.sim_air.specs.AirTimed.{IsTimedRun}
 use Rattle.sim_air_model.specs.Carried.{world_at}

@@ -14,7 +14,7 @@ ghost use Rattle.sim_queue.specs.Waiting.{delivery_of, happening_of, own_of, wai
 ghost use Rattle.its_world.specs.Events.{event_of, what_of, IsInRange};
 
 use crate::kinds::Kind;
-use its_station::OwnedShbRequest;
+use its_station::{OwnCall, OwnedShbRequest};
 use its_world::{Event, What};
 use sim_settings::Traffic;
 use std::alloc::{AllocError, Global};
@@ -78,14 +78,14 @@ impl AirAction {
         ensures range { IfOk result IsInRange }
     {
         Ok(match self {
-            AirAction::Tick(jitter) => What::Tick(*jitter),
+            AirAction::Tick(jitter) => What::Call(OwnCall::Tick(*jitter)),
             AirAction::Deliver(frame) => What::Deliver(*frame),
-            AirAction::Send(_, traffic) => What::SendShb(OwnedShbRequest {
+            AirAction::Send(_, traffic) => What::Call(OwnCall::SendShb(OwnedShbRequest {
                 port: traffic.port,
                 info: traffic.info,
                 class: traffic.class,
                 payload: vec![in alloc; 0u8; usize::from(traffic.octets)]?,
-            }),
+            })),
         })
     }
 }

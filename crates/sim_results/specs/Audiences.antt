@@ -1,8 +1,9 @@
 -- The stations that packets for an area are for, and how far these came there.
 use Rattle.std.specs.Prelude.{ℕ, List, map, Bool, true, false, not, ◌&&◌, nat_le, Option, Some, None}
 use Rattle.std.specs.List.{filter}
-use Rattle.its_world.specs.declared.entry.Entry.{Entry}
-use Rattle.its_world.specs.declared.entry.Entry.TheVariants as entries
+use Rattle.its_world.specs.Entries.{Entry}
+use Rattle.its_station.specs.declared.answer.Answer.TheVariants as entries
+use Rattle.its_station.specs.declared.call.OwnCall.TheVariants as own_calls
 use Rattle.its_world.specs.declared.event.What.{What}
 use Rattle.its_world.specs.declared.event.What.TheVariants as whats
 use Rattle.sim_results.specs.declared.audience.Target.{Target}
@@ -41,6 +42,6 @@ is_sent entry = false
 
 -- a packet for an area was sent
 abbrev pub is_for_area : What → Entry → Bool
-is_for_area (whats.SendGeobroadcast request) entry = is_sent entry
-is_for_area (whats.SendGeoanycast request) entry = is_sent entry
+is_for_area (whats.Call (own_calls.SendGeobroadcast request)) entry = is_sent entry
+is_for_area (whats.Call (own_calls.SendGeoanycast request)) entry = is_sent entry
 is_for_area what entry = false

@@ -1,8 +1,8 @@
 -- Receptions that met a full location table.
 use Rattle.std.specs.Prelude.{Bool, true, false}
 use Rattle.its_station.specs.declared.refused.Refused.TheVariants.{TableFull}
-use Rattle.its_world.specs.declared.entry.Entry.{Entry}
-use Rattle.its_world.specs.declared.entry.Entry.TheVariants.{Refused}
+use Rattle.its_world.specs.Entries.{Entry}
+use Rattle.its_station.specs.declared.answer.Answer.TheVariants.{Refused}
 use Rattle.its_world.specs.declared.entry.EntryFault.TheVariants.{Station}
 
 -- the event was refused because the location table was full

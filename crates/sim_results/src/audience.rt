@@ -8,8 +8,8 @@ use crate::reach::Reach;
 use crate::waiting_frames::WaitingFrames;
 use its_geometry::{Area, contains};
 use its_gnvalue::NoMemory;
-use its_station::OwnedGbcRequest;
-use its_world::{Entry, What, World};
+use its_station::{OwnCall, OwnedGbcRequest};
+use its_world::{Entry, What, World, frame_of};
 use sim_scenario::Scenario;
 use sim_simulation::tally::{CarriedPacket, Presence};
 use sim_simulation::{EventRecord, Note};
@@ -189,13 +189,13 @@ impl Audiences {
         }
         self.frames.forget_finished();
         let carried = match done.what {
-            What::SendGeobroadcast(request) | What::SendGeoanycast(request) => {
+            What::Call(OwnCall::SendGeobroadcast(request) | OwnCall::SendGeoanycast(request)) => {
                 self.take_send(world, done, request)?
             }
             What::Deliver(frame) => self.take_delivery(world, done, *frame),
-            _ => None,
+            What::Call(_) => None,
         };
-        if let (Some(frame), Some(carried)) = (done.entry.frame(), carried) {
+        if let (Some(frame), Some(carried)) = (frame_of(done.entry), carried) {
             self.frames.note_given(frame, carried)?;
         }
         Ok(())

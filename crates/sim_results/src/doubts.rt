@@ -14,7 +14,7 @@ use crate::failed_events::FailedEvents;
 use cap_linklayers::airtime::air_time;
 pub use doubt::{BeginDoubt, BusyChannel, Doubt, RowsApart, WarningDoubt};
 use its_gnvalue::{NoMemory, Place};
-use its_station::OwnedGbcRequest;
+use its_station::{OwnCall, OwnedGbcRequest};
 use its_world::{Entry, What, World};
 use sim_scenario::events::end_of;
 use sim_scenario::{Scenario, Timeline};
@@ -106,11 +106,11 @@ impl Doubts {
         }
         self.warnings.take_other(done);
         match done.what {
-            What::MoveTo { place, .. } => {
+            What::Call(OwnCall::MoveTo { place, .. }) => {
                 self.take_move(done.station, done.moment, *place);
                 Ok(())
             }
-            What::SendGeobroadcast(request) | What::SendGeoanycast(request) => {
+            What::Call(OwnCall::SendGeobroadcast(request) | OwnCall::SendGeoanycast(request)) => {
                 self.take_send(world, done, request, failed)
             }
             _ => Ok(()),

@@ -11,7 +11,8 @@ use crate::late_events::{WhyLate, late_events};
 use cmd_quoting::OneLine;
 use cmd_text::frames::Explanation;
 use its_gnvalue::NoMemory;
-use its_world::{Entry, EntryFault, Event};
+use its_station::Answer;
+use its_world::{EntryFault, Event};
 use sim_scenario::events::{AddressedEvent, verb_of};
 use sim_scenario::{Scenario, Timeline};
 use sim_settings::keys::Verb;
@@ -267,7 +268,7 @@ impl FailedEvents {
         ensures next { IsNextSend self.old done.now → self.new.came ≡ one_more self.old.came }
         ensures refused { (send : AskedSend) (fault : EntryFault) →
             next_send self.old ≡ Some send → IsAsked send done.now →
-            done.now.entry.now ≡ Entry.Refused fault → OnOk result (Adds self.old self.new
+            done.now.entry.now ≡ Answer.Refused fault → OnOk result (Adds self.old self.new
             (record { number = send.number; moment = send.moment; why = Failure.Refused fault })) }
     {
         let Some(send) = self.sends.as_slice().get(self.came).copied() else {
@@ -278,7 +279,7 @@ impl FailedEvents {
         }
         self.came = self.came.saturating_add(1);
         match done.entry {
-            Entry::Refused(fault) => self.add(FailedEvent {
+            Answer::Refused(fault) => self.add(FailedEvent {
                 number: send.number,
                 moment: send.moment,
                 why: Failure::Refused(*fault),

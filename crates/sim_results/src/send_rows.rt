@@ -8,8 +8,8 @@ use crate::unsent::UnsentPacket;
 use crate::waiting_frames::WaitingFrames;
 use its_gnvalue::NoMemory;
 use its_headers::Kind;
-use its_station::OwnedGbcRequest;
-use its_world::{Entry, What, World};
+use its_station::{OwnCall, OwnedGbcRequest};
+use its_world::{Entry, What, World, frame_of};
 use sim_scenario::Scenario;
 use sim_simulation::tally::{CarriedPacket, Presence};
 use sim_simulation::{EventRecord, Note, SimulationFault};
@@ -135,10 +135,14 @@ impl SendRows {
         done: &EventRecord<'_>,
     ) -> Result<Option<CarriedPacket>, NoMemory> {
         match done.what {
-            What::SendGeobroadcast(request) => { self.count_send(world, done, Kind::Gbc, request) }
-            What::SendGeoanycast(request) => self.count_send(world, done, Kind::Gac, request),
+            What::Call(OwnCall::SendGeobroadcast(request)) => {
+                self.count_send(world, done, Kind::Gbc, request)
+            }
+            What::Call(OwnCall::SendGeoanycast(request)) => {
+                self.count_send(world, done, Kind::Gac, request)
+            }
+            What::Call(_) => Ok(None),
             What::Deliver(frame) => self.count_delivery(world, done, *frame),
-            _ => Ok(None),
         }
     }
 
@@ -153,7 +157,7 @@ impl SendRows {
         if let Entry::Refused(fault) = done.entry {
             self.add_unsent(UnsentPacket::refused(done, *fault))?;
         }
-        if done.entry.frame().is_none() {
+        if frame_of(done.entry).is_none() {
             return Ok(None);
         }
         let send = self.written.saturating_add(self.open.len());
@@ -172,7 +176,7 @@ impl SendRows {
         let Some(carried) = self.frames.deliver(frame) else {
             return Ok(None);
         };
-        let is_relayed = done.entry.frame().is_some();
+        let is_relayed = frame_of(done.entry).is_some();
         let Some(packet) = self.packet(carried.send) else {
             return Ok(None);
         };
@@ -208,7 +212,7 @@ impl Rows for SendRows {
     ) -> Result<(), SimulationFault> {
         self.write_finished(out)?;
         let carried = self.count(world, done)?;
-        if let (Some(frame), Some(carried)) = (done.entry.frame(), carried) {
+        if let (Some(frame), Some(carried)) = (frame_of(done.entry), carried) {
             self.note_given(frame, carried)?;
         }
         Ok(())

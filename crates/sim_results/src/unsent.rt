@@ -2,6 +2,7 @@
 
 use crate::late_events::{LateEvent, WhyLate};
 use its_headers::Kind;
+use its_station::OwnCall;
 use its_world::{EntryFault, What};
 use sim_scenario::events::{Action, AddressedEvent};
 use sim_simulation::EventRecord;
@@ -41,8 +42,8 @@ impl AreaPacket {
     /// The packet that a call asks for, if it asks for one.
     pub(crate) fn of(what: &What) -> Option<AreaPacket> {
         let (kind, port) = match what {
-            What::SendGeobroadcast(request) => (Kind::Gbc, request.port),
-            What::SendGeoanycast(request) => (Kind::Gac, request.port),
+            What::Call(OwnCall::SendGeobroadcast(request)) => (Kind::Gbc, request.port),
+            What::Call(OwnCall::SendGeoanycast(request)) => (Kind::Gac, request.port),
             _ => return None,
         };
         Some(AreaPacket { kind, port })

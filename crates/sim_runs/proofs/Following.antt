@@ -2,7 +2,7 @@
 use Rattle.std.proofs.Common.{ℕ, List}
 use Rattle.std.specs.Prelude.{Option}
 use Rattle.its_model.specs.World.{Config, Event}
-use Rattle.its_world.specs.declared.entry.Entry.{Entry}
+use Rattle.its_world.specs.Entries.{Entry}
 use Rattle.its_world.specs.State.{WorldState}
 use Rattle.sim_scenario.specs.declared.events.event.AddressedEvent.{AddressedEvent}
 use Rattle.sim_settings.specs.declared.moves.Moves.{Moves as MovesSettings}

@@ -1,8 +1,7 @@
 -- How a command ends that ran a scenario.
 use Rattle.std.specs.Prelude.{◌≡◌, ◌&&◌, List, Bool, not, if◌then◌else◌, IfOk, Ok, Result}
 use Rattle.std.specs.List.{list_all}
-use Rattle.its_world.specs.declared.entry.Entry.{Entry}
-use Rattle.its_world.specs.Entries.{was_done}
+use Rattle.its_world.specs.Entries.{Entry, was_done}
 use Rattle.its_world.specs.State.{WorldState}
 use Rattle.sim_scenario.specs.declared.scenario.Scenario.{Scenario}
 use Rattle.sim_air.specs.declared.fault.AirFault.{AirFault}

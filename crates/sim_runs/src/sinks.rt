@@ -3,7 +3,7 @@
 ghost use Rattle.std.specs.Prelude.{◌≡◌, ◌≤◌, IfOk, List, Ok, not, true, vec_len};
 ghost use Rattle.std.specs.List.{list_all};
 ghost use Rattle.cmd_reporting.specs.Statuses.{IsCommandStatus};
-ghost use Rattle.its_world.specs.declared.entry.Entry.{Entry as LogEntry};
+ghost use Rattle.its_world.specs.Entries.{Entry as LogEntry};
 ghost use Rattle.its_world.specs.Entries.{was_done};
 ghost use Rattle.sim_runs.specs.Runs.{EndsRun, run_status};
 

@@ -1,6 +1,8 @@
 -- Keys under which nothing stands that they take.
 use Rattle.std.proofs.Common.{◌≡◌, ℕ, false, List, codes, nat_eq, refl, sym, ap, subst, ◌∙◌}
 use Rattle.std.proofs.lemmas.Bool.{false≢true}
+use Rattle.std.proofs.lemmas.Option.{same_Some}
+use Rattle.std.specs.Prelude.{◌≢◌, Err}
 use Rattle.std.specs.Cmp.Lexicographic.{pointwise}
 use Rattle.sim_settings.specs.Faults.{IsFaultOf}
 use Rattle.sim_settings.specs.Fields.{FieldValues, IsNumber, IsText, IsUntaken}
@@ -10,12 +12,13 @@ use Rattle.sim_settings.specs.declared.keys.fault.KeyFault.{KeyFault}
 use Rattle.sim_settings.specs.declared.keys.key.Key.TheVariants as keys
 use Rattle.sim_settings.specs.declared.keys.key.Key.{Key}
 use Rattle.sim_settings.specs.declared.keys.verb.Verb.{Verb}
+use Rattle.sim_settings.specs.declared.keys.verb.Verb.TheVariants as verbs
 use Rattle.its_model.specs.Calls.OwnCall.{Move, Open, Close, Tick, SendShb, SendGbc, SendGac}
 use Rattle.its_model.specs.Calls.OwnCall.{Restart}
 use Rattle.its_model.specs.World.{What}
 use Rattle.its_model.specs.World.What.{Calls, Deliver}
 use Rattle.sim_scenario.specs.Reading.{IsBadAt, IsBadOf}
-use Rattle.sim_scenario.specs.Reading.{IsBadMeasure}
+use Rattle.sim_scenario.specs.Reading.{IsBadMeasure, IsBadWord}
 use Rattle.sim_scenario.specs.Verbs.{verb_of}
 
 -- the fault of a bad key
@@ -62,3 +65,34 @@ never_leaves (Deliver frame) = differ _ refl
 pub bad_leave : (values : FieldValues) (word : List ℕ) → IsText values keys.Do word
     → word ≡ codes "leave" → IsBadAt values keys.Do
 bad_leave values word is leave = λ what says. never_leaves what (cc)
+
+-- the fault of the word
+pub bad_word_of : (T : Type 0) (fault : KeyFault) → IsFaultOf keys.Do fault
+    → IsBadWord {T = T} (Err fault)
+bad_word_of T (key_faults.Refused key wrong) is = is
+bad_word_of T key_faults.OutOfMemory is = tt
+
+-- the verb whose word stands there, if the word for a delivery is that of no other
+other_word : (values : FieldValues) (word : List ℕ) → IsText values keys.Do word
+    → IsText values keys.Do (codes "deliver") → pointwise nat_eq (codes "deliver") word ≡ false → ⊥
+other_word values word is deliver unlike =
+    false≢true (sym unlike ∙ sym (ap (pointwise nat_eq (codes "deliver")) (same_Some (codes "deliver") word (sym deliver ∙ is))))
+
+-- the word for a delivery is that of no other
+pub is_deliver : (values : FieldValues) (verb : Verb) → IsText values keys.Do (verb_word verb)
+    → IsText values keys.Do (codes "deliver") → verb ≡ verbs.Deliver
+is_deliver values verbs.Deliver is deliver = refl
+is_deliver values verbs.Move is deliver = absurd (other_word values _ is deliver refl)
+is_deliver values verbs.Open is deliver = absurd (other_word values _ is deliver refl)
+is_deliver values verbs.Close is deliver = absurd (other_word values _ is deliver refl)
+is_deliver values verbs.Tick is deliver = absurd (other_word values _ is deliver refl)
+is_deliver values verbs.Shb is deliver = absurd (other_word values _ is deliver refl)
+is_deliver values verbs.Gbc is deliver = absurd (other_word values _ is deliver refl)
+is_deliver values verbs.Gac is deliver = absurd (other_word values _ is deliver refl)
+is_deliver values verbs.Restart is deliver = absurd (other_word values _ is deliver refl)
+is_deliver values verbs.Leave is deliver = absurd (other_word values _ is deliver refl)
+
+pub no_deliver : (values : FieldValues) (verb : Verb) → IsText values keys.Do (verb_word verb)
+    → (¬ IsText values keys.Do (codes "deliver")) → verb ≢ verbs.Deliver
+no_deliver values verb is not same =
+    not (subst (λ (v : Verb). IsText values keys.Do (verb_word v)) same is)

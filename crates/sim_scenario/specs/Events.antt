@@ -1,6 +1,8 @@
 -- The events of a scenario.
 use Rattle.std.specs.Prelude.{ℕ, ℤ, pos, ◌<◌, ◌^◌, string_bytes}
 use Rattle.its_gnvalue.specs.Values.{IsSpeed}
+use Rattle.its_station.specs.declared.call.OwnCall.{OwnCall}
+use Rattle.its_station.specs.declared.call.OwnCall.TheVariants as own_calls
 use Rattle.its_world.specs.declared.event.Event.{Event}
 use Rattle.its_world.specs.declared.event.What.{What}
 use Rattle.its_world.specs.declared.event.What.TheVariants as whats
@@ -16,14 +18,18 @@ use Rattle.sim_scenario.specs.declared.events.event.FileEvent.TheVariants as fil
 use Rattle.sim_scenario.specs.declared.events.event.StationEvent.{StationEvent}
 
 -- the speed of a move; 0 where none is given
+abbrev pub own_speed : OwnCall → ℤ
+own_speed (own_calls.MoveTo place pai speed heading) = speed
+own_speed call = pos 0
+
 abbrev pub speed_of : What → ℤ
-speed_of (whats.MoveTo place pai speed heading) = speed
-speed_of what = pos 0
+speed_of (whats.Call call) = own_speed call
+speed_of (whats.Deliver frame) = pos 0
 
 -- the frame that is delivered; 0 where none is
 abbrev pub frame_of : What → ℕ
+frame_of (whats.Call call) = 0
 frame_of (whats.Deliver frame) = frame
-frame_of what = 0
 
 -- the numbers of what happens are in the ranges that a scenario gives them
 abbrev pub FitsWhat : What → Type 0

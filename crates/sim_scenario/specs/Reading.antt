@@ -1,5 +1,5 @@
 -- What the keys of a table, or of an object of another notation, say.
-use Rattle.std.specs.Prelude.{ℕ, Bool, List, codes}
+use Rattle.std.specs.Prelude.{◌≡◌, ℕ, Bool, List, codes, Result, Ok, Err}
 use Rattle.its_geometry.specs.Area.{GeoArea}
 use Rattle.its_geometry.specs.declared.area.Shape.{Shape}
 use Rattle.its_geometry.specs.declared.area.Shape.TheVariants as shapes
@@ -99,3 +99,9 @@ IsBadAt values key = IsUntaken values key
 abbrev pub IsBadOf : FieldValues → KeyFault → Type 0
 IsBadOf values (key_faults.Refused key wrong) = IsBadAt values key
 IsBadOf values key_faults.OutOfMemory = Unit {0}
+
+-- nothing was read, and the fault is that of the word, if it is one of a key
+abbrev pub IsBadWord : {T : Type 0} → Result T KeyFault → Type 0
+IsBadWord (Ok x) = ⊥
+IsBadWord (Err (key_faults.Refused key wrong)) = key ≡ keys.Do
+IsBadWord (Err key_faults.OutOfMemory) = Unit {0}

@@ -1,5 +1,4 @@
 -- What a station does, by its word.
-use Rattle.std.specs.Prelude.{Option, Some, None}
 use Rattle.sim_settings.specs.declared.keys.verb.Verb.TheVariants as verbs
 use Rattle.sim_settings.specs.declared.keys.verb.Verb.{Verb}
 use Rattle.its_model.specs.Calls.{OwnCall}
@@ -7,8 +6,6 @@ use Rattle.its_model.specs.Calls.OwnCall.{Move, Open, Close, Tick, SendShb, Send
 use Rattle.its_model.specs.Calls.OwnCall.{Restart}
 use Rattle.its_model.specs.World.{What}
 use Rattle.its_model.specs.World.What.{Calls, Deliver}
-use Rattle.its_station.specs.declared.run.Call.{Call}
-use Rattle.its_station.specs.declared.run.Call.TheVariants as calls
 use Rattle.its_world.specs.Events.{what_of}
 use Rattle.sim_scenario.specs.declared.events.action.Action.{Action}
 use Rattle.sim_scenario.specs.declared.events.action.Action.TheVariants as actions
@@ -28,18 +25,6 @@ own_verb (Restart number) = verbs.Restart
 abbrev pub verb_of : What → Verb
 verb_of (Calls call) = own_verb call
 verb_of (Deliver frame) = verbs.Deliver
-
--- that of a call of a station; none is that of a frame that came
-abbrev pub call_verb : Call → Option Verb
-call_verb (calls.MoveTo place pai speed heading) = Some verbs.Move
-call_verb (calls.Open port) = Some verbs.Open
-call_verb (calls.Close port) = Some verbs.Close
-call_verb (calls.Tick jitter) = Some verbs.Tick
-call_verb (calls.SendShb request) = Some verbs.Shb
-call_verb (calls.SendGeobroadcast request) = Some verbs.Gbc
-call_verb (calls.SendGeoanycast request) = Some verbs.Gac
-call_verb (calls.Restart number) = Some verbs.Restart
-call_verb (calls.Receive frame) = None
 
 -- that of what an event of a scenario does
 abbrev pub action_verb : Action → Verb

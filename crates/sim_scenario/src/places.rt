@@ -2,6 +2,7 @@
 
 use crate::events::{Action, StationEvent};
 use its_gnvalue::Place;
+use its_station::OwnCall;
 use its_world::{Config, What};
 use std::alloc::{AllocError, Global};
 
@@ -73,7 +74,7 @@ fn in_order(alloc: Global, events: &[StationEvent]) -> Result<Vec<Turn>, AllocEr
 fn place_after(places: &mut [Place], event: Option<&StationEvent>) -> Option<Place> {
     let event = event?;
     let place = places.get_mut(event.station)?;
-    if let Action::Happens(What::MoveTo { place: target, .. }) = &event.action {
+    if let Action::Happens(What::Call(OwnCall::MoveTo { place: target, .. })) = &event.action {
         *place = *target;
     }
     Some(*place)

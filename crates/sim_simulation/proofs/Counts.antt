@@ -5,7 +5,7 @@ use Rattle.std.proofs.lemmas.List.{length-append}
 use Rattle.std.specs.Prelude.{◌&&◌, count_by}
 use Rattle.its_model.specs.World.{Event}
 use Rattle.its_model.proofs.NumberTests.{count_snoc}
-use Rattle.its_world.specs.declared.entry.Entry.{Entry}
+use Rattle.its_world.specs.Entries.{Entry}
 use Rattle.sim_simulation.specs.declared.tally.summary.Totals.{Totals}
 use Rattle.sim_simulation.specs.Totals.{capped, counted, gave_frame, delivered, was_duplicate}
 use Rattle.sim_simulation.specs.Totals.{was_ignored, was_refused, AreTotals, with_entry}

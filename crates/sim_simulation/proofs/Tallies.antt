@@ -6,11 +6,13 @@ use Rattle.std.proofs.lemmas.List.{length-append, drop-append-le, drop-drop, len
 use Rattle.std.specs.HashSet.{contains}
 use Rattle.std.specs.List.{list_any}
 use Rattle.std.specs.Prelude.{max, min, Option, Some, None, slice_get, Result, Ok, Err, OnOk}
-use Rattle.its_model.specs.World.{Event, What}
+use Rattle.its_model.specs.World.{Event, What, with_one_more}
 use Rattle.its_model.specs.World.What.{Calls, Deliver}
 use Rattle.its_station.specs.declared.requests.OwnedGbcRequest.{OwnedGbcRequest}
 use Rattle.its_world.specs.Events.{what_of}
-use Rattle.its_world.specs.declared.entry.Entry.{Entry}
+use Rattle.its_world.specs.Entries.{Entry}
+use Rattle.its_station.specs.declared.call.OwnCall.{OwnCall}
+use Rattle.its_station.specs.declared.call.OwnCall.TheVariants as own_calls
 use Rattle.its_world.specs.declared.event.What as world
 use Rattle.its_world.specs.declared.event.What.TheVariants as whats
 use Rattle.sim_simulation.proofs.Counts.{length_more}
@@ -224,18 +226,44 @@ delivery_more t u d first ps fs ds sends carried released is updates one has =
 
 -- ---- calls that send no packet for an area
 
-pub is_plain : (w : world.What) → ((r : OwnedGbcRequest) → w ≡ whats.SendGeobroadcast r → ⊥)
-    → ((r : OwnedGbcRequest) → w ≡ whats.SendGeoanycast r → ⊥) → (n : ℕ) (e : Event)
+pub is_plain : (w : world.What)
+    → ((r : OwnedGbcRequest) → w ≡ whats.Call (own_calls.SendGeobroadcast r) → ⊥)
+    → ((r : OwnedGbcRequest) → w ≡ whats.Call (own_calls.SendGeoanycast r) → ⊥) → (n : ℕ) (e : Event)
     → (is_area_send (what_of w) ≡ false) × (sent_by n e (what_of w) ≡ None)
-is_plain (whats.MoveTo place pai speed heading) one two n e = (refl, refl)
-is_plain (whats.Open port) one two n e = (refl, refl)
-is_plain (whats.Close port) one two n e = (refl, refl)
-is_plain (whats.Tick jitter) one two n e = (refl, refl)
-is_plain (whats.SendShb r) one two n e = (refl, refl)
-is_plain (whats.SendGeobroadcast r) one two n e = absurd (one r refl)
-is_plain (whats.SendGeoanycast r) one two n e = absurd (two r refl)
-is_plain (whats.Restart number) one two n e = (refl, refl)
+is_plain (whats.Call (own_calls.MoveTo place pai speed heading)) one two n e = (refl, refl)
+is_plain (whats.Call (own_calls.Open port)) one two n e = (refl, refl)
+is_plain (whats.Call (own_calls.Close port)) one two n e = (refl, refl)
+is_plain (whats.Call (own_calls.Tick jitter)) one two n e = (refl, refl)
+is_plain (whats.Call (own_calls.SendShb r)) one two n e = (refl, refl)
+is_plain (whats.Call (own_calls.SendGeobroadcast r)) one two n e = absurd (one r refl)
+is_plain (whats.Call (own_calls.SendGeoanycast r)) one two n e = absurd (two r refl)
+is_plain (whats.Call (own_calls.Restart number)) one two n e = (refl, refl)
 is_plain (whats.Deliver k) one two n e = (refl, refl)
+
+-- another call than the one that is made
+pub other_call : (w : world.What) (call other : OwnCall) → w ≡ whats.Call call → (call ≡ other → ⊥)
+    → w ≡ whats.Call other → ⊥
+other_call w call other is differ made = differ (cc)
+
+-- a frame that carries no packet for an area adds no summary
+pub plain_sends : (old new : Tally) (w : What) → is_area_send w ≡ false → new.sends ≡ old.sends
+    → length new.sends.items ≡ length old.sends.items + cond (is_area_send w) 1 0
+plain_sends old new w plain same =
+    let size = length old.sends.items in
+    let none : size ≡ size + cond false 1 0 = omega arith in
+    ap (λ s. length s.items) same ∙ none ∙ ap (λ (b : Bool). size + cond b 1 0) (sym plain)
+
+-- and is counted
+pub plain_counts : (old new : Tally) (ps : List Packet) (fs : Frames) (ds : List Delivery)
+    (w : What) (sent : Option Packet) → is_area_send w ≡ false → sent ≡ None
+    → new.sends ≡ old.sends → new.carried.items ≡ old.carried.items ++ None ∷ []
+    → new.released ≡ old.released → new.delivered ≡ old.delivered → HasCounted old ps fs ds
+    → HasCounted new (with_one_more ps sent) (fs ++ own_of (length ps) (is_area_send w) ∷ []) ds
+plain_counts old new ps fs ds w sent plain none sends carried released delivered has =
+    subst (λ (o : Option Packet). HasCounted new (with_one_more ps o)
+    (fs ++ own_of (length ps) (is_area_send w) ∷ []) ds) (sym none)
+    (subst (λ (b : Bool). HasCounted new ps (fs ++ own_of (length ps) b ∷ []) ds) (sym plain)
+    (relay_more old new None ps fs ds (ap (λ s. s.items) sends) carried released delivered tt has))
 
 -- ---- lines
 

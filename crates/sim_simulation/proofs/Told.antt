@@ -3,9 +3,8 @@ use Rattle.std.proofs.Common.{◌≡◌, ℕ, List, [], ◌∷◌, ◌++◌, sym
 use Rattle.its_model.specs.Calls.{Answer}
 use Rattle.its_model.specs.EverySchedule.{HoldsOfSchedules}
 use Rattle.its_model.specs.World.{Config, Event, WorldModel, opening, world_run, world_step, entries}
-use Rattle.its_world.specs.declared.entry.Entry.{Entry}
 use Rattle.its_world.specs.State.{WorldState, RepresentsWorld}
-use Rattle.its_world.specs.Entries.{AreEntries, TellsEntry}
+use Rattle.its_world.specs.Entries.{AreEntries, Entry, TellsEntry}
 use Rattle.sim_simulation.specs.Simulated.{IsSimulated}
 
 -- one entry more

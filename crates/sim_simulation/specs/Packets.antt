@@ -10,8 +10,8 @@ use Rattle.its_headers.specs.declared.kind.Kind.TheVariants as kinds
 use Rattle.its_model.specs.Calls as model
 use Rattle.its_model.specs.World.{Event, What, with_one_more}
 use Rattle.its_model.specs.World.What.{Calls, Deliver}
-use Rattle.its_world.specs.declared.entry.Entry.{Entry}
-use Rattle.its_world.specs.declared.entry.Entry.TheVariants as entries
+use Rattle.its_world.specs.Entries.{Entry}
+use Rattle.its_station.specs.declared.answer.Answer.TheVariants as entries
 use Rattle.sim_simulation.specs.Totals.{capped, counted, is_there, is_area_send}
 use Rattle.sim_simulation.specs.declared.tally.summary.SendSummary.{SendSummary}
 use Rattle.sim_simulation.specs.declared.tally.tally.CarriedPacket.{CarriedPacket}

@@ -3,9 +3,8 @@ use Rattle.std.specs.Prelude.{◌≡◌, ℕ, List, [], ◌∷◌, ◌++◌}
 use Rattle.its_model.specs.Calls.{Answer}
 use Rattle.its_model.specs.World.{Config, Event, opening, world_run, entries}
 use Rattle.its_model.specs.EverySchedule.{HoldsOfSchedules}
-use Rattle.its_world.specs.declared.entry.Entry.{Entry}
 use Rattle.its_world.specs.State.{WorldState, RepresentsWorld}
-use Rattle.its_world.specs.Entries.{AreEntries, TellsEntry}
+use Rattle.its_world.specs.Entries.{AreEntries, Entry, TellsEntry}
 
 -- Of these configs the events were done, in order: the world stands at the end of just this run of
 -- the model, and of that very end hold the laws over every schedule.

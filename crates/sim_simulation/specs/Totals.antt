@@ -5,8 +5,8 @@ use Rattle.its_model.specs.Calls as model
 use Rattle.its_model.specs.World.{Event, What}
 use Rattle.its_model.specs.World.What.{Calls}
 use Rattle.its_station.specs.declared.outcome.Why.TheVariants as whys
-use Rattle.its_world.specs.declared.entry.Entry.{Entry}
-use Rattle.its_world.specs.declared.entry.Entry.TheVariants as entries
+use Rattle.its_world.specs.Entries.{Entry}
+use Rattle.its_station.specs.declared.answer.Answer.TheVariants as entries
 use Rattle.sim_simulation.specs.declared.tally.summary.Totals.{Totals}
 
 -- a count, which stays at the greatest number

@@ -14,7 +14,7 @@ impl fmt::Display for Action<'_> {
         let verb = verb_of(self.0);
         match self.0 {
             What::Deliver(frame) => write!(f, "{verb} {frame}"),
-            _ => write!(f, "{verb}"),
+            What::Call(_) => write!(f, "{verb}"),
         }
     }
 }

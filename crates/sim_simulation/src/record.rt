@@ -6,7 +6,8 @@ ghost use Rattle.sim_simulation.specs.Records.{happening_in, IsRecordOf};
 
 use crate::entry::{EntryKeys, entry_keys};
 use cmd_text::json_lines::Octets;
-use its_world::{Entry, Event, What, World};
+use its_station::OwnCall;
+use its_world::{Entry, Event, What, World, frame_of};
 use serde::Serialize;
 use sim_scenario::events::verb_of;
 
@@ -47,7 +48,7 @@ impl<'a> EventRecord<'a> {
             station: event.station,
             what: &event.what,
             entry,
-            octets: match entry.frame() {
+            octets: match frame_of(entry) {
                 Some(frame) => world.kept_frame(frame),
                 None => None,
             },
@@ -79,8 +80,12 @@ impl<'a> EventLine<'a> {
     pub(crate) fn of(done: &EventRecord<'a>) -> EventLine<'a> {
         let (frame, lat, lon) = match done.what {
             What::Deliver(frame) => (Some(*frame), None, None),
-            What::MoveTo { place, .. } => (None, Some(place.lat()), Some(place.lon())),
-            _ => (None, None, None),
+            What::Call(OwnCall::MoveTo { place, .. }) => (
+                None,
+                Some(place.lat()),
+                Some(place.lon()),
+            ),
+            What::Call(_) => (None, None, None),
         };
         EventLine {
             event: done.number,

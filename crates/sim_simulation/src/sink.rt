@@ -11,7 +11,7 @@ use its_world::World;
 
 /// What takes the events of a simulation, one by one, as they are done.
 pub trait EventSink {
-    ghost use Rattle.its_world.specs.declared.entry.Entry.{Entry};
+    ghost use Rattle.its_world.specs.Entries.{Entry};
 
     /// What it says of having taken these events and these entries, in order. A sink that keeps none
     /// may say nothing of them.

@@ -10,7 +10,7 @@ mod shown;
 
 use its_geometry::Area;
 use its_gnvalue::{GnAddress, Lifetime, Place, TrafficClass};
-use its_station::{OwnedGbcRequest, Why};
+use its_station::{OwnCall, OwnedGbcRequest, Why};
 use its_world::{Config, Entry, EntryFault, Event, Run, What, World, WorldFault};
 use std::alloc::Global;
 use std::test::Fail;
@@ -96,7 +96,7 @@ fn open(station: usize) -> Event
     Event {
         station,
         moment: 0,
-        what: What::Open(PORT),
+        what: What::Call(OwnCall::Open(PORT)),
     }
 }
 
@@ -116,7 +116,7 @@ fn send(alloc: Global) -> Result<Event, Fail>
     Ok(Event {
         station: 0,
         moment: 1000,
-        what: What::SendGeobroadcast(request),
+        what: What::Call(OwnCall::SendGeobroadcast(request)),
     })
 }
 

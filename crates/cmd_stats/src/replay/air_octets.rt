@@ -6,15 +6,16 @@ ghost use Rattle.its_model.specs.Calls.{Call};
 ghost use Rattle.its_model.specs.Station.{StationModel, station_step};
 ghost use Rattle.its_linkframe.specs.FrameFaults.{IsFrameFault};
 ghost use Rattle.its_linkframe.specs.Frames.{EncodesFrame, transmission_of};
-ghost use Rattle.its_station.specs.Receiving.{IsFrameCall};
-ghost use Rattle.its_station.specs.Runs.{IsReplyTo};
+ghost use Rattle.its_station.specs.Answers.{IsAnswerTo};
+ghost use Rattle.its_station.specs.Receiving.{DeliversEndOf, IsFrameCall, Tells};
 ghost use Rattle.its_station.specs.State.{RepresentsStation};
+ghost use Rattle.its_station.specs.Steps.{IsStepOf};
 ghost use Rattle.cmd_stats.specs.Readings.{IsReading};
 
 use its_gnvalue::NoMemory;
 use its_linkframe::{FrameFault, FrameView};
 use its_loctable::SortedTable;
-use its_station::{Reply, Station};
+use its_station::{Outcome, Refused, Station, StationAnswer, make_room};
 use std::alloc::Global;
 use std::marker::Model;
 
@@ -66,16 +67,31 @@ impl AirOctets {
         alloc: Global,
         station: &mut Station<SortedTable>,
         moment: u64,
-    ) -> Result<Reply, NoMemory>
+    ) -> Result<StationAnswer, NoMemory>
         ensures { IfOk result (λ reply. (c : Call) × IsFrameCall self.now.items c
             × ((s : StationModel) → RepresentsStation station.old s →
-            IsReplyTo reply station.new (station_step s moment c))) }
+            IsAnswerTo reply station.new (station_step s moment c))) }
     {
-        let octets = self.octets.as_slice();
         let mut room = Vec::new(alloc);
+        make_room(&mut room, self.octets.as_slice())?;
+        StationAnswer::of_received(alloc, self.lend_to(station, moment), &mut room)
+    }
+
+    /// The outcome of the octets at a station that receives them at a moment, as `Station::receive`
+    /// has it.
+    fn lend_to(
+        &self,
+        station: &mut Station<SortedTable>,
+        moment: u64,
+    ) -> Result<Outcome<'_>, Refused>
+        ensures step { (c : Call) × IsFrameCall self.now.items c
+            × ((s : StationModel) → RepresentsStation station.old s →
+            IsStepOf Tells result station.new (station_step s moment c)) }
+        ensures payload { IfOk result (DeliversEndOf self.now.items) }
+    {
         match self.fault {
-            None => station.receive_checked_in(moment, octets, &mut room),
-            Some(_) => station.receive_in(moment, octets, &mut room),
+            None => station.receive_frame(moment, &FrameView::of_frame(self.octets.as_slice())),
+            Some(fault) => Err(station.refuse_frame(moment, fault)),
         }
     }
 

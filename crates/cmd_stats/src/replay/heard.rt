@@ -2,7 +2,7 @@
 
 use cap_records::RecordFault;
 use cmd_reporting::Fault;
-use its_station::Reply;
+use its_station::StationAnswer;
 
 /// What came of a record that is chosen.
 #[derive(Debug, Drop, PartialEq, Eq)]
@@ -14,7 +14,7 @@ pub enum Heard {
         /// The octets that the station received.
         frame: Vec<u8>,
         /// What it answered.
-        reply: Reply,
+        reply: StationAnswer,
     },
     /// Its link layer has no frame, so nothing reached the station.
     Nothing {

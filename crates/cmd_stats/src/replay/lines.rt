@@ -3,7 +3,7 @@
 use crate::replay::heard::Heard;
 use cap_records::{RecordCode, RecordFault};
 use cmd_text::answers::{AnswerKeys, PrintedAnswer, RefusedReason};
-use its_station::{Refused, RefusedCode, Reply};
+use its_station::{Answer, Refused, RefusedCode, StationAnswer};
 use serde::Serialize;
 use std::fmt;
 
@@ -75,17 +75,26 @@ impl<'a> ReplayLine<'a> {
 }
 
 /// What is printed of a reply to these octets.
-fn reply_keys<'a>(reply: &'a Reply, frame: &[u8], number: u64) -> PrintedAnswer<'a, Code, Reason> {
+fn reply_keys<'a>(
+    reply: &'a StationAnswer,
+    frame: &[u8],
+    number: u64,
+) -> PrintedAnswer<'a, Code, Reason> {
     match reply {
-        Reply::Ignored(why) => AnswerKeys::ignored(*why),
-        Reply::Accepted { handed, sent } => {
+        Answer::Ignored(why) => AnswerKeys::ignored(*why),
+        Answer::Accepted { handed, sent } => {
             AnswerKeys::accepted(handed, sent.as_ref().map(|_| number))
         }
-        Reply::Refused(refused) => {
+        Answer::Refused(refused) => {
             AnswerKeys::refused(Code::Station(refused.code()), reason_of(*refused, frame))
         }
         // No frame is answered so.
-        Reply::Done | Reply::Quiet | Reply::Sent(_) => AnswerKeys::word("done"),
+        Answer::Moved
+        | Answer::Opened
+        | Answer::Closed
+        | Answer::Restarted
+        | Answer::Quiet
+        | Answer::Sent(_) => AnswerKeys::word("done"),
     }
 }
 

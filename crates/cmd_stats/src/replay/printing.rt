@@ -7,7 +7,7 @@ use crate::replay::lines::ReplayLine;
 use cap_records::{FileFault, RefusedCapture};
 use cmd_reporting::{Fault, FrameFile, Io, Status};
 use cmd_text::json_lines::JsonLine;
-use its_station::Reply;
+use its_station::Answer;
 use serde::Serialize;
 use std::alloc::{AllocError, Global};
 use std::fmt::Display;
@@ -86,7 +86,7 @@ impl<W: Write, E: Write, F: Write + Drop> HeardSink for Printer<'_, '_, W, E, F>
         match &heard {
             Heard::Received {
                 moment,
-                reply: Reply::Accepted {
+                reply: Answer::Accepted {
                     sent: Some(frame),
                     ..
                 },

@@ -12,7 +12,7 @@ use cap_records::{RecordFault, Traits, find_plain, traits_inside};
 use its_gnvalue::NoMemory;
 use its_linkframe::VerifiedFrame;
 use its_loctable::SortedTable;
-use its_station::{Delivery, Handed, Outcome, Refused, Reply, Station};
+use its_station::{Answer, Delivery, Handed, Outcome, Refused, Station, StationAnswer};
 use std::alloc::{AllocError, Global};
 
 impl SecuredOctets {
@@ -59,7 +59,7 @@ impl SecuredOctets {
         let reply = match station.receive_verified(moment, frame.as_slice(), plain) {
             Ok(outcome) => reply_of(alloc, outcome)?,
             Err(Refused::NoMemory) => return Err(NoMemory),
-            Err(refused) => Reply::Refused(refused),
+            Err(refused) => Answer::Refused(refused),
         };
         Ok(Heard::Received {
             moment,
@@ -70,10 +70,10 @@ impl SecuredOctets {
 }
 
 /// What a station does with a frame, as a reply that owns what is delivered.
-fn reply_of(alloc: Global, outcome: Outcome<'_>) -> Result<Reply, AllocError> {
+fn reply_of(alloc: Global, outcome: Outcome<'_>) -> Result<StationAnswer, AllocError> {
     Ok(match outcome {
-        Outcome::Ignored(why) => Reply::Ignored(why),
-        Outcome::Accepted { handed, sent } => Reply::Accepted {
+        Outcome::Ignored(why) => Answer::Ignored(why),
+        Outcome::Accepted { handed, sent } => Answer::Accepted {
             handed: match handed {
                 Some(handed) => Some(delivery_of(alloc, handed)?),
                 None => None,

@@ -4,6 +4,7 @@ use crate::doubts::MovesRead;
 use crate::doubts::bounds::Bounds;
 use crate::doubts::doubt::{BeginDoubt, Doubt, RowsApart};
 use its_gnvalue::{NoMemory, Place};
+use its_station::OwnCall;
 use its_world::What;
 use sim_scenario::events::{Action, AddressedEvent};
 use sim_scenario::{MovesTimeline, Scenario};
@@ -226,7 +227,10 @@ fn is_coarse(place: Place) -> bool {
 fn moves_of(alloc: Global, events: &[AddressedEvent]) -> Result<Vec<u64>, NoMemory> {
     let mut moments = Vec::new(alloc);
     for event in events {
-        if matches!(event.action, Action::Happens(What::MoveTo { .. })) {
+        if matches!(
+            event.action,
+            Action::Happens(What::Call(OwnCall::MoveTo { .. }))
+        ) {
             moments.push(event.moment)?;
         }
     }

@@ -3,10 +3,11 @@
 ghost use Rattle.std.specs.Prelude.{◌≡◌, ◌<◌, ◌^◌, IfOk};
 ghost use Rattle.its_gnvalue.specs.Values.{IsSpeed, Position};
 ghost use Rattle.its_station.specs.Requests.{owned_gbc, owned_shb};
+ghost use Rattle.its_station.specs.Runs.{own_of};
 ghost use Rattle.its_world.specs.Events.{what_of};
 ghost use Rattle.sim_scenario.specs.Actions.{IsDoneAt, request_at, what_at};
 ghost use Rattle.sim_scenario.specs.Events.{FitsAction, FitsWhat, frame_at, frame_in, frame_of};
-ghost use Rattle.sim_scenario.specs.Events.{speed_in};
+ghost use Rattle.sim_scenario.specs.Events.{own_speed, speed_in};
 ghost use Rattle.sim_scenario.specs.Verbs.{action_verb};
 
 use crate::events::around::AroundRequest;
@@ -14,7 +15,7 @@ use crate::events::event::FileEvent;
 use crate::events::verb::verb_of;
 use its_geometry::Area;
 use its_gnvalue::Place;
-use its_station::{OwnedGbcRequest, OwnedShbRequest};
+use its_station::{OwnCall, OwnedGbcRequest, OwnedShbRequest};
 use its_world::{Event, What};
 use sim_settings::keys::Verb;
 use std::alloc::{AllocError, Global};
@@ -73,8 +74,12 @@ impl Action {
     {
         let what = match self {
             Action::Happens(what) => what,
-            Action::GeobroadcastAround(request) => What::SendGeobroadcast(request.at(place)),
-            Action::GeoanycastAround(request) => What::SendGeoanycast(request.at(place)),
+            Action::GeobroadcastAround(request) => {
+                What::Call(OwnCall::SendGeobroadcast(request.at(place)))
+            }
+            Action::GeoanycastAround(request) => {
+                What::Call(OwnCall::SendGeoanycast(request.at(place)))
+            }
             Action::Leaves => return FileEvent::Leaves { station, moment },
         };
         FileEvent::Happens(Event {
@@ -129,25 +134,40 @@ fn copy_of(alloc: Global, what: &What) -> Result<What, AllocError>
     ensures frame { IfOk result (λ copy. frame_of copy ≡ frame_of what.now) }
 {
     Ok(match what {
-        What::MoveTo {
+        What::Call(call) => What::Call(copy_of_call(alloc, call)?),
+        What::Deliver(frame) => What::Deliver(*frame),
+    })
+}
+
+/// Returns a copy, with a payload of its own.
+fn copy_of_call(alloc: Global, call: &OwnCall) -> Result<OwnCall, AllocError>
+    requires fits { IsSpeed (own_speed call.now) }
+    ensures call { IfOk result (λ copy. own_of copy ≡ own_of call.now) }
+    ensures fits { IfOk result (λ copy. IsSpeed (own_speed copy)) }
+{
+    Ok(match call {
+        OwnCall::MoveTo {
             place,
             pai,
             speed,
             heading,
-        } => What::MoveTo {
+        } => OwnCall::MoveTo {
             place: *place,
             pai: *pai,
             speed: *speed,
             heading: *heading,
         },
-        What::Open(port) => What::Open(*port),
-        What::Close(port) => What::Close(*port),
-        What::Tick(jitter) => What::Tick(*jitter),
-        What::SendShb(request) => What::SendShb(copy_of_single_hop(alloc, request)?),
-        What::SendGeobroadcast(request) => What::SendGeobroadcast(copy_of_geocast(alloc, request)?),
-        What::SendGeoanycast(request) => What::SendGeoanycast(copy_of_geocast(alloc, request)?),
-        What::Restart(number) => What::Restart(*number),
-        What::Deliver(frame) => What::Deliver(*frame),
+        OwnCall::Open(port) => OwnCall::Open(*port),
+        OwnCall::Close(port) => OwnCall::Close(*port),
+        OwnCall::Tick(jitter) => OwnCall::Tick(*jitter),
+        OwnCall::SendShb(request) => OwnCall::SendShb(copy_of_single_hop(alloc, request)?),
+        OwnCall::SendGeobroadcast(request) => {
+            OwnCall::SendGeobroadcast(copy_of_geocast(alloc, request)?)
+        }
+        OwnCall::SendGeoanycast(request) => {
+            OwnCall::SendGeoanycast(copy_of_geocast(alloc, request)?)
+        }
+        OwnCall::Restart(number) => OwnCall::Restart(*number),
     })
 }
 

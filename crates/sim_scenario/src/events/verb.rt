@@ -1,10 +1,11 @@
 //! The word of an event and of a call.
 
 ghost use Rattle.std.specs.Prelude.{◌≡◌};
-ghost use Rattle.sim_scenario.specs.Verbs.{call_verb, verb_of};
+ghost use Rattle.its_station.specs.Runs.{own_of};
 ghost use Rattle.its_world.specs.Events.{what_of};
+ghost use Rattle.sim_scenario.specs.Verbs.{own_verb, verb_of};
 
-use its_station::Call;
+use its_station::OwnCall;
 use its_world::What;
 use sim_settings::keys::Verb;
 
@@ -13,31 +14,23 @@ pub fn verb_of(what: &What) -> Verb
     ensures { result ≡ verb_of (what_of what.now) }
 {
     match what {
-        What::MoveTo { .. } => Verb::Move,
-        What::Open(_) => Verb::Open,
-        What::Close(_) => Verb::Close,
-        What::Tick(_) => Verb::Tick,
-        What::SendShb(_) => Verb::Shb,
-        What::SendGeobroadcast(_) => Verb::Gbc,
-        What::SendGeoanycast(_) => Verb::Gac,
-        What::Restart(_) => Verb::Restart,
+        What::Call(call) => own_verb(call),
         What::Deliver(_) => Verb::Deliver,
     }
 }
 
-/// What a station does by this call. `None` for a frame that came, which has no word here.
-pub fn verb_of_call(call: &Call) -> Option<Verb>
-    ensures { result ≡ call_verb call.now }
+/// What a station does by this call of its applications.
+pub fn own_verb(call: &OwnCall) -> Verb
+    ensures { result ≡ own_verb (own_of call.now) }
 {
     match call {
-        Call::MoveTo { .. } => Some(Verb::Move),
-        Call::Open(_) => Some(Verb::Open),
-        Call::Close(_) => Some(Verb::Close),
-        Call::Tick(_) => Some(Verb::Tick),
-        Call::SendShb(_) => Some(Verb::Shb),
-        Call::SendGeobroadcast(_) => Some(Verb::Gbc),
-        Call::SendGeoanycast(_) => Some(Verb::Gac),
-        Call::Restart(_) => Some(Verb::Restart),
-        Call::Receive(_) => None,
+        OwnCall::MoveTo { .. } => Verb::Move,
+        OwnCall::Open(_) => Verb::Open,
+        OwnCall::Close(_) => Verb::Close,
+        OwnCall::Tick(_) => Verb::Tick,
+        OwnCall::SendShb(_) => Verb::Shb,
+        OwnCall::SendGeobroadcast(_) => Verb::Gbc,
+        OwnCall::SendGeoanycast(_) => Verb::Gac,
+        OwnCall::Restart(_) => Verb::Restart,
     }
 }

@@ -1,17 +1,23 @@
 //! What a station does, by its word and the keys of that word.
 
-ghost use Rattle.std.specs.Prelude.{◌≡◌, IfOk, IfErr};
-ghost use Rattle.sim_scenario.specs.Events.{FitsWhat};
-ghost use Rattle.sim_scenario.specs.Reading.{IsBadOf, SaysKeys, SaysShb, SaysWhat};
-ghost use Rattle.sim_scenario.specs.Verbs.{verb_of};
+ghost use Rattle.std.specs.Prelude.{◌≡◌, ◌≢◌, IfOk, IfErr, codes};
+ghost use Rattle.its_gnvalue.specs.Values.{IsSpeed};
+ghost use Rattle.sim_scenario.specs.Events.{FitsWhat, own_speed};
+ghost use Rattle.sim_scenario.specs.Reading.{IsBadOf, IsBadWord, SaysOwn, SaysShb, SaysWhat};
+ghost use Rattle.sim_scenario.specs.Verbs.{own_verb};
 ghost use Rattle.sim_settings.specs.Faults.{IsWhatFault};
+ghost use Rattle.sim_settings.specs.Fields.{IsText};
+ghost use Rattle.sim_settings.specs.Verbs.{verb_word};
+ghost use Rattle.sim_settings.specs.declared.keys.key.Key.TheVariants as keys;
 ghost use Rattle.sim_settings.specs.declared.keys.verb.Verb.TheVariants as verbs;
+ghost use Rattle.its_model.specs.World.What.{Calls};
 ghost use Rattle.its_station.specs.Requests.{owned_shb};
+ghost use Rattle.its_station.specs.Runs.{IsOwnInRange, own_of};
 ghost use Rattle.its_world.specs.Events.{what_of};
 
 use crate::events::geocast::read_geocast;
 use its_gnvalue::TrafficClass;
-use its_station::OwnedShbRequest;
+use its_station::{OwnCall, OwnedShbRequest};
 use its_world::What;
 use sim_settings::keys::{
     Fields, Key, KeyFault, Verb, Wrong, number, octet, octets, place, text, truth, whole,
@@ -26,7 +32,7 @@ use std::alloc::Global;
 /// - `says` (`SaysWhat`): from fields of any notation: what is done is what the word under `do` and
 ///   the keys of that word say.
 /// - `bad` (`IsBadOf`): the key that is refused has no value that it takes.
-#[tactic(auto, using(crate::proofs::Bad::bad_of, crate::proofs::Bad::bad_word, crate::proofs::Bad::bad_leave))]
+#[tactic(auto, using(crate::proofs::Bad::bad_of, crate::proofs::Bad::bad_word))]
 pub fn read_what<F: Fields>(alloc: Global, fields: &F) -> Result<What, KeyFault>
     ensures says { IfOk result (λ what. SaysWhat (F.values fields.now) (what_of what)) }
     ensures fits { IfOk result FitsWhat }
@@ -34,29 +40,67 @@ pub fn read_what<F: Fields>(alloc: Global, fields: &F) -> Result<What, KeyFault>
     ensures bad { IfErr result (IsBadOf (F.values fields.now)) }
 {
     match Verb::named(text(fields, Key::Do)?) {
-        Some(Verb::Move) => read_move(fields),
-        Some(Verb::Open) => Ok(What::Open(number(fields, Key::Port)?)),
-        Some(Verb::Close) => Ok(What::Close(number(fields, Key::Port)?)),
-        Some(Verb::Tick) => Ok(What::Tick(number(fields, Key::Jitter)?)),
-        Some(Verb::Shb) => Ok(What::SendShb(read_single_hop(alloc, fields)?)),
-        Some(Verb::Gbc) => Ok(What::SendGeobroadcast(read_geocast(alloc, fields)?)),
-        Some(Verb::Gac) => Ok(What::SendGeoanycast(read_geocast(alloc, fields)?)),
-        Some(Verb::Restart) => Ok(What::Restart(number(fields, Key::Number)?)),
         Some(Verb::Deliver) => Ok(What::Deliver(whole(fields, Key::Frame)? as usize)),
-        Some(Verb::Leave) | None => Err(KeyFault::Refused(Key::Do, Wrong::Value)),
+        Some(verb) => Ok(What::Call(read_keys(alloc, fields, verb)?)),
+        None => Err(KeyFault::Refused(Key::Do, Wrong::Value)),
+    }
+}
+
+/// Reads a call of the applications of a station, as `read_what` does. The word for a delivery is
+/// refused.
+#[tactic(auto, using(crate::proofs::Bad::bad_of, crate::proofs::Bad::bad_word, crate::proofs::Bad::bad_word_of, crate::proofs::Bad::is_deliver, crate::proofs::Bad::no_deliver))]
+pub fn read_call<F: Fields>(alloc: Global, fields: &F) -> Result<OwnCall, KeyFault>
+    ensures says { IfOk result (λ call. SaysWhat (F.values fields.now) (Calls (own_of call))) }
+    ensures range { IfOk result IsOwnInRange }
+    ensures fault { IfErr result IsWhatFault }
+    ensures bad { (¬ IsText (F.values fields.now) keys.Do (codes "deliver"))
+        → IfErr result (IsBadOf (F.values fields.now)) }
+    ensures deliver { IsText (F.values fields.now) keys.Do (codes "deliver")
+        → IsBadWord result }
+{
+    match Verb::named(text(fields, Key::Do)?) {
+        Some(verb) => read_keys(alloc, fields, verb),
+        None => Err(KeyFault::Refused(Key::Do, Wrong::Value)),
+    }
+}
+
+/// Reads the keys of a call of the applications, by the word for it that was found under `do`.
+/// Refuses the words for a delivery and for a leave.
+#[tactic(auto, using(crate::proofs::Bad::bad_of, crate::proofs::Bad::bad_leave))]
+fn read_keys<F: Fields>(alloc: Global, fields: &F, verb: Verb) -> Result<OwnCall, KeyFault>
+    requires word { IsText (F.values fields.now) keys.Do (verb_word verb) }
+    ensures verb { IfOk result (λ call. own_verb (own_of call) ≡ verb) }
+    ensures says { IfOk result (λ call. SaysOwn (F.values fields.now) (own_of call)) }
+    ensures range { IfOk result IsOwnInRange }
+    ensures speed { IfOk result (λ call. IsSpeed (own_speed call)) }
+    ensures fault { IfErr result IsWhatFault }
+    ensures bad { verb ≢ verbs.Deliver → IfErr result (IsBadOf (F.values fields.now)) }
+    ensures deliver { verb ≡ verbs.Deliver → IsBadWord result }
+{
+    match verb {
+        Verb::Move => read_move(fields),
+        Verb::Open => Ok(OwnCall::Open(number(fields, Key::Port)?)),
+        Verb::Close => Ok(OwnCall::Close(number(fields, Key::Port)?)),
+        Verb::Tick => Ok(OwnCall::Tick(number(fields, Key::Jitter)?)),
+        Verb::Shb => Ok(OwnCall::SendShb(read_single_hop(alloc, fields)?)),
+        Verb::Gbc => Ok(OwnCall::SendGeobroadcast(read_geocast(alloc, fields)?)),
+        Verb::Gac => Ok(OwnCall::SendGeoanycast(read_geocast(alloc, fields)?)),
+        Verb::Restart => Ok(OwnCall::Restart(number(fields, Key::Number)?)),
+        Verb::Deliver | Verb::Leave => Err(KeyFault::Refused(Key::Do, Wrong::Value)),
     }
 }
 
 /// Reads a move: `lat`, `lon`, `pai`, `speed`, `heading`, checked in this order.
 #[tactic(auto, using(crate::proofs::Bad::bad_of))]
-fn read_move<F: Fields>(fields: &F) -> Result<What, KeyFault>
-    ensures verb { IfOk result (λ what. verb_of (what_of what) ≡ verbs.Move) }
-    ensures says { IfOk result (λ what. SaysKeys (F.values fields.now) (what_of what)) }
-    ensures fits { IfOk result FitsWhat }
+fn read_move<F: Fields>(fields: &F) -> Result<OwnCall, KeyFault>
+    ensures verb { IfOk result (λ call. own_verb (own_of call) ≡ verbs.Move) }
+    ensures says { IfOk result (λ call. SaysOwn (F.values fields.now) (own_of call)) }
+    ensures range { IfOk result IsOwnInRange }
+    ensures speed { IfOk result (λ call. IsSpeed (own_speed call)) }
     ensures fault { IfErr result IsWhatFault }
     ensures bad { IfErr result (IsBadOf (F.values fields.now)) }
 {
-    Ok(What::MoveTo {
+    Ok(OwnCall::MoveTo {
         place: place(fields, Key::Lat, Key::Lon)?,
         pai: truth(fields, Key::Pai)?,
         speed: whole(fields, Key::Speed)? as i16,

@@ -20,7 +20,7 @@ use crate::{EventRecord, EventSink, Note, SimulationFault};
 use cmd_text::json_lines::Printed;
 use its_gnvalue::NoMemory;
 use its_headers::Kind;
-use its_station::{OwnedGbcRequest, Why};
+use its_station::{OwnCall, OwnedGbcRequest, Why};
 use its_world::{Entry, What, World};
 use std::alloc::Global;
 use std::collections::{HashSet, VecDeque};
@@ -197,9 +197,12 @@ impl Tally {
             (with_one_more ps (sent_by n (happening_in done.now) (what_of done.now.what.now)))
             (frames ++ own_of (length ps) (is_area_send (what_of done.now.what.now)) ∷ []) ds) }
     {
-        let (kind, request) = match done.what {
-            What::SendGeobroadcast(request) => (Kind::Gbc, request),
-            What::SendGeoanycast(request) => (Kind::Gac, request),
+        let What::Call(call) = done.what else {
+            return self.count_frame(None);
+        };
+        let (kind, request) = match call {
+            OwnCall::SendGeobroadcast(request) => (Kind::Gbc, request),
+            OwnCall::SendGeoanycast(request) => (Kind::Gac, request),
             _ => return self.count_frame(None),
         };
         let inside = self.count_inside(world, done.station, request);

@@ -7,7 +7,9 @@ use crate::vectors::{GEOBROADCAST, beacon_of};
 use its_gnvalue::NoMemory;
 use its_headers::Kind;
 use its_loctable::SortedTable;
-use its_station::{Call, Counts, GbcRequest, IgnoredCounts, RefusedCounts, SentCounts, Station};
+use its_station::{
+    Call, Counts, GbcRequest, IgnoredCounts, OwnCall, RefusedCounts, SentCounts, Station,
+};
 use std::test::Fail;
 use test_support::PORT;
 
@@ -77,7 +79,7 @@ fn note(counts: &mut Counts, station: &mut Unit, moment: u64, call: &Call)
     requires { IsInRange call.now }
 {
     let answer = station.answer(moment, call);
-    counts.note_reply(call, &answer);
+    counts.note_answer(call, &answer);
 }
 
 /// Five frames come, and two are sent.
@@ -170,10 +172,10 @@ fn counts_of_replies(station: &mut Unit, octets: Vec<u8>, none: Vec<u8>) -> Coun
     note(&mut counts, station, 1000, &frame);
     note(&mut counts, station, 1001, &frame);
     note(&mut counts, station, 1002, &Call::Receive(none));
-    note(&mut counts, station, 1003, &Call::Tick(0));
-    note(&mut counts, station, 1004, &Call::Close(PORT));
-    note(&mut counts, station, 1005, &Call::Close(PORT));
-    counts.note_reply(&Call::Tick(0), &Err(NoMemory));
+    note(&mut counts, station, 1003, &Call::Own(OwnCall::Tick(0)));
+    note(&mut counts, station, 1004, &Call::Own(OwnCall::Close(PORT)));
+    note(&mut counts, station, 1005, &Call::Own(OwnCall::Close(PORT)));
+    counts.note_answer(&Call::Own(OwnCall::Tick(0)), &Err(NoMemory));
     counts
 }
 

@@ -45,7 +45,7 @@ fn is_known_delivered<S: LocationStore>(
     now: u64,
     frame: &KnownFrame<'_, '_>,
 ) -> bool {
-    match station.receive_known(now, frame) {
+    match station.receive_frame(now, frame) {
         Ok(
             Outcome::Accepted {
                 handed: Some(handed),
@@ -61,7 +61,7 @@ fn is_known_refused<S: LocationStore>(
     now: u64,
     frame: &KnownFrame<'_, '_>,
 ) -> bool {
-    station.receive_known(now, frame).is_err()
+    station.receive_frame(now, frame).is_err()
 }
 
 /// Whether two stations receive a frame that is read once, and one refuses it at a time of the past.

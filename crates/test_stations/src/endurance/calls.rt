@@ -1,5 +1,7 @@
-//! Each call of a station, over both tables. What becomes of calls in many orders is seen of the
+//! Each call of a station, over both tables. The effects of calls in many orders are seen in the
 //! program, whose stations have a `SortedTable`.
+
+ghost use Rattle.its_station.specs.Runs.{IsOwnInRange};
 
 use crate::fates::{DUPLICATE, Fate, gives, gives_of_frame};
 use crate::stations::{circle, receiver};
@@ -7,7 +9,7 @@ use crate::vectors::GEOBROADCAST;
 use its_btp::PortFault;
 use its_gnvalue::{Lifetime, Place, TrafficClass};
 use its_loctable::{LocationStore, OrderedTable, SortedTable};
-use its_station::{Call, OwnedGbcRequest, OwnedShbRequest, Refused, Station};
+use its_station::{Call, OwnCall, OwnedGbcRequest, OwnedShbRequest, Refused, Station};
 use std::alloc::Global;
 use std::test::Fail;
 use test_support::PORT;
@@ -20,12 +22,19 @@ const LONG_JITTER: Fate = Fate::Refused(Refused::JitterRange);
 
 const NO_HOP: Fate = Fate::Refused(Refused::HopLimitZero);
 
+/// Whether a call of the applications has this answer, in a run of its own.
+fn does<S: LocationStore>(near: &mut Station<S>, moment: u64, call: OwnCall, want: Fate) -> bool
+    requires { IsOwnInRange call }
+{
+    gives(near, moment, Call::Own(call), want)
+}
+
 /// The port is open from the beginning.
 fn opens_and_closes<S: LocationStore>(near: &mut Station<S>) -> bool {
-    gives(near, 1000, Call::Open(PORT), OPEN_TWICE)
-        && gives(near, 1001, Call::Close(PORT), Fate::Done)
-        && gives(near, 1002, Call::Close(PORT), NOT_OPEN)
-        && gives(near, 1003, Call::Open(PORT), Fate::Done)
+    does(near, 1000, OwnCall::Open(PORT), OPEN_TWICE)
+        && does(near, 1001, OwnCall::Close(PORT), Fate::Done)
+        && does(near, 1002, OwnCall::Close(PORT), NOT_OPEN)
+        && does(near, 1003, OwnCall::Open(PORT), Fate::Done)
 }
 
 /// The station moves out of the area.
@@ -33,13 +42,13 @@ fn moves<S: LocationStore>(near: &mut Station<S>) -> bool {
     let Ok(place) = Place::new(100_000, 0) else {
         return false;
     };
-    let call = Call::MoveTo {
+    let call = OwnCall::MoveTo {
         place,
         pai: true,
         speed: -3,
         heading: 900,
     };
-    gives(near, 1012, call, Fate::Done)
+    does(near, 1012, call, Fate::Done)
 }
 
 /// The same frame comes inside of its area, again, and outside after a restart.
@@ -47,14 +56,14 @@ fn receives<S: LocationStore>(alloc: Global, near: &mut Station<S>) -> bool {
     gives_of_frame(alloc, near, 1010, &GEOBROADCAST, Fate::DeliveredAndRelayed)
         && gives_of_frame(alloc, near, 1011, &GEOBROADCAST, DUPLICATE)
         && moves(near)
-        && gives(near, 1013, Call::Restart(7), Fate::Done)
+        && does(near, 1013, OwnCall::Restart(7), Fate::Done)
         && gives_of_frame(alloc, near, 1014, &GEOBROADCAST, Fate::Relayed)
 }
 
 fn ticks<S: LocationStore>(near: &mut Station<S>) -> bool {
-    gives(near, 1999, Call::Tick(751), LONG_JITTER)
-        && gives(near, 2000, Call::Tick(0), Fate::Sent)
-        && gives(near, 2001, Call::Tick(0), Fate::Quiet)
+    does(near, 1999, OwnCall::Tick(751), LONG_JITTER)
+        && does(near, 2000, OwnCall::Tick(0), Fate::Sent)
+        && does(near, 2001, OwnCall::Tick(0), Fate::Quiet)
 }
 
 /// "hi" in a single hop.
@@ -68,7 +77,7 @@ fn sends_single_hop<S: LocationStore>(alloc: Global, near: &mut Station<S>) -> b
         class: TrafficClass::from_octet(0),
         payload,
     };
-    gives(near, 3000, Call::SendShb(single), Fate::Sent)
+    does(near, 3000, OwnCall::SendShb(single), Fate::Sent)
 }
 
 /// "hi" for the area, over at most so many hops.
@@ -89,9 +98,9 @@ fn sends<S: LocationStore>(alloc: Global, near: &mut Station<S>) -> Option<bool>
     let (broadcast, anycast) = (for_area(alloc, 10)?, for_area(alloc, 10)?);
     let hopless = for_area(alloc, 0)?;
     Some(
-        gives(near, 3001, Call::SendGeobroadcast(broadcast), Fate::Sent)
-            && gives(near, 3002, Call::SendGeoanycast(anycast), Fate::Sent)
-            && gives(near, 3003, Call::SendGeobroadcast(hopless), NO_HOP),
+        does(near, 3001, OwnCall::SendGeobroadcast(broadcast), Fate::Sent)
+            && does(near, 3002, OwnCall::SendGeoanycast(anycast), Fate::Sent)
+            && does(near, 3003, OwnCall::SendGeobroadcast(hopless), NO_HOP),
     )
 }
 

@@ -4,7 +4,7 @@ use crate::fates::{DUPLICATE, Fate, SHORT, are_fates, fate_of, gives, gives_of_f
 use crate::stations::{receiver, station_of};
 use crate::vectors::{GEOBROADCAST, beacon_of};
 use its_loctable::{LocationStore, OrderedTable, SortedTable};
-use its_station::{Call, Station};
+use its_station::{Call, OwnCall, Station};
 use std::alloc::Global;
 use std::process::Abort;
 use std::test::Fail;
@@ -23,7 +23,7 @@ fn is_so_with_others<S: LocationStore>(
     again: Vec<u8>,
 ) -> bool {
     let calls = [
-        (0, Call::Open(PORT)),
+        (0, Call::Own(OwnCall::Open(PORT))),
         (1010, Call::Receive(packet)),
         (1011, Call::Receive(junk)),
         (1012, Call::Receive(beacon)),
@@ -37,7 +37,7 @@ fn is_so_with_others<S: LocationStore>(
 /// The same of the packet and its copy alone.
 fn is_so_alone<S: LocationStore>(near: &mut Station<S>, packet: Vec<u8>, again: Vec<u8>) -> bool {
     let calls = [
-        (0, Call::Open(PORT)),
+        (0, Call::Own(OwnCall::Open(PORT))),
         (1010, Call::Receive(packet)),
         (1013, Call::Receive(again)),
     ];
@@ -57,7 +57,7 @@ fn frames_of<'a>(beacon: &'a [u8]) -> [(u64, &'a [u8], Fate); 4] {
 
 /// Whether the same comes of the same calls as with others, each in a run of its own.
 fn is_so_one_by_one<S: LocationStore>(alloc: Global, near: &mut Station<S>, beacon: &[u8]) -> bool {
-    if !gives(near, 0, Call::Open(PORT), Fate::Done) {
+    if !gives(near, 0, Call::Own(OwnCall::Open(PORT)), Fate::Done) {
         return false;
     }
     for (moment, octets, want) in frames_of(beacon) {

@@ -1,21 +1,22 @@
-//! Stations behind governors.
+//! Units, and the outcomes of their frames.
 
 use its_geometry::Area;
 use its_gnvalue::{GnAddress, Lifetime, Place, TrafficClass};
-use its_governor::{GovernedOutcome, Governor, Limits};
+use its_governor::Limits;
 use its_loctable::SortedTable;
 use its_station::{GbcRequest, Outcome, Station};
+use its_unit::UnitOutcome;
 use std::alloc::Global;
 use test_support::PORT;
 
-/// A station and its governor.
+/// A unit, and a station of its address that sends past the limits.
 #[derive(Drop)]
 pub(crate) struct Unit {
-    pub(crate) station: Station<SortedTable>,
-    pub(crate) governor: Governor,
+    pub(crate) unit: its_unit::Unit<SortedTable>,
+    pub(crate) unlimited: Station<SortedTable>,
 }
 
-/// What became of a frame.
+/// The outcome of a frame.
 #[derive(Drop)]
 pub(crate) struct Heard {
     pub(crate) delivered: bool,
@@ -43,32 +44,31 @@ impl Unit {
         let Ok(place) = Place::new(449, 0) else {
             return Err("place");
         };
-        let Ok(mut station) = Station::new(alloc, address, place, 64, 64) else {
-            return Err("no station");
+        let unlimited = station_at(alloc, address, place)?;
+        let station = station_at(alloc, address, place)?;
+        let Ok(mut unit) = its_unit::Unit::new(alloc, station, limits) else {
+            return Err("no unit");
         };
-        if station.open(0, PORT).is_err() {
+        if unit.open(0, PORT).is_err() {
             return Err("port");
         }
-        let Ok(governor) = Governor::new(alloc, limits) else {
-            return Err("no governor");
-        };
-        Ok(Unit { station, governor })
+        Ok(Unit { unit, unlimited })
     }
 
     /// Receives a frame.
     pub(crate) fn hear(&mut self, now: u64, octets: &[u8]) -> Heard {
-        match self.governor.receive(&mut self.station, now, octets) {
-            Ok(GovernedOutcome::Passed(Outcome::Accepted { handed, sent })) => Heard {
+        match self.unit.receive(now, octets) {
+            Ok(UnitOutcome::Passed(Outcome::Accepted { handed, sent })) => Heard {
                 delivered: handed.is_some(),
                 relay: sent,
                 repeated: false,
             },
-            Ok(GovernedOutcome::Repeated) => Heard::nothing(true),
-            Ok(GovernedOutcome::Passed(Outcome::Ignored(_))) | Err(_) => Heard::nothing(false),
+            Ok(UnitOutcome::Repeated) => Heard::nothing(true),
+            Ok(UnitOutcome::Passed(Outcome::Ignored(_))) | Err(_) => Heard::nothing(false),
         }
     }
 
-    /// Sends a geobroadcast over this many hops at time 0, past the governor.
+    /// Sends a geobroadcast over this many hops at time 0, past the limits.
     pub(crate) fn warn(&mut self, max_hops: u8) -> Option<Vec<u8>> {
         let area = Area::circle(Place::new(0, 0).ok()?, 100).ok()?;
         let request = GbcRequest {
@@ -80,6 +80,17 @@ impl Unit {
             area,
             payload: b"ice",
         };
-        self.station.send_geobroadcast(0, &request).ok()
+        self.unlimited.send_geobroadcast(0, &request).ok()
+    }
+}
+
+fn station_at(
+    alloc: Global,
+    address: GnAddress,
+    place: Place,
+) -> Result<Station<SortedTable>, &'static str> {
+    match Station::new(alloc, address, place, 64, 64) {
+        Ok(station) => Ok(station),
+        Err(_) => Err("no station"),
     }
 }

@@ -25,7 +25,7 @@ fn a_frame_passes_once_the_bucket_has_filled(rt: HostRuntime) -> Result<(), Fail
     assert!(rt; second.hear(1000, a.as_slice()).relay.is_some());
     assert!(rt; second.hear(1499, b.as_slice()).relay.is_none());
     assert!(rt; second.hear(1500, c.as_slice()).relay.is_some());
-    assert_eq!(rt; second.governor.counts().suppressed, 1);
+    assert_eq!(rt; second.unit.withheld().suppressed, 1);
     Ok(())
 }
 

@@ -50,7 +50,7 @@ returns g c =
     let inner = subst (λ r. IfOk r (λ r. reader_inner r ≡ c.args.input)) gave c.new.ensures.inner in
     let empty = subst (λ r. IfOk r (λ r. reader_buffer r ≡ [])) gave c.new.ensures.empty in
     let room = subst (λ r. IfOk r (λ r. reader_capacity r ≡ 8192)) gave c.new.ensures.capacity in
-    served c.args.config.now c.serve.new.station c.serve.new.counts _
+    served c.args.config.now c.serve.new.unit.station c.serve.new.unit.counts _
     (reader_remaining g.R.Read.remaining reader) (g.R.Read.remaining c.args.input) c.serve.result
     (all_left g.R.Read.remaining reader c.args.input inner empty room)
-    (c.serve.ensures (beginning c.args.config.now) (c.in_ok-station.ensures, c.new-3.ensures) tt)
+    (c.serve.ensures (beginning c.args.config.now) (c.in_ok-unit.ensures.station, c.in_ok-unit.ensures.counts) tt)

@@ -6,17 +6,17 @@ pub returns-in-Ok-clause-step : goal.returns-in-Ok-clause-step
 returns-in-Ok-clause-step c = (
   Came c.in-Ok.verified,
   c.in-Ok.ensures.found,
-  c.receive_verified_frame.ensures.step,
+  c.receive_unlimited.ensures.step,
 )
 
 pub returns-in-Ok-clause-payload : goal.returns-in-Ok-clause-payload
 returns-in-Ok-clause-payload c =
     verified_end c.in-Ok.verified c.args.frame.now c.args.plain.now c.in-Ok.ensures.found
-    c.receive_verified_frame.result c.receive_verified_frame.ensures.payload
+    c.receive_unlimited.result c.receive_unlimited.ensures.payload
 
 pub returns-in-Err-clause-step : goal.returns-in-Err-clause-step
 returns-in-Err-clause-step c = (
   Faulty c.in-Err.fault,
   c.in-Err.ensures.fault,
-  c.refuse_secured.ensures.step,
+  c.refuse_secured.ensures.station,
 )

@@ -8,12 +8,12 @@ use Rattle.cmd_pipe.proofs.receiving.receive_verified.Goals.{in-Ok, in-Err}
 pub returns-clause-tells : goal.returns-clause-tells
 returns-clause-tells c = λ s rep. elim c.match-reserve.branch [
   | in-Ok w ↦ told_verified s c.args.id c.args.at c.args.octets.now c.match-reserve.answer.0
-      c.in_ok-reply.reply c.filter.result c.args.station.now c.match-reserve.station
-      c.args.counts.now c.note_received.new.self rep (search rules)
+      c.in_ok-reply.reply c.filter.result c.args.unit.now.station c.match-reserve.unit.station
+      c.args.unit.now.counts c.match-reserve.unit.counts rep (search rules)
       (λ call after step is. heard_tells (sealed_by call) c.in_ok-reply.reply
       c.match-reserve.answer.0 after step c.in_ok-reply.ensures.same is)
       (λ k. heard_counts c.in_ok-reply.reply c.match-reserve.answer.0 k c.in_ok-reply.ensures.same)
-      c.note_received.ensures
+      (search rules)
   | in-Err w ↦ absurd (heard_memory c.in_ok-reply.reply c.match-reserve.answer.0
       c.in_ok-reply.ensures.same (search rules))
 ]

@@ -8,7 +8,7 @@ use Rattle.cmd_pipe.proofs.serving.serve.Given as goal
 abbrev pub invariant-loop-number : goal.invariant-loop-number
 invariant-loop-number g l =
     (l.line.most ≡ 65536)
-    × ((s : Counted) → RepresentsCounted l.fn.station l.fn.counts s
+    × ((s : Counted) → RepresentsCounted l.fn.unit.station l.fn.unit.counts s
     → g.S.ResponseSink.Took l.fn.sink []
-    → Serving s l.number l.station l.counts l.ended (g.S.ResponseSink.Took l.sink)
+    → Serving s l.number l.unit.station l.unit.counts l.ended (g.S.ResponseSink.Took l.sink)
     (g.R.Read.remaining l.fn.reader) (g.R.Read.remaining l.reader))

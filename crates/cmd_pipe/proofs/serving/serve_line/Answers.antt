@@ -17,10 +17,10 @@ returns-in-Some g c = λ s log rep took was.
     let sink = g.S.ResponseSink.Took c.hand_on.new.sink in
     let told = subst (λ (o : Option Response). (next : Counted)
     × TellsAsked s c.args.number c.in_ok-asked.asked.id c.in_ok-asked.asked.request (told_in o) next
-    × RepresentsCounted c.respond.new.station c.respond.new.counts next) c.in-Some.is
+    × RepresentsCounted c.respond.new.unit.station c.respond.new.unit.counts next) c.in-Some.is
     (c.in_ok-response.ensures.tells s rep) in
     line_told c.hand_on.result s c.args.number (text_of c.args.line.now) log c.in-Some.response
-    c.respond.new.station c.respond.new.counts c.args.ended sink (
+    c.respond.new.unit.station c.respond.new.unit.counts c.args.ended sink (
       told.0,
       line_tells None s c.args.number (line_of c.start.result.now c.passed.result.any)
           (text_of c.args.line.now) c.in_ok-asked.asked (told_in (Some c.in-Some.response)) told.0
@@ -36,10 +36,10 @@ returns-in-None g c = λ s log rep took was.
     ∙ ap (λ (p : Passed). line_of (text_of c.args.line.now).octets p.any) c.passed.ensures in
     let told = subst (λ (o : Option Response). (next : Counted)
     × TellsAsked s c.args.number c.in_ok-asked.asked.id c.in_ok-asked.asked.request (told_in o) next
-    × RepresentsCounted c.respond.new.station c.respond.new.counts next) c.in-None.is
+    × RepresentsCounted c.respond.new.unit.station c.respond.new.unit.counts next) c.in-None.is
     (c.in_ok-response.ensures.tells s rep) in
-    line_quiet s c.args.number (text_of c.args.line.now) log c.respond.new.station
-    c.respond.new.counts c.args.ended (g.S.ResponseSink.Took c.args.sink.now) (
+    line_quiet s c.args.number (text_of c.args.line.now) log c.respond.new.unit.station
+    c.respond.new.unit.counts c.args.ended (g.S.ResponseSink.Took c.args.sink.now) (
       told.0,
       line_tells None s c.args.number (line_of c.start.result.now c.passed.result.any)
           (text_of c.args.line.now) c.in_ok-asked.asked (told_in None) told.0 line

@@ -2,21 +2,21 @@ use Rattle.std.proofs.Common.{rules}
 use mir.Syntax.{w16}
 use mir.Val.{to_z, of_z}
 use Rattle.std.specs.Prelude.{not, nat_eq}
-use Rattle.its_model.specs.Calls.{Own, Moved}
+use Rattle.its_model.specs.Calls.{Moved}
 use Rattle.its_model.specs.Calls.OwnCall.{Move}
-use Rattle.its_model.specs.Station.{station_step}
 use Rattle.its_station.specs.Steps.{Says}
+use Rattle.its_unit.specs.Unit.{unit_step, Own}
+use Rattle.its_unit.specs.Steps.{SaysPassed}
 use Rattle.its_c.proofs.Opens.{stays_open}
 use Rattle.its_c.proofs.calls.geostation_move.Goals as goal
 
 pub invariant_of-s : goal.invariant_of-s
 invariant_of-s c =
     record {
-      represents = stays_open (Says Moved) c.move_to-said.result c.deref_mut.result.now
+      represents = stays_open (SaysPassed (Says Moved)) c.move_to-said.result c.deref_mut.result.now
           c.move_to-said.new.self
-          (λ m. station_step m c.args.now (Own (Move c.in-Ok.place (not (nat_eq c.args.accurate 0))
-          (to_z w16 (of_z w16 c.args.speed)) c.args.heading))) c.args.s.now.held.station
-          c.put.new.self.station c.move_to-said.ensures.step c.move_to-said.ensures.unchanged
+          (λ u. unit_step u c.args.now (Own (Move c.in-Ok.place (not (nat_eq c.args.accurate 0))
+          (to_z w16 (of_z w16 c.args.speed)) c.args.heading))) c.args.s.now.held.unit
+          c.put.new.self.unit c.move_to-said.ensures.step c.move_to-said.ensures.unchanged
           (search rules) (search rules) c.args.s.now.represents;
-      governs = c.args.s.now.governs;
     }

@@ -1,6 +1,7 @@
 use Rattle.std.proofs.Common.{rules}
 use Rattle.its_gnvalue.specs.Values.{IsIndividual, IsLatitude, IsLongitude}
-use Rattle.its_c.specs.Configs.{HasSizes, HasLimits}
+use Rattle.its_governor.specs.Forwarding.{AreRemembered}
+use Rattle.its_c.specs.Configs.{HasSizes, HasLimits, limits_of}
 use Rattle.its_c.proofs.heap.geostation_new_from_config.Goals as goal
 
 pub returns-in_default-make-clause-taken : goal.returns-in_default-make-clause-taken
@@ -11,7 +12,8 @@ returns-in_default-make-clause-taken c = λ other.
     let latitude : IsLatitude config.latitude = search rules in
     let longitude : IsLongitude config.longitude = search rules in
     let limits : HasLimits config = search rules in
-    (sizes, individual, latitude, longitude, limits)
+    let kept : AreRemembered (limits_of config).forward (limits_of config).source = search rules in
+    (sizes, individual, latitude, longitude, limits, kept)
 
 pub returns-clause-taken : goal.returns-clause-taken
 returns-clause-taken c = λ other.
@@ -21,4 +23,5 @@ returns-clause-taken c = λ other.
     let latitude : IsLatitude config.latitude = search rules in
     let longitude : IsLongitude config.longitude = search rules in
     let limits : HasLimits config = search rules in
-    (sizes, individual, latitude, longitude, limits)
+    let kept : AreRemembered (limits_of config).forward (limits_of config).source = search rules in
+    (sizes, individual, latitude, longitude, limits, kept)

@@ -27,7 +27,7 @@ use Rattle.std.proofs.cell.Inside.{one}
 use Rattle.std.proofs.raw_atomic.Walks.{proved_at, leaves}
 use Rattle.its_c.specs.Handles.{handle_owns}
 use Rattle.its_c.proofs.Values.{both}
-use Rattle.its_c.proofs.StationPtrs.{Z, LZ, RawHandle, ptr_good, both_good, handle_of}
+use Rattle.its_c.proofs.UnitPtrs.{Z, LZ, RawHandle, ptr_good, both_good, handle_of}
 use Rattle.its_c.specs.contracts.heap.release as g
 use Rattle.its_c.proofs.heap.release.Met.{met}
 use Rattle.its_c.specs.contracts.heap.geostation_release.{ended, clauses}

@@ -5,7 +5,6 @@ use Rattle.its_c.proofs.queries.geostation_beacon_at.Goals as goal
 pub invariant_of-s : goal.invariant_of-s
 invariant_of-s c =
     record {
-      represents = still_open c.args.s.now.held.station c.put.new.self.station
-          c.take-station.result.value (search rules) (search rules) c.args.s.now.represents;
-      governs = c.args.s.now.governs;
+      represents = still_open c.args.s.now.held.unit c.put.new.self.unit
+          c.take-unit.result.value (search rules) (search rules) c.args.s.now.represents;
     }

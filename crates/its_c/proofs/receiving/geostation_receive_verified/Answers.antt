@@ -1,70 +1,98 @@
-use Rattle.std.proofs.Common.{◌≡◌, rules, sym, ap, ◌∙◌, subst, Some, false}
-use Rattle.its_station.specs.Receiving.{TellsBy, sealed_by, verified_step}
-use mir.Syntax.{w32}
-use mir.Val.{to_z, of_z}
-use Rattle.its_c.specs.Status.{status_in}
-use Rattle.its_station.specs.Steps.{IsStepOf}
-use Rattle.its_governor.specs.declared.governor.Governor.{Governor}
-use Rattle.its_governor.specs.Governing.{after_call, governed_verified_step, verified_frame}
-use Rattle.std.specs.Prelude.{OnOk}
-use Rattle.its_c.specs.Told.{governed_verified_reception}
-use Rattle.its_c.proofs.Repeats.{shown_as}
-use Rattle.its_c.proofs.Limits.{same_governor, ok_fact, ok_of_status, err_part}
-use Rattle.its_c.proofs.Opens.{held_model, is_there, stays_open}
+use Rattle.std.proofs.Common.{refl, rules, subst, sym, Err}
+use Rattle.its_model.specs.Calls.Call.{Receive as IsReceived}
+use Rattle.its_station.specs.Receiving.{EncodesSealed, TellsBy}
+use Rattle.its_station.specs.Receiving.VerifiedCall.{Came, Faulty}
+use Rattle.its_unit.specs.Unit.{unit_step, Receive}
+use Rattle.its_unit.specs.Steps.{TellsUnit, counted_received}
+use Rattle.its_unit.proofs.Passing.{verified_passed_end}
+use Rattle.its_c.specs.Told.{IsHeard, ShowsReceived}
+use Rattle.its_c.specs.declared.layout.Reception.{Reception}
+use Rattle.its_c.proofs.Opens.{counts_held, held_unit, same_open, stays_open}
 use Rattle.its_c.proofs.receiving.geostation_receive_verified.Goals as goal
 
 pub invariant_of-s : goal.invariant_of-s
 invariant_of-s c =
-    let call = c.hear_verified-said.ensures.step.0 in
+    let v = c.in-Ok.verified in
     record {
-      represents = stays_open (TellsBy (sealed_by call)) c.hear_verified-said.result
-          c.deref_mut.result.now c.hear_verified-said.new.station
-          (λ m. governed_verified_step c.deref_mut-2.result.now c.args.now call
-          (verified_step m c.args.now call)) c.args.s.now.held.station
-          c.put-2.new.self.station (λ m rep. (c.hear_verified-said.ensures.step.2 m rep).0)
-          (err_part c.hear_verified-said.result _ _ c.hear_verified-said.ensures.unchanged)
-          (search rules) (search rules) c.args.s.now.represents;
-      governs = is_there c.put.new.self.value c.hear_verified-said.new.governor (search rules);
+      represents = stays_open (TellsUnit (TellsBy (EncodesSealed v.message)))
+          c.receive_frame-said.result c.deref_mut.result.now c.receive_frame-said.new.self
+          (λ u. unit_step u c.args.now (Receive (IsReceived v.frame))) c.args.s.now.held.unit
+          c.put.new.self.unit c.receive_frame-said.ensures.step
+          c.receive_frame-said.ensures.unchanged (search rules) (search rules)
+          c.args.s.now.represents;
     }
 
-pub returns-clause-step : goal.returns-clause-step
-returns-clause-step c = λ long.
-    let found = c.hear_verified-said.ensures.step in
-    let call = found.0 in
-    let said = c.hear_verified-said.result in
-    let h = c.deref_mut-2.result.now in (
-      call,
-      found.1,
-      λ m g model has. let rep = held_model c.args.s.now.held.station c.deref_mut.result.now m
-          (search rules) model in
-          let done = found.2 m rep in
-          let step = verified_step m c.args.now call in
-          let same = same_governor c.args.s.now.governor.value h g (search rules) has in (
-            record {
-              said = said;
-              after = c.hear_verified-said.new.station;
-              held = search rules;
-              done = subst (λ (x : Governor). IsStepOf (TellsBy (sealed_by call)) said
-                  c.hear_verified-said.new.station (governed_verified_step x c.args.now call step))
-                  same done.0;
-              code = search rules;
-              shown = shown_as said c.args.plain.now c.hear_verified-said.new.heard
-                  (governed_verified_reception g c.args.now call step.answer)
-                  c.told_outcome.new.reception c.told_outcome.new.relay
-                  (subst (λ (x : Governor). OnOk said (c.hear_verified-said.new.heard
-                  ≡ governed_verified_reception x c.args.now call step.answer)) same done.2)
-                  c.told_outcome.ensures.shown;
-              counts = search rules;
-            },
-            λ zero.
-                let code : to_z w32 (of_z w32 c.told_outcome.result) ≡ status_in said =
-                search rules in
-                let put : c.put.new.self.value ≡ Some c.hear_verified-said.new.governor =
-                search rules in
-                put
-                ∙ ap (λ (x : Governor). Some x)
-                (ok_fact said _ (ok_of_status said (sym code ∙ zero)) done.1)
-                ∙ ap (λ (x : Governor). Some (after_call x c.args.now false (verified_frame call)
-                step.answer)) same,
-          ),
+pub told_outcome-requires-clause-heard : goal.told_outcome-requires-clause-heard
+told_outcome-requires-clause-heard c =
+    subst (λ (r : Reception). IsHeard r)
+    (sym (c.reception_of_packet-heard.ensures c.in-Ok.verified.frame c.packet.ensures)) refl
+
+pub told_outcome-requires-clause-end : goal.told_outcome-requires-clause-end
+told_outcome-requires-clause-end c =
+    verified_passed_end c.in-Ok.verified c.args.frame.now c.args.plain.now c.in-Ok.ensures.found
+    c.receive_frame-said.result c.receive_frame-said.ensures.payload
+
+pub returns-in-Ok-clause-step : goal.returns-in-Ok-clause-step
+returns-in-Ok-clause-step c = λ long.
+    let v = c.in-Ok.verified in
+    let said = c.receive_frame-said.result in (
+      Came v,
+      c.in-Ok.ensures.found,
+      λ u holds.
+          let rep = held_unit c.args.s.now.held.unit c.deref_mut.result.now u (search rules) holds in
+          record {
+            said = said;
+            after = c.receive_frame-said.new.self;
+            held = search rules;
+            done = c.receive_frame-said.ensures.step u rep;
+            code = search rules;
+            shown = subst (λ (r : Reception). ShowsReceived c.args.plain.now r
+                c.told_outcome.new.reception c.told_outcome.new.relay said)
+                (c.reception_of_packet-heard.ensures v.frame c.packet.ensures)
+                c.told_outcome.ensures.shown;
+            counts = counts_held counted_received said c.args.s.now.held.unit c.put.new.self.unit
+                c.deref_mut.result.now c.receive_frame-said.new.self (search rules) (search rules)
+                c.receive_frame-said.ensures.counts;
+          },
+    )
+
+pub returns-in-Ok-clause-memory : goal.returns-in-Ok-clause-memory
+returns-in-Ok-clause-memory c = λ is. (
+  c.in-Ok.verified,
+  c.in-Ok.ensures.found,
+  λ u holds.
+      let rep = held_unit c.args.s.now.held.unit c.deref_mut.result.now u (search rules) holds in
+      c.receive_frame-said.ensures.memory u.station rep.station (c.told_outcome.ensures.memory
+      (search rules)),
+)
+
+pub invariant_of-s-in-Err : goal.invariant_of-s-in-Err
+invariant_of-s-in-Err c =
+    record {
+      represents = same_open c.deref_mut-in-Err.result.now c.refuse_secured-refused.new.self
+          c.args.s.now.held.unit c.put-in-Err.new.self.unit
+          c.refuse_secured-refused.ensures.unchanged (search rules) (search rules)
+          c.args.s.now.represents;
+    }
+
+pub returns-in-Err-clause-step : goal.returns-in-Err-clause-step
+returns-in-Err-clause-step c = λ long.
+    let refused = c.refuse_secured-refused.result in (
+      Faulty c.in-Err.fault,
+      c.in-Err.ensures.fault,
+      λ u holds.
+          let rep = held_unit c.args.s.now.held.unit c.deref_mut-in-Err.result.now u (search rules)
+          holds in
+          record {
+            said = Err refused;
+            after = c.refuse_secured-refused.new.self;
+            held = search rules;
+            done = c.refuse_secured-refused.ensures.step u rep;
+            code = search rules;
+            shown = c.told_outcome-in-Err.ensures.shown;
+            counts = counts_held counted_received (Err refused) c.args.s.now.held.unit
+                c.put-in-Err.new.self.unit c.deref_mut-in-Err.result.now
+                c.refuse_secured-refused.new.self (search rules) (search rules)
+                c.refuse_secured-refused.ensures.counts;
+          },
     )

@@ -1,57 +1,43 @@
-use Rattle.std.proofs.Common.{rules, sym, Option, subst, ℕ}
+use Rattle.std.proofs.Common.{◌≡◌, ℕ, rules, subst}
+use Rattle.its_headers.specs.declared.kind.Kind.TheVariants as kinds
 use Rattle.its_model.specs.Calls.{ShbRequest}
-use Rattle.its_station.specs.Beside.{send_shb_for_step}
-use Rattle.its_station.specs.Requests.{TellsSent, shb_request}
-use Rattle.its_station.specs.Steps.{IsStepOf}
-use Rattle.its_c.specs.Arguments.{shb_asked}
-use Rattle.its_station.specs.State.{StationState}
-use Rattle.its_c.specs.Open.{HoldsModel, IsOpen}
-use Rattle.its_c.proofs.Opens.{held_model, stays_open}
+use Rattle.its_station.specs.Requests.{shb_request}
+use Rattle.its_unit.specs.Unit.{unit_step, SendShbFor}
+use Rattle.its_unit.specs.Steps.{IsSendOf, counted_request}
+use Rattle.its_c.proofs.Opens.{counts_held, held_unit, sends_open}
 use Rattle.its_c.proofs.sending.geostation_send_shb_with_lifetime.Goals as goal
 
 pub invariant_of-s : goal.invariant_of-s
 invariant_of-s c =
+    let asked = shb_request c.single_hop_request-r.result in
     record {
-      represents = subst IsOpen (sym c.is_over_rate.ensures.unchanged) c.args.s.now.represents;
-      governs = c.is_over_rate.ensures.governs;
-    }
-
-pub take-station-requires : goal.take-station-requires
-take-station-requires c =
-    subst IsOpen (sym c.is_over_rate.ensures.unchanged) c.args.s.now.represents
-
-pub invariant_of-s-2 : goal.invariant_of-s-2
-invariant_of-s-2 c =
-    record {
-      represents = stays_open (TellsSent) c.send_shb_for-said.result c.deref_mut.result.now
+      represents = sends_open c.send_shb_for-said.result c.deref_mut.result.now
           c.send_shb_for-said.new.self
-          (λ m. send_shb_for_step m c.args.now c.from_octet.result (shb_request
-          c.single_hop_request-r.result)) c.is_over_rate.new.held.station
-          c.put.new.self.station c.send_shb_for-said.ensures.step
-          c.send_shb_for-said.ensures.unchanged
-          (search rules) (search rules)
-          (subst IsOpen (sym c.is_over_rate.ensures.unchanged) c.args.s.now.represents);
-      governs = c.note_sent.ensures.governs;
+          (λ u. unit_step u c.args.now (SendShbFor c.from_octet.result asked))
+          c.args.s.now.held.unit c.put.new.self.unit c.send_shb_for-said.ensures.step
+          c.send_shb_for-said.ensures.unchanged (search rules) (search rules)
+          c.args.s.now.represents;
     }
 
 pub returns-clause-step : goal.returns-clause-step
-returns-clause-step c = λ m long model limited.
-    let rep = held_model c.is_over_rate.new.held.station c.deref_mut.result.now m (search rules)
-    (subst (λ (h : Option StationState). HoldsModel h m) (sym c.is_over_rate.ensures.unchanged) model) in
+returns-clause-step c = λ u long holds.
     let said = c.send_shb_for-said.result in
-    let new = c.send_shb_for-said.new.self in
-    let asked = subst (λ (r : ShbRequest).
-    IsStepOf TellsSent said new (send_shb_for_step m c.args.now c.from_octet.result r))
-    c.single_hop_request-r.ensures (c.send_shb_for-said.ensures.step m rep) in
-    let done = subst (λ (k : ℕ). IsStepOf TellsSent said new
-    (send_shb_for_step m c.args.now k (shb_asked c.args.request.now c.args.payload.now)))
-    c.from_octet.ensures asked in
+    let after = c.send_shb_for-said.new.self in
+    let rep = held_unit c.args.s.now.held.unit c.deref_mut.result.now u (search rules) holds in
+    let same : c.from_octet.result ≡ c.args.lifetime = search rules in
     record {
       said = said;
-      after = new;
+      after = after;
       held = search rules;
-      done = done;
+      done = subst (λ (asked : ShbRequest). IsSendOf said after
+          (unit_step u c.args.now (SendShbFor c.args.lifetime asked)))
+          c.single_hop_request-r.ensures
+          (subst (λ (l : ℕ). IsSendOf said after (unit_step u c.args.now
+          (SendShbFor l (shb_request c.single_hop_request-r.result)))) same
+          (c.send_shb_for-said.ensures.step u rep));
       code = search rules;
       shown = c.told_frame.ensures.shown;
-      counts = search rules;
+      counts = counts_held (counted_request kinds.Shb) said c.args.s.now.held.unit
+          c.put.new.self.unit c.deref_mut.result.now after (search rules)
+          (search rules) c.send_shb_for-said.ensures.counts;
     }

@@ -13,10 +13,10 @@ pub returns-in-Some-clause-step : goal.returns-in-Some-clause-step
 returns-in-Some-clause-step c = (
   Receive c.new.result,
   c.new.ensures,
-  c.receive_known.ensures.step,
+  c.receive_frame.ensures.step,
 )
 
 pub returns-in-Some-clause-payload : goal.returns-in-Some-clause-payload
 returns-in-Some-clause-payload c =
-    delivered_end c.new.result c.args.frame.now c.new.ensures c.receive_known.result
-    c.receive_known.ensures.payload
+    delivered_end c.new.result c.args.frame.now c.new.ensures c.receive_frame.result
+    c.receive_frame.ensures.payload

@@ -1,6 +1,6 @@
 use Rattle.std.proofs.Common.{List, [], ◌∷◌, ◌++◌, subst, ap, ◌∙◌}
 use Rattle.its_model.specs.World.{Event, WorldModel, opening, world_run, entries}
-use Rattle.its_world.specs.declared.entry.Entry.{Entry}
+use Rattle.its_world.specs.Entries.{Entry}
 use Rattle.its_world.specs.Events.{event_of}
 use Rattle.sim_simulation.specs.Records.{happening_in}
 use Rattle.sim_simulation.proofs.Told.{told_more}

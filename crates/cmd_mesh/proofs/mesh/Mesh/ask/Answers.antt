@@ -1,7 +1,7 @@
 use Rattle.std.proofs.Common.{ℕ, ◌+◌, ◌<◌, arith, sym, subst, add_assoc}
 use Rattle.std.proofs.Common.{rules, ◌∙◌}
 use Rattle.std.specs.Prelude.{slice_get}
-use Rattle.its_station.specs.declared.run.Call.TheVariants.{Receive}
+use Rattle.its_station.specs.declared.call.Call.TheVariants.{Receive}
 use Rattle.its_world.proofs.Worlds.{length_stations}
 use Rattle.cmd_mesh.specs.Calls.{mesh_run}
 use Rattle.cmd_mesh.specs.Stations.{IsNoted, IsCutShort}

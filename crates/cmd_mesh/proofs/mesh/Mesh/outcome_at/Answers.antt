@@ -1,11 +1,10 @@
 use Rattle.std.proofs.Common.{rules, ◌≡◌, ◌<◌, ◌≤◌, length, set, refl, sym, ap, subst, ◌∙◌}
 use Rattle.std.proofs.Common.{[], Option, arith, Bool, true, false, not}
 use Rattle.its_model.specs.Station.{StationModel}
-use Rattle.its_station.specs.Runs.{is_refusal}
+use Rattle.its_station.specs.Runs.{is_refusal, reply_of}
 use Rattle.its_station.specs.State.{StationState, RepresentsStation}
 use Rattle.its_model.specs.World.{WorldModel}
 use Rattle.its_world.specs.State.{WorldState, RepresentsWorld}
-use Rattle.its_world.specs.declared.entry.Entry.{Entry}
 use Rattle.its_world.specs.Entries.{was_done}
 use Rattle.its_world.proofs.Logs.{get_or_is, station_at}
 use Rattle.its_world.proofs.Worlds.{length_stations, no_station}
@@ -24,10 +23,9 @@ returns-then-station-len-clause-called g c = λ models represent. (
     let j = c.args.station in
     let size = length_stations old models represent in
     let past : length models ≤ j = search (rules, size) in
-    subst (λ (found : Option StationModel). IsCalled old found j c.args.moment c.args.call
-    (not (was_done c.told.result.entry)) old)
+    subst (λ (found : Option StationModel). IsCalled old found j c.args.moment c.args.call true old)
     (sym (no_station models j past))
-    (refl, ap (λ (e : Entry). not (was_done e)) c.told.ensures.entry))
+    (refl, refl))
 
 pub returns-clause-called : goal.returns-clause-called
 returns-clause-called g c = λ models represent. (
@@ -44,18 +42,17 @@ returns-clause-called g c = λ models represent. (
     let is : own ≡ at.0 = c.index_mut.ensures.value ∙ get_or_is old j at.0 own at.1 in
     let stands = subst (λ (x : StationState). RepresentsStation x at.2) (sym is) at.4 in
     subst (λ (found : Option StationModel). IsCalled old found j c.args.moment c.args.call
-    (not (was_done c.of_reply.result.entry)) (set old j state))
+    (not (was_done c.entry_of.result.0)) (set old j state))
     (sym at.3) (
-      c.in_ok-reply.reply,
+      reply_of c.in_ok-answer.answer,
       state,
-      c.in_ok-reply.ensures.done at.2 stands,
-      ap not (c.of_reply.ensures.refused c.done_entry-done.ensures)
-          ∙ twice (is_refusal c.in_ok-reply.reply),
+      c.in_ok-answer.ensures.done at.2 stands,
+      ap not c.entry_of.ensures.refused ∙ twice (is_refusal (reply_of c.in_ok-answer.answer)),
       refl,
     ))
 
-pub returns-in_err-reply-clause-unmade : goal.returns-in_err-reply-clause-unmade
-returns-in_err-reply-clause-unmade g c = λ models represent. (
+pub returns-in_err-answer-clause-unmade : goal.returns-in_err-answer-clause-unmade
+returns-in_err-answer-clause-unmade g c = λ models represent. (
     let old = c.args.self.now.stations.items in
     let j = c.args.station in
     let own = c.index_mut.result.now in
@@ -68,4 +65,5 @@ returns-in_err-reply-clause-unmade g c = λ models represent. (
     let is : own ≡ at.0 = c.index_mut.ensures.value ∙ get_or_is old j at.0 own at.1 in
     let stands = subst (λ (x : StationState). RepresentsStation x at.2) (sym is) at.4 in
     on_err _ (station_stays old models j c.answer.new.station at.2 represent at.3
-    (c.in_err-reply.ensures.unmade at.2 stands)))
+    (subst (λ (x : StationState). RepresentsStation x at.2) (sym c.in_err-answer.ensures.unmade)
+    stands)))

@@ -23,7 +23,7 @@ use Rattle.std.specs.Prelude.{None}
 use Rattle.std.proofs.cell.Inside.{one}
 use Rattle.std.proofs.raw_atomic.Walks.{proved_at, leaves}
 use Rattle.its_c.proofs.Values.{both}
-use Rattle.its_c.proofs.StationPtrs.{Z, LZ, HandleOut, ptr_good, both_good, handle_out_in}
+use Rattle.its_c.proofs.UnitPtrs.{Z, LZ, HandleOut, ptr_good, both_good, handle_out_in}
 use Rattle.its_c.specs.contracts.handle_out.HandleOut.none.{ended, clauses}
 use Rattle.its_c.specs.contracts.handle_out.HandleOut.none.Key.{name as #self}
 use Rattle.its_c.proofs.handle_out.HandleOut.none.Statement.{statement}

@@ -19,7 +19,7 @@ use denote.Triple.Walked.{Stays, stay_dropped, walk_of, Goes-dropped}
 use Rattle.std.specs.Prelude.{Some}
 use Rattle.std.proofs.raw_atomic.Walks.{proved_at, leaves}
 use Rattle.its_c.proofs.Values.{both}
-use Rattle.its_c.proofs.StationPtrs.{HandleOut, RawHandle, ptr_good, both_good, handle_out_in, handle_raw_boxed}
+use Rattle.its_c.proofs.UnitPtrs.{HandleOut, RawHandle, ptr_good, both_good, handle_out_in, handle_raw_boxed}
 use Rattle.its_c.specs.contracts.handle_out.HandleOut.of.{ended, clauses}
 use Rattle.its_c.specs.contracts.handle_out.HandleOut.of.Key.{name as #self}
 use Rattle.its_c.proofs.handle_out.HandleOut.of.Statement.{statement}

@@ -2,25 +2,25 @@ use Rattle.std.proofs.Common.{◌≡◌}
 use Rattle.its_model.specs.Calls.{Receive}
 use Rattle.its_model.specs.Station as station
 use Rattle.its_model.specs.Station.{StationModel, verdict}
-use Rattle.its_linkframe.specs.Frames.{EncodesFrame, transmission_of}
-use Rattle.its_station.specs.Receiving.{Tells, TakesMemory}
+use Rattle.its_station.specs.Receiving.{TellsBy, TakesMemory}
 use Rattle.its_station.proofs.Stations.{at_model}
 use Rattle.its_station.proofs.Hearing.{moment_exit, heard}
 use Rattle.its_station.proofs.station.Station.receive_frame.Goals as goal
 
 pub returns-in_err-check_moment-clause-step : goal.returns-in_err-check_moment-clause-step
 returns-in_err-check_moment-clause-step g c =
-    moment_exit Tells c.args.self.now c.args.now (Receive (transmission_of c.args.frame.now)) _
+    moment_exit (TellsBy (g.F.ReceivedFrame.Encodes c.args.frame.now)) c.args.self.now c.args.now
+    (Receive (g.F.ReceivedFrame.frame c.args.frame.now)) _
     c.from_residual.result c.from_residual.ensures.1 c.in_err-check_moment.ensures.refusal
 
 pub returns-clause-step : goal.returns-clause-step
 returns-clause-step g c =
-    heard EncodesFrame c.hear.result c.args.self.now c.hear.new.self c.args.now
-    (transmission_of c.args.frame.now) c.hear.ensures.step
+    heard (g.F.ReceivedFrame.Encodes c.args.frame.now) c.hear.result c.args.self.now c.hear.new.self c.args.now
+    (g.F.ReceivedFrame.frame c.args.frame.now) c.hear.ensures.step
 
 pub returns-clause-memory : goal.returns-clause-memory
 returns-clause-memory g c = λ s rep e.
-    let t = transmission_of c.args.frame.now in
+    let t = g.F.ReceivedFrame.frame c.args.frame.now in
     at_model c.args.self.now
     (λ (m : StationModel). (verdict m c.args.now t ≡ station.Verdict.Accept)
     × TakesMemory m c.args.now t)

@@ -3,7 +3,7 @@ use Rattle.std.proofs.Common.{subst, ◌∙◌, length-append}
 use Rattle.std.proofs.lemmas.List.{take_more, map-append}
 use Rattle.its_model.specs.World.{Event as Happening}
 use Rattle.its_world.specs.declared.event.Event.{Event}
-use Rattle.its_world.specs.declared.entry.Entry.{Entry}
+use Rattle.its_world.specs.Entries.{Entry}
 use Rattle.its_world.specs.Events.{event_of, what_of}
 use Rattle.its_world.specs.Steps.{IsKept}
 use Rattle.its_world.specs.Runs.{IsRunOf}

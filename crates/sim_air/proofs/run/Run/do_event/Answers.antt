@@ -2,8 +2,8 @@ use Rattle.std.proofs.Common.{[], ◌∷◌, ◌++◌, sym, subst, ◌∙◌}
 use Rattle.its_world.specs.Events.{event_of}
 use Rattle.its_world.specs.State.{WorldState}
 use Rattle.sim_simulation.specs.Simulated.{IsSimulated}
-use Rattle.sim_air.proofs.run.Run.do_event.Goals.{in-Some-frame+in_ok-schedule_frame}
-use Rattle.sim_air.proofs.run.Run.do_event.Goals.{in_default-frame}
+use Rattle.sim_air.proofs.run.Run.do_event.Goals.{in-Some-frame_of+in_ok-schedule_frame}
+use Rattle.sim_air.proofs.run.Run.do_event.Goals.{in_default-frame_of}
 use Rattle.sim_air.proofs.run.Run.do_event.Goals as goal
 use Rattle.std.proofs.Common.{◌≡◌, ap, List, ℕ, Option, Some, Bool}
 use Rattle.std.specs.Prelude.{Vec}
@@ -20,15 +20,15 @@ pub returns-clause-run : goal.returns-clause-run
 returns-clause-run g c = λ configs events before.
     let e = event_of c.args.event.now in
     let done = c.in_ok-entry.ensures.run configs events before in
-    elim c.match-frame.branch [
-      | in-Some-frame+in_ok-schedule_frame w ↦ rw w.self-is (rw w.sink-is (
+    elim c.match-frame_of.branch [
+      | in-Some-frame_of+in_ok-schedule_frame w ↦ rw w.self-is (rw w.sink-is (
           subst (λ (x : WorldState). IsSimulated configs (events ++ e ∷ []) x
           (g.S.EventSink.Took w.schedule_frame.new.sink))
           (sym (w.schedule_frame.ensures.world.world ∙ c.update_place.ensures.world))
           (told_on configs (events ++ e ∷ []) c.do_event.new.world
           (g.S.EventSink.Took c.do_event.new.sink) (g.S.EventSink.Took w.schedule_frame.new.sink)
           w.in_ok-schedule_frame.ensures.told done)))
-      | in_default-frame w ↦ rw w.self-is (rw w.sink-is (
+      | in_default-frame_of w ↦ rw w.self-is (rw w.sink-is (
           subst (λ (x : WorldState). IsSimulated configs (events ++ e ∷ []) x
           (g.S.EventSink.Took c.do_event.new.sink)) (sym c.update_place.ensures.world) done))
     ]
@@ -61,17 +61,18 @@ returns-clause-spread g c = λ rules configs events t goes_by before keeps.
     (subst (λ (ws : List ℕ). Keeps run.queue ws t) (sym c.update_place.ensures.draws) keeps) in
     let goes = goes_on rules run moved goes_by c.update_place.ensures.air
     c.update_place.ensures.every in
-    let frame : c.frame.result ≡ given after.log = c.frame.ensures a.answer a.tells ∙ sym l.0 in
-    elim c.match-frame.branch [
-      | in-Some-frame+in_ok-schedule_frame w ↦ rw w.self-is (
+    let frame : c.frame_of.result ≡ given after.log =
+    c.frame_of.ensures a.answer a.tells ∙ sym l.0 in
+    elim c.match-frame_of.branch [
+      | in-Some-frame_of+in_ok-schedule_frame w ↦ rw w.self-is (
           subst (λ (o : Option ℕ). Keeps w.schedule_frame.new.self.queue
           w.schedule_frame.new.self.draws
-          (spread_frame rules present e after o t)) (sym w.in-Some-frame.is ∙ frame)
+          (spread_frame rules present e after o t)) (sym w.in-Some-frame_of.is ∙ frame)
           (subst (λ (l : List Bool). Keeps w.schedule_frame.new.self.queue
           w.schedule_frame.new.self.draws
-          (spread_frame rules l e after (Some w.in-Some-frame.frame) t)) same
+          (spread_frame rules l e after (Some w.in-Some-frame_of.frame) t)) same
           (w.in_ok-schedule_frame.ensures.spread rules after t goes stands kept)))
-      | in_default-frame w ↦ rw w.self-is (
+      | in_default-frame_of w ↦ rw w.self-is (
           subst (λ (o : Option ℕ). Keeps moved.queue moved.draws
-          (spread_frame rules present e after o t)) (sym w.in_default-frame.is ∙ frame) kept)
+          (spread_frame rules present e after o t)) (sym w.in_default-frame_of.is ∙ frame) kept)
     ]

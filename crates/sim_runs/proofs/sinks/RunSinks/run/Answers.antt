@@ -1,8 +1,7 @@
 use Rattle.std.proofs.Common.{rules, ◌≡◌, [], List}
 use Rattle.std.specs.List.{list_all}
 use Rattle.its_model.specs.World.{Event}
-use Rattle.its_world.specs.declared.entry.Entry.{Entry}
-use Rattle.its_world.specs.Entries.{was_done}
+use Rattle.its_world.specs.Entries.{Entry, was_done}
 use Rattle.sim_runs.specs.Runs.{run_status}
 use Rattle.sim_runs.proofs.Following.{run_follows}
 use Rattle.sim_runs.proofs.sinks.RunSinks.run.Goals as goal

@@ -1,7 +1,7 @@
 use Rattle.std.proofs.Common.{length, refl, sym, subst}
 use Rattle.std.proofs.lemmas.Result.{on_ok_weaker}
 use Rattle.sim_simulation.specs.Records.{happening_in}
-use Rattle.its_world.specs.declared.entry.Entry.{Entry}
+use Rattle.its_world.specs.Entries.{Entry}
 use Rattle.sim_simulation.specs.Packets.{HasCounted, packets_after, carried_after, deliveries_after}
 use Rattle.sim_simulation.proofs.Tallies.{same_tally}
 use Rattle.sim_simulation.proofs.tally.tally.Tally.count.Goals as goal

@@ -1,0 +1,23 @@
+-- What a handle holds before and after a call.
+use Rattle.std.specs.Prelude.{◌≡◌, Option, Some}
+use Rattle.std.specs.Option.{option_map}
+use Rattle.its_station.specs.State.{StationState}
+use Rattle.its_station.specs.declared.counts.Counts.{Counts}
+use Rattle.its_governor.specs.declared.governor.Governor.{Governor}
+use Rattle.its_unit.specs.Unit.{UnitState}
+use Rattle.its_c.specs.declared.handle.Geostation.{Geostation}
+
+-- the station, the limits and the counts of its unit
+abbrev pub station_in : Geostation → Option StationState
+station_in h = option_map (λ st. st.station) h.held.unit
+
+abbrev pub limits_in : Geostation → Option Governor
+limits_in h = option_map (λ st. st.governor) h.held.unit
+
+abbrev pub counts_in : Geostation → Option Counts
+counts_in h = option_map (λ st. st.counts) h.held.unit
+
+-- the same station and the same limits
+pub record IsSame (old new : Geostation) : Type 0 where
+  pub station : station_in new ≡ station_in old
+  pub limits : limits_in new ≡ limits_in old

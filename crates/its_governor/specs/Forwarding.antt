@@ -1,0 +1,75 @@
+-- Which frames a station with limits forwards, in every list of calls. All lists of frames have the
+-- oldest first.
+use Rattle.std.specs.Prelude.{ℕ, ◌*◌, ◌-◌, ◌≤◌, ◌<◌, ◌++◌, ◌⊎◌, List, [], ◌∷◌}
+use Rattle.std.specs.Prelude.{Bool, true, false, Option, Some, None, is_some, IsTrue, IsFalse}
+use Rattle.its_model.specs.Packet.{Transmission}
+use Rattle.its_model.specs.Calls as model
+use Rattle.its_model.specs.Calls.{Answer}
+use Rattle.its_governor.specs.declared.governor.Governor.{Governor}
+use Rattle.its_governor.specs.declared.rate.Rate.{Rate}
+use Rattle.its_governor.specs.Bucket.{IsBounded}
+use Rattle.its_governor.specs.Sources.{Forwarded, times_from}
+use Rattle.its_governor.specs.Governing.{passed_of, is_echo, room_in, source_room}
+use Rattle.its_governor.specs.Deliveries.{GovernedCall, after_governed}
+
+-- what is forwarded of a frame, in a call, and in many
+abbrev pub forward_if : Bool → ℕ → Transmission → List Forwarded
+forward_if true now t = record { source = t.pdu.vector.address; time = now } ∷ []
+forward_if false now t = []
+
+abbrev pub forwarded_of : Governor → ℕ → Option Transmission → Bool → Bool → List Forwarded
+forwarded_of g now (Some t) handed sent = forward_if (passed_of g now t handed sent).forwards now t
+forwarded_of g now None handed sent = []
+
+abbrev pub forwarded_by : Governor → ℕ → Option Transmission → Answer Transmission → List Forwarded
+forwarded_by g now frame (model.Answer.Accepted handed relayed) =
+    forwarded_of g now frame (is_some handed) (is_some relayed)
+forwarded_by g now frame answer = []
+
+abbrev pub forwarded_in : Governor → GovernedCall → List Forwarded
+forwarded_in g (GovernedCall.Answered now request frame answer) = forwarded_by g now frame answer
+forwarded_in g GovernedCall.OverRate = []
+
+abbrev pub forwarded : Governor → List GovernedCall → List Forwarded
+forwarded g [] = []
+forwarded g (call ∷ calls) = forwarded_in g call ++ forwarded (after_governed g call) calls
+
+-- when frames were forwarded
+abbrev pub times : List Forwarded → List ℕ
+times [] = []
+times (f ∷ frames) = f.time ∷ times frames
+
+-- In every list of calls, the frames that are forwarded are bounded by this rate.
+abbrev pub ForwardsAreBounded : Governor → Rate → Type 0
+ForwardsAreBounded g rate = (calls : List GovernedCall) → IsBounded rate (times (forwarded g calls))
+
+-- In every list of calls, the frames of each source that are forwarded are.
+abbrev pub SourcesStayBounded : Governor → Rate → Type 0
+SourcesStayBounded g rate =
+    (calls : List GovernedCall) (source : ℕ)
+    → IsBounded rate (times_from source (forwarded g calls))
+
+-- With these rates the memory of 256 frames suffices: before the last frame of a source is forgotten,
+-- the bucket of that source is full again. Without a common limit no memory suffices.
+abbrev pub RemembersSources : Option Rate → Rate → Type 0
+RemembersSources None source = ⊥
+RemembersSources (Some forward) source =
+    (forward.burst < 256)
+    × (source.burst * forward.per_second ≤ (256 - forward.burst) * source.per_second)
+
+-- the same of limits; without a limit per source there is nothing to remember
+abbrev pub AreRemembered : Option Rate → Option Rate → Type 0
+AreRemembered forward None = Unit {0}
+AreRemembered forward (Some source) = RemembersSources forward source
+
+-- Why a packet that the station would forward isn't forwarded: it was delivered before and is
+-- remembered, it has more hops left than the greatest, or one of the two buckets has no room.
+abbrev pub IsWithheldFor : Governor → ℕ → Transmission → Type 0
+IsWithheldFor g now t =
+    IsTrue (is_echo g.delivered now t) ⊎ (g.hop_cap < t.hops_left)
+    ⊎ IsFalse (room_in g.forward now)
+    ⊎ IsFalse (source_room g.sources t.pdu.vector.address now)
+
+abbrev pub IsWithheld : Governor → ℕ → Transmission → Type 0
+IsWithheld g now t =
+    (handed : Bool) → IsFalse (passed_of g now t handed true).forwards → IsWithheldFor g now t

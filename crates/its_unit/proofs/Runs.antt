@@ -1,0 +1,426 @@
+-- Many calls of a unit.
+use Rattle.std.proofs.Common.{◌≡◌, ℕ, ◌^◌, ◌&&◌, leb, ltb, not, Bool, true, false, cond}
+use Rattle.std.proofs.Common.{List, [], ◌∷◌, ◌++◌, Option, Some, None, refl, sym, ap, ◌∙◌, subst}
+use Rattle.std.proofs.Common.{is_some, inl, inr}
+use Rattle.std.proofs.lemmas.Bool.{ltb-false, le-leb, false≢true}
+use Rattle.std.proofs.lemmas.Option.{none-some, same_Some}
+use Rattle.std.specs.Option.{option_map}
+use Rattle.its_model.specs.Packet.{Message, Transmission}
+use Rattle.its_model.specs.Calls as model
+use Rattle.its_model.specs.Calls.{Answer, Call, OwnCall, Refusal, ShbRequest}
+use Rattle.its_model.specs.Station.{StationModel, Step, station_step, own_step, own_step_by}
+use Rattle.its_model.specs.Station.{own_refusal, first, payload_refusal, after_sending}
+use Rattle.its_model.specs.Isolation.{TimedCall, station_run}
+use Rattle.its_station.specs.Beside.{send_shb_for_step, shb_for, step_by}
+use Rattle.its_station.specs.Receiving.{VerifiedCall}
+use Rattle.its_governor.specs.declared.bucket.Bucket.{Bucket}
+use Rattle.its_governor.specs.declared.governor.Governor.{Governor}
+use Rattle.its_governor.specs.declared.rate.Limits.{Limits}
+use Rattle.its_governor.specs.declared.rate.Rate.{Rate}
+use Rattle.its_governor.specs.Bucket.{full, drawn, has_room, MayPass, IsBounded}
+use Rattle.its_governor.specs.Sources.{Forwarded, times_from}
+use Rattle.its_governor.specs.Governing.{governed, is_repeated_in, after_call, kept}
+use Rattle.its_governor.specs.Governing.{after_judging, after_delivery, after_forwarding, passed_of}
+use Rattle.its_governor.specs.Governing.{draw_from, room_in, is_echo, has_room_for, IsNewGovernor}
+use Rattle.its_governor.specs.Deliveries.{GovernedCall, after_governed}
+use Rattle.its_governor.specs.Forwarding as limits
+use Rattle.its_governor.specs.Forwarding.{forward_if, forwarded_by, forwarded, times, RemembersSources}
+use Rattle.its_governor.proofs.Bounds.{bounded}
+use Rattle.its_governor.proofs.Deliveries.{owed, apart}
+use Rattle.its_governor.proofs.Forwarding.{forwards_bounded, sources_stay}
+use Rattle.its_unit.specs.Unit.{UnitModel, UnitCall, UnitAnswer, UnitStep, answer_by, frame_of}
+use Rattle.its_unit.specs.Unit.{is_request, passed_step, refused_step, step_within}
+use Rattle.its_unit.specs.Unit.{unit_step}
+use Rattle.its_unit.specs.Runs.{UnitCallAt, unit_run, is_withheld, made, station_after, IsPart}
+use Rattle.its_unit.specs.Runs.{IsPartOf, IsStationRun, IsModelRun, AreModelCalls, model_call}
+use Rattle.its_unit.specs.Runs.{forwarded_in, frames_forwarded, request_if, requests_sent}
+use Rattle.its_unit.specs.Runs.{AreWithin, IsLawful}
+
+-- a step, by whether the call is withheld
+abbrev step_by_rate : UnitModel → UnitCallAt → Bool → UnitStep
+step_by_rate u c p =
+    cond p (refused_step u) (passed_step u c.now c.call (step_within u.station c.now c.call))
+
+-- ---- the station within
+
+same_station : (u : UnitModel) (calls : List UnitCallAt)
+    → (unit_run u calls).station ≡ station_after u.station (made u calls)
+same_station u [] = refl
+same_station u (c ∷ calls) = by (λ v. same_station v calls) (is_withheld u c)
+  where
+    by : ((v : UnitModel) → (unit_run v calls).station ≡ station_after v.station (made v calls))
+        → (p : Bool)
+        → (unit_run (step_by_rate u c p).unit calls).station
+        ≡ station_after u.station (cond p (made (step_by_rate u c p).unit calls)
+        (c ∷ made (step_by_rate u c p).unit calls))
+    by rest true = rest (refused_step u).unit
+    by rest false =
+        rest (passed_step u c.now c.call (step_within u.station c.now c.call)).unit
+
+kept_part : {A : Type 0} (b : Bool) (x : Option A) → IsPart (kept b x) x
+kept_part true x = inr refl
+kept_part false x = inl refl
+
+accepted_part : (echo delivers forwards : Bool) (message : Option Message)
+    (frame : Option Transmission)
+    → IsPartOf (answer_by echo (model.Answer.Accepted (kept delivers message) (kept forwards frame)))
+    (model.Answer.Accepted message frame)
+accepted_part true delivers forwards message frame = tt
+accepted_part false delivers forwards message frame =
+    (kept_part delivers message, kept_part forwards frame)
+
+part_of : (g : Governor) (now : ℕ) (f : Option Transmission) (a : Answer Transmission)
+    → IsPartOf (answer_by (is_repeated_in g now f a) (governed g now f a)) a
+part_of g now (Some t) (model.Answer.Accepted message frame) =
+    accepted_part (is_echo g.delivered now t)
+    (passed_of g now t (is_some message) (is_some frame)).delivers
+    (passed_of g now t (is_some message) (is_some frame)).forwards message frame
+part_of g now None (model.Answer.Accepted message frame) =
+    (kept_part (is_some message) message, kept_part false frame)
+part_of g now f (model.Answer.Sent sent) = refl
+part_of g now f model.Answer.Moved = refl
+part_of g now f model.Answer.Opened = refl
+part_of g now f model.Answer.Closed = refl
+part_of g now f model.Answer.Restarted = refl
+part_of g now f model.Answer.Quiet = refl
+part_of g now f (model.Answer.Ignored why) = refl
+part_of g now f (model.Answer.Refused refusal) = refl
+
+part_answered : (u : UnitModel) (c : UnitCallAt) → is_withheld u c ≡ false
+    → IsPartOf (unit_step u c.now c.call).answer (step_within u.station c.now c.call).answer
+part_answered u c within =
+    subst (λ (p : Bool).
+    IsPartOf (step_by_rate u c p).answer (step_within u.station c.now c.call).answer) (sym within)
+    (part_of u.governor c.now (frame_of c.call) (step_within u.station c.now c.call).answer)
+
+station_runs : (u : UnitModel) → IsStationRun u
+station_runs u = record {
+  station = same_station u;
+  answers = λ calls next within. part_answered (unit_run u calls) next within;
+}
+
+-- ---- runs of the model
+
+same_step : (s : StationModel) (now : ℕ) (call : UnitCall) (c : Call) → model_call call ≡ Some c
+    → step_within s now call ≡ station_step s now c
+same_step s now (UnitCall.Own own) c is =
+    ap (λ (x : Call). station_step s now x) (same_Some (model.Call.Own own) c is)
+same_step s now (UnitCall.MoveAt timestamp place accurate speed heading) c is =
+    absurd (none-some c is)
+same_step s now (UnitCall.SendShbFor lifetime request) c is = absurd (none-some c is)
+same_step s now (UnitCall.Receive call) c is =
+    ap (λ (x : Call). station_step s now x) (same_Some call c is)
+same_step s now (UnitCall.ReceiveVerified (VerifiedCall.Came v)) c is =
+    ap (λ (x : Call). station_step s now x) (same_Some (model.Call.Receive v.frame) c is)
+same_step s now (UnitCall.ReceiveVerified (VerifiedCall.Faulty fault)) c is =
+    absurd (none-some c is)
+
+same_run : (s : StationModel) (calls : List UnitCallAt) (timed : List TimedCall)
+    → AreModelCalls calls timed → station_after s calls ≡ station_run s timed
+same_run s [] [] are = refl
+same_run s [] (t ∷ timed) are = absurd are
+same_run s (c ∷ calls) [] are = absurd are
+same_run s (c ∷ calls) (t ∷ timed) are =
+    let step = same_step s c.now c.call t.call are.1
+    ∙ ap (λ (now : ℕ). station_step s now t.call) (sym are.0) in
+    ap (λ (x : Step). station_after x.station calls) step
+    ∙ same_run (station_step s t.moment t.call).station calls timed are.2
+
+model_runs : (u : UnitModel) → IsModelRun u
+model_runs u calls timed are =
+    same_station u calls ∙ same_run u.station (made u calls) timed are
+
+-- ---- what is forwarded, as the limits see it
+
+abbrev governed_by_rate : UnitModel → UnitCallAt → Bool → GovernedCall
+governed_by_rate u c p =
+    cond p GovernedCall.OverRate
+    (GovernedCall.Answered c.now (is_request c.call) (frame_of c.call)
+    (step_within u.station c.now c.call).answer)
+
+abbrev governed_calls : UnitModel → List UnitCallAt → List GovernedCall
+governed_calls u [] = []
+governed_calls u (c ∷ calls) =
+    governed_by_rate u c (is_withheld u c)
+    ∷ governed_calls (unit_step u c.now c.call).unit calls
+
+governed_next : (u : UnitModel) (c : UnitCallAt) (p : Bool)
+    → (step_by_rate u c p).unit.governor ≡ after_governed u.governor (governed_by_rate u c p)
+governed_next u c true = refl
+governed_next u c false = refl
+
+-- an accepted packet is sent on if it passes
+sent_on : (t : Transmission) (now : ℕ) (message : Option Message) (frame : Option Transmission)
+    (echo room : Bool)
+    → forwarded_in (Some t) (answer_by echo (model.Answer.Accepted
+    (kept (is_some message && not echo) message)
+    (kept (is_some frame && (not echo && room)) frame))) now
+    ≡ forward_if (is_some frame && (not echo && room)) now t
+sent_on t now message None true room = refl
+sent_on t now message None false room = refl
+sent_on t now message (Some frame) true room = refl
+sent_on t now message (Some frame) false true = refl
+sent_on t now message (Some frame) false false = refl
+
+none_sent_on : (now : ℕ) (answer : UnitAnswer) → forwarded_in None answer now ≡ []
+none_sent_on now (UnitAnswer.Passed answer) = refl
+none_sent_on now UnitAnswer.Repeated = refl
+none_sent_on now UnitAnswer.OverRate = refl
+
+withheld_sends_on : (f : Option Transmission) (now : ℕ)
+    → forwarded_in f UnitAnswer.OverRate now ≡ []
+withheld_sends_on None now = refl
+withheld_sends_on (Some t) now = refl
+
+forwarded_of : (g : Governor) (now : ℕ) (f : Option Transmission) (a : Answer Transmission)
+    → forwarded_in f (answer_by (is_repeated_in g now f a) (governed g now f a)) now
+    ≡ forwarded_by g now f a
+forwarded_of g now (Some t) (model.Answer.Accepted message frame) =
+    sent_on t now message frame (is_echo g.delivered now t) (has_room_for g now t)
+forwarded_of g now None (model.Answer.Accepted message frame) = refl
+forwarded_of g now None (model.Answer.Sent sent) = refl
+forwarded_of g now None model.Answer.Moved = refl
+forwarded_of g now None model.Answer.Opened = refl
+forwarded_of g now None model.Answer.Closed = refl
+forwarded_of g now None model.Answer.Restarted = refl
+forwarded_of g now None model.Answer.Quiet = refl
+forwarded_of g now None (model.Answer.Ignored why) = refl
+forwarded_of g now None (model.Answer.Refused refusal) = refl
+forwarded_of g now (Some t) (model.Answer.Sent sent) = refl
+forwarded_of g now (Some t) model.Answer.Moved = refl
+forwarded_of g now (Some t) model.Answer.Opened = refl
+forwarded_of g now (Some t) model.Answer.Closed = refl
+forwarded_of g now (Some t) model.Answer.Restarted = refl
+forwarded_of g now (Some t) model.Answer.Quiet = refl
+forwarded_of g now (Some t) (model.Answer.Ignored why) = refl
+forwarded_of g now (Some t) (model.Answer.Refused refusal) = refl
+
+forwarded_next : (u : UnitModel) (c : UnitCallAt) (p : Bool)
+    → forwarded_in (frame_of c.call) (step_by_rate u c p).answer c.now
+    ≡ limits.forwarded_in u.governor (governed_by_rate u c p)
+forwarded_next u c true = withheld_sends_on (frame_of c.call) c.now
+forwarded_next u c false =
+    forwarded_of u.governor c.now (frame_of c.call) (step_within u.station c.now c.call).answer
+
+same_forwarded : (u : UnitModel) (calls : List UnitCallAt)
+    → forwarded u.governor (governed_calls u calls) ≡ frames_forwarded u calls
+same_forwarded u [] = refl
+same_forwarded u (c ∷ calls) =
+    let next = (unit_step u c.now c.call).unit in
+    let call = governed_by_rate u c (is_withheld u c) in
+    ap (λ (fs : List Forwarded). fs ++ forwarded (after_governed u.governor call) (governed_calls next calls))
+    (sym (forwarded_next u c (is_withheld u c)))
+    ∙ ap (λ (g : Governor). forwarded_in (frame_of c.call) (unit_step u c.now c.call).answer c.now
+    ++ forwarded g (governed_calls next calls)) (sym (governed_next u c (is_withheld u c)))
+    ∙ ap (λ (fs : List Forwarded).
+    forwarded_in (frame_of c.call) (unit_step u c.now c.call).answer c.now ++ fs)
+    (same_forwarded next calls)
+
+-- ---- own packets
+
+forwarding_own : (g : Governor) (now source : ℕ) (sent forwards : Bool)
+    → (after_forwarding g now source sent forwards).own ≡ g.own
+forwarding_own g now source true true = refl
+forwarding_own g now source true false = refl
+forwarding_own g now source false true = refl
+forwarding_own g now source false false = refl
+
+delivery_own : (g : Governor) (now : ℕ) (t : Transmission) (handed delivers : Bool)
+    → (after_delivery g now t handed delivers).own ≡ g.own
+delivery_own g now t true true = refl
+delivery_own g now t true false = refl
+delivery_own g now t false true = refl
+delivery_own g now t false false = refl
+
+judging_own : (g : Governor) (now : ℕ) (t : Transmission) (handed sent : Bool)
+    → (after_judging g now t handed sent).own ≡ g.own
+judging_own g now t handed sent =
+    let p = passed_of g now t handed sent in
+    delivery_own (after_forwarding g now t.pdu.vector.address sent p.forwards) now t
+    p.is_repeated p.delivers
+    ∙ forwarding_own g now t.pdu.vector.address sent p.forwards
+
+is_sent : Answer Transmission → Bool
+is_sent (model.Answer.Sent frame) = true
+is_sent answer = false
+
+-- a moment that isn't refused
+in_time : (s : StationModel) (now : ℕ) (P : Option Refusal → Type 0)
+    → ((r : Refusal) → P (Some r) → ⊥)
+    → P (cond (ltb now s.clock) (Some model.Refusal.MomentEarlier)
+    (cond (ltb (2 ^ 62) now) (Some model.Refusal.MomentTooLate) None))
+    → (leb s.clock now && leb now (2 ^ 62)) ≡ true
+in_time s now P never h = by (ltb now s.clock) (ltb (2 ^ 62) now) refl refl h
+  where
+    both_true : (a b : Bool) → a ≡ true → b ≡ true → (a && b) ≡ true
+    both_true true true p q = refl
+    both_true true false p q = absurd (false≢true q)
+    both_true false b p q = absurd (false≢true p)
+
+    by : (p q : Bool) → ltb now s.clock ≡ p → ltb (2 ^ 62) now ≡ q
+        → P (cond p (Some model.Refusal.MomentEarlier)
+        (cond q (Some model.Refusal.MomentTooLate) None))
+        → (leb s.clock now && leb now (2 ^ 62)) ≡ true
+    by true q a b h = absurd (never model.Refusal.MomentEarlier h)
+    by false true a b h = absurd (never model.Refusal.MomentTooLate h)
+    by false false a b h =
+        both_true _ _ (le-leb s.clock now (ltb-false now s.clock a))
+        (le-leb now (2 ^ 62) (ltb-false (2 ^ 62) now b))
+
+-- what is sent is sent at a time that isn't refused
+own_in_time : (s : StationModel) (now : ℕ) (own : OwnCall) (t : Transmission)
+    → (own_step s now own).answer ≡ model.Answer.Sent t
+    → (leb s.clock now && leb now (2 ^ 62)) ≡ true
+unfolding own_step is_sent
+own_in_time s now own t e =
+    in_time s now
+    (λ (o : Option Refusal).
+    (own_step_by s now own (first o (own_refusal s own))).answer ≡ model.Answer.Sent t)
+    (λ r h. false≢true (ap is_sent h)) e
+
+shb_in_time : (s : StationModel) (now lifetime : ℕ) (r : ShbRequest) (t : Transmission)
+    → (send_shb_for_step s now lifetime r).answer ≡ model.Answer.Sent t
+    → (leb s.clock now && leb now (2 ^ 62)) ≡ true
+unfolding is_sent
+shb_in_time s now lifetime r t e =
+    in_time s now
+    (λ (o : Option Refusal). (step_by s (first o (payload_refusal r.message)) (record {
+      answer = model.Answer.Sent (shb_for s lifetime r);
+      station = after_sending s now;
+    })).answer ≡ model.Answer.Sent t)
+    (λ r h. false≢true (ap is_sent h)) e
+
+sent_in_time : (s : StationModel) (now : ℕ) (call : UnitCall) (t : Transmission)
+    → is_request call ≡ true → (step_within s now call).answer ≡ model.Answer.Sent t
+    → (leb s.clock now && leb now (2 ^ 62)) ≡ true
+sent_in_time s now (UnitCall.Own own) t is e = own_in_time s now own t e
+sent_in_time s now (UnitCall.SendShbFor lifetime request) t is e =
+    shb_in_time s now lifetime request t e
+sent_in_time s now (UnitCall.MoveAt timestamp place accurate speed heading) t is e =
+    absurd (false≢true is)
+sent_in_time s now (UnitCall.Receive call) t is e = absurd (false≢true is)
+sent_in_time s now (UnitCall.ReceiveVerified call) t is e = absurd (false≢true is)
+
+-- a request that is sent had room
+had_room : (request in_range room : Bool) → request ≡ true → in_range ≡ true
+    → (request && (in_range && not room)) ≡ false → room ≡ true
+had_room true true true a b e = refl
+had_room true true false a b e = absurd (false≢true (sym e))
+had_room true false room a b e = absurd (false≢true b)
+had_room false in_range room a b e = absurd (false≢true a)
+
+-- what the bucket of own packets lets pass in a call, and what it is then
+record SentWith (b : Bucket) (sent : List ℕ) (new : Option Bucket) : Type 0 where
+  pass : (rest : List ℕ) → ((after : Bucket) → new ≡ Some after → MayPass after rest)
+      → MayPass b (sent ++ rest)
+  some : (after : Bucket) × (new ≡ Some after) × (after.rate ≡ b.rate)
+
+sent_none : (b : Bucket) (new : Option Bucket) → new ≡ Some b → SentWith b [] new
+sent_none b new is = record { pass = λ rest h. h b is; some = (b, is, refl) }
+
+sent_one : (b : Bucket) (now : ℕ) (new : Option Bucket) → has_room b now ≡ true
+    → new ≡ Some (drawn b now) → SentWith b (now ∷ []) new
+sent_one b now new room is = record {
+  pass = λ rest h. (room, h (drawn b now) is);
+  some = (drawn b now, is, refl);
+}
+
+none_requested : (now : ℕ) (echo : Bool) (message : Option Message) (frame : Option Transmission)
+    → request_if true (answer_by echo (model.Answer.Accepted message frame)) now ≡ []
+none_requested now true message frame = refl
+none_requested now false message frame = refl
+
+-- of a call that is made
+sent_made : (b : Bucket) (s : StationModel) (g : Governor) (now : ℕ) (request : Bool)
+    (f : Option Transmission) (a : Answer Transmission) → g.own ≡ Some b
+    → ((t : Transmission) → request ≡ true → a ≡ model.Answer.Sent t → room_in g.own now ≡ true)
+    → SentWith b (request_if request (answer_by (is_repeated_in g now f a) (governed g now f a)) now)
+    (after_call g now request f a).own
+sent_made b s g now true (Some t) (model.Answer.Accepted message frame) is room =
+    subst (λ (l : List ℕ). SentWith b l (after_judging g now t (is_some message) (is_some frame)).own)
+    (sym (none_requested now (is_echo g.delivered now t) _ _))
+    (sent_none b _ (judging_own g now t (is_some message) (is_some frame) ∙ is))
+sent_made b s g now false (Some t) (model.Answer.Accepted message frame) is room =
+    sent_none b _ (judging_own g now t (is_some message) (is_some frame) ∙ is)
+sent_made b s g now true None (model.Answer.Accepted message frame) is room = sent_none b _ is
+sent_made b s g now false None (model.Answer.Accepted message frame) is room = sent_none b _ is
+sent_made b s g now true f (model.Answer.Sent sent) is room =
+    sent_one b now _
+    (subst (λ (o : Option Bucket). room_in o now ≡ true) is (room sent refl refl))
+    (ap (λ (o : Option Bucket). draw_from o now) is)
+sent_made b s g now false f (model.Answer.Sent sent) is room = sent_none b _ is
+sent_made b s g now true f model.Answer.Moved is room = sent_none b _ is
+sent_made b s g now true f model.Answer.Opened is room = sent_none b _ is
+sent_made b s g now true f model.Answer.Closed is room = sent_none b _ is
+sent_made b s g now true f model.Answer.Restarted is room = sent_none b _ is
+sent_made b s g now true f model.Answer.Quiet is room = sent_none b _ is
+sent_made b s g now true f (model.Answer.Ignored why) is room = sent_none b _ is
+sent_made b s g now true f (model.Answer.Refused refusal) is room = sent_none b _ is
+sent_made b s g now false f model.Answer.Moved is room = sent_none b _ is
+sent_made b s g now false f model.Answer.Opened is room = sent_none b _ is
+sent_made b s g now false f model.Answer.Closed is room = sent_none b _ is
+sent_made b s g now false f model.Answer.Restarted is room = sent_none b _ is
+sent_made b s g now false f model.Answer.Quiet is room = sent_none b _ is
+sent_made b s g now false f (model.Answer.Ignored why) is room = sent_none b _ is
+sent_made b s g now false f (model.Answer.Refused refusal) is room = sent_none b _ is
+
+withheld_request : (request : Bool) (now : ℕ) → request_if request UnitAnswer.OverRate now ≡ []
+withheld_request true now = refl
+withheld_request false now = refl
+
+sent_next : (b : Bucket) (u : UnitModel) (c : UnitCallAt) (p : Bool) → is_withheld u c ≡ p
+    → u.governor.own ≡ Some b
+    → SentWith b (request_if (is_request c.call) (step_by_rate u c p).answer c.now)
+    (step_by_rate u c p).unit.governor.own
+sent_next b u c true e is =
+    subst (λ (l : List ℕ). SentWith b l u.governor.own)
+    (sym (withheld_request (is_request c.call) c.now)) (sent_none b u.governor.own is)
+sent_next b u c false e is =
+    sent_made b u.station u.governor c.now (is_request c.call) (frame_of c.call)
+    (step_within u.station c.now c.call).answer is
+    (λ t request sent.
+    had_room (is_request c.call) (leb u.station.clock c.now && leb c.now (2 ^ 62))
+    (room_in u.governor.own c.now) request
+    (sent_in_time u.station c.now c.call t request sent) e)
+
+all_sent : (b : Bucket) (u : UnitModel) (calls : List UnitCallAt) → u.governor.own ≡ Some b
+    → MayPass b (requests_sent u calls)
+all_sent b u [] is = tt
+all_sent b u (c ∷ calls) is =
+    let next = (unit_step u c.now c.call).unit in
+    (sent_next b u c (is_withheld u c) refl is).pass (requests_sent next calls)
+    (λ after same. all_sent after next calls same)
+
+-- ---- all laws of a unit
+
+within : (limits : Limits) (u : UnitModel) → IsNewGovernor limits u.governor → AreWithin limits u
+within limits u new = record {
+  forwards = λ rate is calls.
+      subst (λ (fs : List Forwarded). IsBounded rate (times fs)) (same_forwarded u calls)
+      (forwards_bounded limits u.governor rate new is (governed_calls u calls));
+  sources = λ rate is fits calls source. of_each rate is limits.forward refl fits calls source;
+  own = λ rate is calls.
+      bounded (full rate) (requests_sent u calls)
+      (all_sent (full rate) u calls (new.own ∙ ap (option_map full) is));
+}
+  where
+    of_each : (rate : Rate) → limits.source ≡ Some rate → (o : Option Rate) → limits.forward ≡ o
+        → RemembersSources o rate → (calls : List UnitCallAt) (source : ℕ)
+        → IsBounded rate (times_from source (frames_forwarded u calls))
+    of_each rate is None none fits calls source = absurd fits
+    of_each rate is (Some forward) some fits calls source =
+        subst (λ (fs : List Forwarded). IsBounded rate (times_from source fs))
+        (same_forwarded u calls)
+        (sources_stay limits u.governor forward rate new some is fits (governed_calls u calls) source)
+
+pub lawful : (limits : Limits) (u : UnitModel) → IsNewGovernor limits u.governor
+    → IsLawful limits u
+lawful limits u new = record {
+  station = station_runs u;
+  model = model_runs u;
+  within = within limits u new;
+  deliveries = record {
+    owed = owed limits u.governor new;
+    apart = apart limits u.governor new;
+  };
+}

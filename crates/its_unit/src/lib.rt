@@ -1,0 +1,60 @@
+//! A station as it ships (EN 302 636-4-1, in this profile): with the limits on what it sends, and
+//! with counts of the outcomes of its calls.
+//!
+//! A `Unit` is what the handle of the library for C holds. Each call is the call of its station; the
+//! limits then let a part of its answer pass (`its_governor`), and its outcome is counted. So a
+//! run of units is a run of stations whose frames are late or lost: each call's contract says which
+//! step of the station it is, and what passes of its answer.
+//!
+//! ```
+//! let station: Station<SortedTable> = Station::new(alloc, address, here, 64, 8)?;
+//! let mut unit = Unit::new(alloc, station, &Limits::CHANNEL)?;
+//! unit.open(0, 2002)?;
+//!
+//! match unit.receive(now, octets) {
+//!     Ok(UnitOutcome::Passed(Outcome::Accepted { handed, sent })) => {}
+//!     Ok(UnitOutcome::Passed(Outcome::Ignored(_)) | UnitOutcome::Repeated) => {}
+//!     Err(refused) => log.push(refused.code())?,
+//! }
+//! ```
+//!
+//! - **Beacons** pass no limit: a station sends one per 3000 ms at most.
+//! - **Memory** for the limits is taken by `new` alone.
+//!
+//! # What is proved
+//!
+//! The clauses hold for every store of the table, every unit, every time and all octets. The condition:
+//! each speed in its range (`move_to`, `move_at`).
+//!
+//! - **Each call** is the step of the station, and what passes of its answer (`step`, `unit_step`). A
+//!   refused call changes nothing but the counts (`unchanged`), and one for the rate counts that.
+//! - **All calls** (`laws`: `units_are_lawful`): in every list of calls, with secured frames and without,
+//!   the station within has made those very calls, but the requests that were over their rate; of each
+//!   answer a part passes: a message or a frame is withheld or it is the one of the answer. So a run of a
+//!   unit is a run of its station whose frames are late or lost. It is a run of the station of the model
+//!   (`IsModelRun`) if no move has a time stamp of its own, no single-hop broadcast a lifetime of its own,
+//!   and no secured frame is faulty.
+//! - **Limits** (`AreWithin`): in each stretch of `t` milliseconds at most `burst + per_second * t / 1000`
+//!   frames are forwarded, and own packets sent; and of the frames of each source by its rate, if the
+//!   limits remember sources (`Limits::remembers_sources`).
+//! - **Deliveries** (`AreDelivered`): a message that the station hands out is delivered if no copy of its
+//!   packet was delivered whose lifetime isn't over; two deliveries of one packet are a lifetime apart, or
+//!   1024 others came between.
+//!
+//! # Only tested
+//!
+//! - `test_stations::governor`: a storm among three units; that calls succeed if memory is there.
+#![tactic(auto)]
+
+mod calls;
+pub mod laws;
+mod outcome;
+mod receive;
+mod sending;
+mod unit;
+mod unlimited;
+mod unsent;
+
+pub use outcome::UnitOutcome;
+pub use unit::Unit;
+pub use unsent::Unsent;
