@@ -1,3 +1,4 @@
 pub mod Chosen
 pub mod Faults
 pub mod Inner
+pub mod Steps

@@ -9,6 +9,8 @@
 //!   the record, its link layer, the secured frame, its message, the packet inside.
 //! - `Choice::is_chosen` and `Selection::has_record` hold if and only if all that is asked for
 //!   holds of the record's time and frame. `cmd_arguments` reads the options.
+//! - A pull returns the next selected record of the file, and skips the others (`Records::next_chosen`,
+//!   clause `next`: `IsNext`). Nothing is read once as many are selected as are wanted.
 //! - A walk counts each selected record, and each refused one of them (`Walked::after`: `counts`).
 //! - `read_message` reads a message as far as its header info, or its first fault.
 //!
@@ -28,19 +30,25 @@
 #![tactic(auto)]
 
 pub mod choosing;
+mod counts;
 mod cut;
 mod frame;
 pub mod messages;
+mod records;
 mod refusal;
 mod refused_capture;
+mod selection;
 mod signed;
 mod walk;
 
 pub use crate::choosing::{Choice, Kinds, Traits};
+pub use counts::RecordCounts;
 pub use frame::{frame_of, read_from, traits_of};
+pub use records::{Pulled, RecordReader, Records};
 pub use refusal::{FileFault, RecordCode, RecordFault, SIGNED_HINT};
 pub use refused_capture::RefusedCapture;
+pub use selection::Selection;
 pub use signed::{
     FramePlace, PlainPart, SecuredFacts, bring_inner, find_plain, reads_secured, traits_inside,
 };
-pub use walk::{Place, RecordVisitor, Records, Selection, Walked, each_record, open_records};
+pub use walk::{CaptureFile, RecordPlace, RecordVisitor, Walked, each_record, open_records};

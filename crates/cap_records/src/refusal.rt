@@ -11,10 +11,10 @@ ghost use Rattle.cap_records.specs.declared.refusal.RecordFault.TheVariants as f
 use crate::messages::MessageFault;
 use cap_pcap::{Format, LinkFault, SourceFault};
 use cmd_reporting::Fault;
-use cmd_text::frames::{FrameReason, SecuredReason};
 use cmd_text::lines::GzipFile;
 use its_faults::FaultKind;
 use its_linkframe::{CaptureFault, FrameFault, PACKET, SecuredFault};
+use its_words::frames::{FrameReason, SecuredReason};
 use std::alloc::AllocError;
 use std::fmt;
 

@@ -4,7 +4,7 @@ ghost use Rattle.std.specs.Prelude.{◌≡◌, Some, None, if◌then◌else◌};
 ghost use Rattle.cap_pcap.specs.Codes.{code_of};
 
 use crate::refusal::FileFault;
-use cmd_text::frames::Explanation;
+use its_words::frames::Explanation;
 use serde::Serialize;
 use std::fmt;
 

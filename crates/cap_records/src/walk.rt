@@ -1,138 +1,26 @@
 //! The walk over the records of a file.
 
-ghost use Rattle.std.specs.Prelude.{◌≡◌, ◌≤◌, ◌<◌, ◌+◌, ◌-◌, ◌^◌, Bool, Option, IfOk, IfErr, IsTrue};
-ghost use Rattle.std.specs.Prelude.{None, Some, true, take};
-ghost use Rattle.cap_records.specs.Choosing.{selects};
-ghost use Rattle.cap_records.specs.declared.choosing.Traits.{Traits};
-ghost use Rattle.cap_linklayers.specs.declared.link.TheConstants.{LONGEST_RECORD};
-ghost use Rattle.cap_records.specs.RecordFrames.{traits_read, other_read};
-ghost use Rattle.cap_records.specs.Walks.{walk_status, walked_after, AreTraitsOf, Chooses};
+ghost use Rattle.std.specs.Prelude.{◌≡◌, ◌≤◌, ◌<◌, ◌+◌, ◌-◌, ◌^◌, IfOk, IfErr, None, Some};
+ghost use Rattle.cap_records.specs.Walks.{walk_status, walked_after};
 ghost use Rattle.cmd_reporting.specs.declared.fault.Fault.TheVariants.{CannotRead};
 
-use crate::choosing::Choice;
 use crate::cut::{CUT, CutFrame, cut_frame_of};
-use crate::frame::{RecordFrame, frame_of, traits_of};
+use crate::frame::RecordFrame;
 use crate::refusal::{FileFault, RecordFault};
-use crate::signed::{SecuredFacts, signed_frame_of};
+use crate::selection::Selection;
+use crate::signed::SecuredFacts;
 use cap_linklayers::LinkFacts;
 use cap_pcap::{
     AnySource, Format, LONGEST_RECORD, OpenFault, RecordHeader, RecordSource, SourceFault, Step,
 };
 use cmd_reporting::{Fault, Status, is_standard};
 use its_linkframe::{Counted, FrameView, LONGEST_FRAME, Source};
-use std::alloc::{AllocError, Global};
+use std::alloc::Global;
 use std::io::{Read, Write};
-
-/// Which records of a file a command is over.
-#[derive(Clone, Copy, Debug, PartialEq, Eq)]
-pub struct Selection {
-    /// The format of the file; its first four octets tell it where none is given.
-    pub format: Option<Format>,
-    /// Which records are chosen. The others are as if they weren't there, but that they count in
-    /// the places of those that are.
-    pub choice: Choice,
-    /// How many are chosen at most: then nothing more is read.
-    pub count: Option<u64>,
-    /// Whether records that were cut are read as far as they go.
-    pub partial: bool,
-    /// Whether secured frames are read by their plain part, which isn't verified.
-    pub signed: bool,
-}
-
-impl Selection {
-    /// All records of a file.
-    pub fn all() -> Selection
-        ensures { (result.format ≡ None) × (result.count ≡ None) }
-    {
-        Selection {
-            format: None,
-            choice: Choice::all(),
-            count: None,
-            partial: false,
-            signed: false,
-        }
-    }
-
-    /// Reads the frame of a record, which is put together among its octets.
-    fn read<'a>(
-        &self,
-        head: &RecordHeader,
-        octets: &'a mut Vec<u8>,
-    ) -> Result<RecordFrame<'a>, RecordFault>
-        ensures { AreTraitsOf self.now.signed head.now octets.old.items (traits_read result)
-            (other_read result) }
-    {
-        if self.signed {
-            return signed_frame_of(head, octets);
-        }
-        let frame = frame_of(head, octets)?;
-        Ok(RecordFrame {
-            frame,
-            secured: None,
-        })
-    }
-
-    /// Whether a record is selected, which has these octets. If its frame has to be known, that is
-    /// read in this room, and the octets stay. `OutOfMemory` if the room can't be had.
-    pub fn has_record(
-        &self,
-        head: &RecordHeader,
-        octets: &[u8],
-        room: &mut Vec<u8>,
-    ) -> Result<bool, AllocError>
-        ensures { IfOk result
-            (Chooses self.now.choice self.now.signed head.now (take LONGEST_RECORD octets.now)) }
-    {
-        if self.has_any(head.moment) {
-            return Ok(true);
-        }
-        room.clear();
-        room.extend_from_slice(&octets[..octets.len().min(LONGEST_RECORD)])?;
-        Ok(self.has(head.moment, &self.read(head, room)))
-    }
-
-    /// Whether a record of this moment is chosen, whatever its frame is.
-    fn has_any(&self, moment: u64) -> bool
-        ensures { IsTrue result
-            → (traits : Option Traits) → (other : Bool)
-            → selects self.now.choice moment traits other ≡ true }
-    {
-        let choice = &self.choice;
-        choice.kinds.is_none()
-            && choice.source.is_none()
-            && choice.from.is_none()
-            && choice.port.is_none()
-            && !choice.refused
-            && !choice.skips_others
-            && choice.since <= moment
-            && moment <= choice.until
-    }
-
-    /// Whether a record of this moment is chosen, of which this was read.
-    fn has(&self, moment: u64, read: &Result<RecordFrame<'_>, RecordFault>) -> bool
-        ensures { result
-            ≡ selects self.now.choice moment (traits_read read.now) (other_read read.now) }
-    {
-        match read {
-            Ok(read) => self
-                .choice
-                .selects(moment, Some(traits_of(&read.frame)), false),
-            Err(fault) => self.choice.selects(moment, None, fault.is_other()),
-        }
-    }
-
-    /// Whether a record of this moment is chosen, which was cut, and of which this was read.
-    fn has_cut(&self, moment: u64, read: &Result<CutFrame<'_>, RecordFault>) -> bool {
-        match read {
-            Ok(cut) => self.choice.selects(moment, Some(cut.traits()), false),
-            Err(fault) => self.choice.selects(moment, None, fault.is_other()),
-        }
-    }
-}
 
 /// Where a record stands in its file, and what is known of it beside its frame.
 #[derive(Clone, Copy, Debug, PartialEq, Eq)]
-pub struct Place {
+pub struct RecordPlace {
     /// How many records stand before it.
     pub number: u64,
     /// Its moment, in milliseconds.
@@ -155,13 +43,18 @@ pub struct Place {
     pub secured: Option<SecuredFacts>,
 }
 
-impl Place {
+impl RecordPlace {
     /// The place behind so many records, of which the first has this moment and these nanoseconds
     /// below it, if there is one, of a record with these octets.
-    fn of(number: u64, head: &RecordHeader, first: Option<(u64, u32)>, octets: &[u8]) -> Place {
+    fn of(
+        number: u64,
+        head: &RecordHeader,
+        first: Option<(u64, u32)>,
+        octets: &[u8],
+    ) -> RecordPlace {
         let (moment, nanos) = (head.moment, head.fine.nanos);
         let (first, first_nanos) = first.unwrap_or((moment, nanos));
-        Place {
+        RecordPlace {
             number,
             moment,
             nanos,
@@ -201,7 +94,7 @@ pub trait RecordVisitor {
     /// `NoOutput` where a write failed, `OutOfMemory` where an allocation did.
     fn visit<'f, W: Write>(
         &mut self,
-        place: Place,
+        place: RecordPlace,
         frame: Result<FrameView<'_>, RecordFault>,
         out: &mut W,
     ) -> Result<(), Fault<'f>>;
@@ -280,17 +173,17 @@ impl Walked {
 
 /// A file that is open.
 #[derive(Drop)]
-pub enum Records<S: Source> {
+pub enum CaptureFile<S: Source> {
     /// Its records are read one after the other.
     Source(AnySource<S>),
     /// It has none: gzip compressed it.
     Gzip,
 }
 
-impl<S: Source> Records<S> {
+impl<S: Source> CaptureFile<S> {
     /// Whether it is a capture of this project's own.
     pub fn is_capture(&self) -> bool {
-        matches!(self, Records::Source(AnySource::Capture(_)))
+        matches!(self, CaptureFile::Source(AnySource::Capture(_)))
     }
 }
 
@@ -301,12 +194,12 @@ pub fn open_records<'a, R: Read + Drop>(
     file: &'a str,
     format: Option<Format>,
     reader: R,
-) -> Result<Records<Counted<R>>, Fault<'a>>
+) -> Result<CaptureFile<Counted<R>>, Fault<'a>>
     ensures fault { IfErr result (λ f. (f ≡ CannotRead file.entry) × (format ≡ None)) }
 {
     match AnySource::open(alloc, Counted::new(reader), format, LONGEST_RECORD) {
-        Ok(source) => Ok(Records::Source(source)),
-        Err(OpenFault::Gzip) => Ok(Records::Gzip),
+        Ok(source) => Ok(CaptureFile::Source(source)),
+        Err(OpenFault::Gzip) => Ok(CaptureFile::Gzip),
         Err(OpenFault::Io) => Err(Fault::CannotRead(file)),
     }
 }
@@ -320,13 +213,13 @@ pub fn each_record<'a, S: Source + Drop, V: RecordVisitor, W: Write>(
     alloc: Global,
     file: &'a str,
     selection: &Selection,
-    records: &mut Records<S>,
+    records: &mut CaptureFile<S>,
     visitor: &mut V,
     out: &mut W,
 ) -> Result<Walked, Fault<'a>>
     ensures { IfOk result (λ walked. walked.refused ≤ walked.records) }
 {
-    let Records::Source(source) = records else {
+    let CaptureFile::Source(source) = records else {
         return Ok(Walked::begin().ended_by(FileFault::gzip()));
     };
     let mut octets = Vec::with_capacity(alloc, LONGEST_RECORD)?;
@@ -367,7 +260,7 @@ fn walk<'a, S: RecordSource, V: RecordVisitor, W: Write>(
         }
         match source.next_into(octets) {
             Ok(Step::Record(head)) => {
-                let place = Place::of(walked.read, &head, first, octets.as_slice());
+                let place = RecordPlace::of(walked.read, &head, first, octets.as_slice());
                 first = Some((place.first, place.first_nanos));
                 let visited = if selection.partial && is_cut(&head) {
                     visit_cut(selection, place, &head, octets, &mut room, visitor, out)?
@@ -387,7 +280,7 @@ fn walk<'a, S: RecordSource, V: RecordVisitor, W: Write>(
 /// Visits a record, if it is chosen.
 fn visit<'a, V: RecordVisitor, W: Write>(
     selection: &Selection,
-    place: Place,
+    place: RecordPlace,
     head: &RecordHeader,
     octets: &mut Vec<u8>,
     visitor: &mut V,
@@ -399,7 +292,7 @@ fn visit<'a, V: RecordVisitor, W: Write>(
     }
     match read {
         Ok(RecordFrame { frame, secured }) => {
-            visitor.visit(Place { secured, ..place }, Ok(frame), out)?;
+            visitor.visit(RecordPlace { secured, ..place }, Ok(frame), out)?;
             Ok(Visited::Frame)
         }
         Err(fault) => {
@@ -431,7 +324,7 @@ fn known_frame_of<'a>(
 /// Visits a record that was cut, if it is chosen, as far as its frame goes.
 fn visit_cut<'a, V: RecordVisitor, W: Write>(
     selection: &Selection,
-    place: Place,
+    place: RecordPlace,
     head: &RecordHeader,
     octets: &mut Vec<u8>,
     room: &mut [u8; LONGEST_FRAME],
@@ -445,7 +338,7 @@ fn visit_cut<'a, V: RecordVisitor, W: Write>(
     match read {
         Ok(cut) => {
             let known = Some(cut.known);
-            visitor.visit(Place { known, ..place }, Ok(cut.frame), out)?;
+            visitor.visit(RecordPlace { known, ..place }, Ok(cut.frame), out)?;
             Ok(Visited::Frame)
         }
         Err(fault) => {

@@ -4,7 +4,7 @@ use Rattle.std.specs.Cmp.Lexicographic.{pointwise}
 use Rattle.std.specs.Option.{option_and_then, option_map}
 use Rattle.cmd_arguments.specs.declared.station.Argument.{Argument}
 use Rattle.cmd_arguments.specs.declared.station.StationArguments.{StationArguments}
-use Rattle.sim_settings.specs.Fields.{FieldValues}
+use Rattle.its_words.specs.Fields.{FieldValues}
 use Rattle.clap.specs.declared.parser.matches.ArgMatches.{ArgMatches}
 use Rattle.cmd_arguments.specs.Options.{value_in}
 

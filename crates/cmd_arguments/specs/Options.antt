@@ -12,7 +12,7 @@ use Rattle.hex.specs.Hex.{decode_sized}
 use Rattle.cap_records.specs.declared.choosing.Choice.{Choice}
 use Rattle.its_gnvalue.specs.Values.{IsIndividual}
 use Rattle.cap_pcap.specs.declared.format.Format.{Format}
-use Rattle.cap_records.specs.declared.walk.Selection.{Selection}
+use Rattle.cap_records.specs.declared.selection.Selection.{Selection}
 use Rattle.clap.specs.Matches.{first_value, found_of, matched_of, one_text, raw_values}
 use Rattle.clap.specs.declared.parser.matches.ArgMatches.{ArgMatches}
 use Rattle.cmd_captures.specs.Fields.{field_word}

@@ -2,7 +2,7 @@
 
 use cmd_captures::{FIELDS, Field};
 use its_headers::{KINDS, Kind};
-use sim_settings::keys::nearest;
+use its_words::keys::nearest;
 use std::alloc::{AllocError, Global};
 use std::fmt;
 

@@ -4,7 +4,7 @@ ghost use Rattle.std.specs.Prelude.{◌≡◌, IfSome};
 ghost use Rattle.cmd_arguments.specs.Arguments.{AreMatched, argument_of};
 
 use clap::ArgMatches;
-use sim_settings::keys::Fields;
+use its_words::keys::Fields;
 
 /// An argument, and the whole number that it spells, if it spells one that fits 64 bits with a
 /// sign.

@@ -33,7 +33,7 @@ use Rattle.cap_pcap.specs.declared.record.Step.TheVariants as steps
 use Rattle.cap_pcap.specs.declared.sink.SinkFault.{SinkFault}
 use Rattle.cap_pcap.specs.declared.sink.SinkFault.TheVariants as faults
 use Rattle.cap_records.specs.SignedFrames.{HasPlain, IsUnread, inner_frame, reads_secured}
-use Rattle.cap_records.specs.Walks.{Chooses}
+use Rattle.cap_records.specs.Selections.{Chooses}
 use Rattle.cap_records.specs.declared.refusal.RecordFault.{RecordFault}
 use Rattle.cap_records.specs.declared.signed.PlainPart.{PlainPart}
 use Rattle.cmd_reporting.specs.declared.status.Status.{Status}

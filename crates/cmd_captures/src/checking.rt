@@ -5,7 +5,7 @@ ghost use Rattle.cmd_reporting.specs.Statuses.{IsCommandStatus};
 
 use crate::output::Output;
 use crate::refused_lines::{Count, RefusedRecord};
-use cap_records::{Place, RecordFault, RecordVisitor, Selection, each_record, open_records};
+use cap_records::{RecordFault, RecordPlace, RecordVisitor, Selection, each_record, open_records};
 use cmd_reporting::{Fault, Io, Status, open};
 use its_linkframe::FrameView;
 use std::io::{Read, Write};
@@ -20,7 +20,7 @@ struct RefusedRecords {
 impl RecordVisitor for RefusedRecords {
     fn visit<'f, W: Write>(
         &mut self,
-        place: Place,
+        place: RecordPlace,
         frame: Result<FrameView<'_>, RecordFault>,
         out: &mut W,
     ) -> Result<(), Fault<'f>> {

@@ -4,11 +4,11 @@ use crate::field::Field;
 use crate::moment::Moment;
 use crate::secured_keys::SecuredKeys;
 use crate::text::Text;
-use cap_records::Place;
-use cmd_text::frames::{FrameKeys, MessageKeys, TargetKeys};
-use cmd_text::json_lines::Octets;
+use cap_records::RecordPlace;
 use its_headers::Kind;
 use its_linkframe::FrameView;
+use its_words::frames::{FrameKeys, MessageKeys, TargetKeys};
+use its_words::json_lines::Octets;
 use serde::Serialize;
 use std::alloc::AllocError;
 
@@ -31,7 +31,7 @@ pub(crate) struct FrameLine<'a> {
 
 impl<'a> FrameLine<'a> {
     /// What is printed of the frame of a record.
-    pub(crate) fn of(moment: Moment, frame: &FrameView<'a>, place: &Place) -> FrameLine<'a> {
+    pub(crate) fn of(moment: Moment, frame: &FrameView<'a>, place: &RecordPlace) -> FrameLine<'a> {
         let kind = frame.packet.kind();
         let known = place.known;
         let keys = FrameKeys::of(frame);

@@ -11,9 +11,9 @@ ghost use Rattle.cmd_reporting.specs.Statuses.{IsCommandStatus, IsStopped};
 use cmd_reporting::{
     CommandFault, Fault, Io, OutputFormat, Status, WriterFault, create_output, keep_apart, open,
 };
-use cmd_text::frames::Explanation;
 use cmd_text::lines::{Line, Passed, are_digits};
 use its_linkframe::{CaptureWriter, Counted, LONGEST_FRAME, Record};
+use its_words::frames::Explanation;
 use std::alloc::{AllocError, AllocFailed, Global};
 use std::io::{BufRead, Read, Write};
 use std::rt::Files;

@@ -2,7 +2,7 @@
 
 use crate::date::Date;
 use crate::text::Text;
-use cap_records::Place;
+use cap_records::RecordPlace;
 use serde::{Described, Serialize, Serializer};
 use std::alloc::AllocError;
 use std::fmt;
@@ -142,7 +142,7 @@ impl Clock {
     }
 
     /// The moment of the next record.
-    pub(crate) fn next(&mut self, place: Place) -> Moment {
+    pub(crate) fn next(&mut self, place: RecordPlace) -> Moment {
         let time = Instant {
             millis: place.moment,
             nanos: place.nanos,

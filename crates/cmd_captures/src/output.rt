@@ -6,7 +6,7 @@ use crate::refused_lines::RefusedAt;
 use crate::text::Text;
 use cap_records::{RefusedCapture, Walked};
 use cmd_reporting::{Fault, OutputFormat};
-use cmd_text::json_lines::JsonLine;
+use its_words::json_lines::JsonLine;
 use serde::Serialize;
 use std::alloc::{AllocError, Global};
 use std::fmt::Display;

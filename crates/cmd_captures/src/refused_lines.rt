@@ -3,8 +3,8 @@
 
 use crate::moment::Moment;
 use cap_records::{RecordCode, RecordFault};
-use cmd_text::frames::Explanation;
-use cmd_text::json_lines::Printed;
+use its_words::frames::Explanation;
+use its_words::json_lines::Printed;
 use serde::Serialize;
 use std::fmt;
 

@@ -5,7 +5,7 @@ use crate::field::Field;
 use crate::frame_line::FrameLine;
 use crate::moment::{Clock, Moment};
 use crate::text::Text;
-use cap_records::{Place, RecordFault, RecordVisitor};
+use cap_records::{RecordFault, RecordPlace, RecordVisitor};
 use cmd_reporting::Fault;
 use its_linkframe::FrameView;
 use std::alloc::{AllocError, Global};
@@ -16,7 +16,7 @@ use std::io::Write;
 /// What is known of a record.
 #[derive(Clone, Copy)]
 struct Row<'a> {
-    place: Place,
+    place: RecordPlace,
     moment: Moment,
     /// Its frame, or why it is refused.
     frame: Result<FrameLine<'a>, RecordFault>,
@@ -134,7 +134,7 @@ impl Rows {
     /// Prints the values of a record at a moment.
     pub(crate) fn print<'f, W: Write>(
         &mut self,
-        place: Place,
+        place: RecordPlace,
         moment: Moment,
         frame: Result<FrameView<'_>, RecordFault>,
         out: &mut W,
@@ -209,7 +209,7 @@ fn add_key(
 impl RecordVisitor for Rows {
     fn visit<'f, W: Write>(
         &mut self,
-        place: Place,
+        place: RecordPlace,
         frame: Result<FrameView<'_>, RecordFault>,
         out: &mut W,
     ) -> Result<(), Fault<'f>> {

@@ -12,7 +12,7 @@ use crate::output::Output;
 use crate::refused_lines::RefusedAt;
 use crate::rows::{RowForm, Rows};
 use cap_records::{
-    Place, RecordFault, RecordVisitor, Records, RefusedCapture, Selection, each_record,
+    CaptureFile, RecordFault, RecordPlace, RecordVisitor, RefusedCapture, Selection, each_record,
     open_records,
 };
 use cmd_quoting::OneLine;
@@ -89,7 +89,7 @@ struct AllRecords {
 impl RecordVisitor for AllRecords {
     fn visit<'f, W: Write>(
         &mut self,
-        place: Place,
+        place: RecordPlace,
         frame: Result<FrameView<'_>, RecordFault>,
         out: &mut W,
     ) -> Result<(), Fault<'f>> {
@@ -159,7 +159,7 @@ where
 fn show_opened<'a, S: Source + Drop, W: Write, E: Write>(
     alloc: Global,
     file: &'a str,
-    records: &mut Records<S>,
+    records: &mut CaptureFile<S>,
     selection: &Selection,
     showing: &Showing,
     io: &mut Io<W, E>,
@@ -183,7 +183,7 @@ fn show_opened<'a, S: Source + Drop, W: Write, E: Write>(
 fn show_lines<'a, S: Source + Drop, W: Write, E>(
     alloc: Global,
     file: &'a str,
-    records: &mut Records<S>,
+    records: &mut CaptureFile<S>,
     selection: &Selection,
     clock: Clock,
     io: &mut Io<W, E>,
@@ -216,7 +216,7 @@ fn rows_of_cut(alloc: Global, clock: Clock) -> Result<Rows, AllocError> {
 fn show_objects<'a, S: Source + Drop, W: Write, E: Write>(
     alloc: Global,
     file: &'a str,
-    records: &mut Records<S>,
+    records: &mut CaptureFile<S>,
     selection: &Selection,
     rows: Rows,
     io: &mut Io<W, E>,
@@ -234,7 +234,7 @@ fn show_objects<'a, S: Source + Drop, W: Write, E: Write>(
 fn show_rows<'a, S: Source + Drop, W: Write, E: Write>(
     alloc: Global,
     file: &'a str,
-    records: &mut Records<S>,
+    records: &mut CaptureFile<S>,
     selection: &Selection,
     rows: Rows,
     io: &mut Io<W, E>,

@@ -9,7 +9,7 @@ use its_gnvalue::NoMemory;
 use its_loctable::SortedTable;
 use its_model::laws::{calls_go_on, sources_are_isolated};
 use its_station::{Call, Station, StationAnswer};
-use sim_scenario::events::own_verb;
+use its_words::calls::own_verb;
 
 /// Makes one call at a time, which is a run of this call alone. `NoMemory` if an allocation failed:
 /// nothing changed then.

@@ -5,7 +5,7 @@ ghost use Rattle.std.specs.Prelude.{◌≡◌};
 use crate::limit::TooLarge;
 use cmd_quoting::OneLine;
 use cmd_reporting::{Cause, CommandFault, Fault, OutputFormat, Status, WriterFault};
-use cmd_text::frames::Explanation;
+use its_words::frames::Explanation;
 use sim_runs::RunFault;
 use std::alloc::AllocError;
 use std::io;

@@ -9,7 +9,8 @@ use Rattle.std.proofs.lemmas.List.{append_assoc, append-nil}
 use Rattle.cmd_text.specs.Lines.{IsKept, IsLineRead, first_line, after_line, lines_of}
 use Rattle.cmd_text.specs.declared.lines.line.Line.{Line}
 use Rattle.cmd_text.proofs.Texts.{lines_first}
-use Rattle.cmd_pipe.specs.Lines.{AreLines, LineText, kept_line, text_of}
+use Rattle.cmd_pipe.specs.Lines.{AreLines, kept_line, text_of}
+use Rattle.its_lines.specs.Lines.{LineText}
 
 -- these are the lines of the input that stand before what is left of it
 abbrev pub AreBefore : Option (List ℕ) → Option (List ℕ) → List LineText → Type 0

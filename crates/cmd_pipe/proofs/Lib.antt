@@ -1,10 +1,2 @@
-pub mod Calls
 pub mod InputLines
-pub mod Neighbours
-pub mod Read
 pub mod Served
-pub mod Own
-pub mod Secured
-pub mod Heard
-pub mod Verified
-pub mod LineAnswers

@@ -7,13 +7,14 @@ use Rattle.cmd_pipe.specs.declared.ended.Ended.{Ended}
 use Rattle.cmd_pipe.specs.declared.ended.Ended.TheVariants as ends
 use Rattle.its_station.specs.State.{StationState}
 use Rattle.its_station.specs.declared.counts.Counts.{Counts}
-use Rattle.cmd_pipe.specs.Knowing.{Counted}
-use Rattle.cmd_pipe.specs.Lines.{LineText, AreLines}
+use Rattle.its_lines.specs.Knowing.{Counted}
+use Rattle.its_lines.specs.Lines.{LineText}
+use Rattle.cmd_pipe.specs.Lines.{AreLines}
 use Rattle.cmd_pipe.proofs.InputLines.{AreBefore, before_none}
-use Rattle.cmd_pipe.specs.Serving.{IsServed, IsServedLine, TellsLine, TellsLines, ended_of}
-use Rattle.cmd_pipe.specs.Serving.{RepresentsCounted, then_ended}
-use Rattle.cmd_pipe.specs.declared.response.Response.{Response}
-use Rattle.cmd_pipe.specs.declared.response.Response.TheVariants as responses
+use Rattle.cmd_pipe.specs.Serving.{IsServed, IsServedLine, TellsLines, ended_of, then_ended}
+use Rattle.its_lines.specs.Serving.{RepresentsCounted, TellsLine}
+use Rattle.its_lines.specs.declared.response.Response.{Response}
+use Rattle.its_lines.specs.declared.response.Response.TheVariants as responses
 
 lines_last : (s : Counted) (n : ℕ) (lines : List LineText) (told : List Response)
     (mid : Counted) (line : LineText) (new : List Response) (end : Counted)

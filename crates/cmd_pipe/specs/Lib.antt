@@ -1,5 +1,2 @@
 pub mod Lines
-pub mod Words
-pub mod Requests
-pub mod Knowing
 pub mod Serving

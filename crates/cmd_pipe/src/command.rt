@@ -9,7 +9,7 @@ ghost use Rattle.cmd_pipe.specs.Serving.{ServesInput};
 
 use crate::ended::Ended;
 use crate::fault::PipeFault;
-use crate::printing::Printer;
+use crate::printer::Printer;
 use crate::serving::serve;
 use its_gnvalue::NoMemory;
 use its_governor::Limits;

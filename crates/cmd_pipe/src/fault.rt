@@ -1,7 +1,7 @@
 //! What ends a station on a pipe before its input ends.
 
-use cmd_text::json_lines::JsonFault;
 use its_gnvalue::NoMemory;
+use its_words::json_lines::JsonFault;
 use std::alloc::AllocError;
 use std::io;
 use std::io::Write;
@@ -22,7 +22,8 @@ pub enum PipeFault {
 }
 
 impl PipeFault {
-    /// The fault of a read that failed: out of memory is told apart.
+    /// Returns the fault of a read that failed: `OutOfMemory` if memory ran out, otherwise
+    /// `CannotRead`.
     pub(crate) fn of_read(error: &io::Error) -> PipeFault {
         match error.kind() {
             io::ErrorKind::OutOfMemory => PipeFault::OutOfMemory(AllocError),
@@ -30,7 +31,7 @@ impl PipeFault {
         }
     }
 
-    /// Writes the line on standard error. What fails there is passed over.
+    /// Writes the line on standard error. A failure to write it is ignored.
     pub(crate) fn report<E: Write>(&self, err: &mut E) {
         if !matches!(self, PipeFault::NoOutput(_)) {
             let _ = writeln!(err, "{self}");

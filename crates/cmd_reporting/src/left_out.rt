@@ -4,7 +4,7 @@ ghost use Rattle.std.specs.Prelude.{◌≡◌};
 
 use crate::options::OutputFormat;
 use cap_pcap::SinkFault;
-use cmd_text::frames::Explanation;
+use its_words::frames::Explanation;
 use std::fmt;
 
 /// A record or a frame that has no place in a file. It prints as its line on standard error.

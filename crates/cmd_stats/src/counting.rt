@@ -10,7 +10,7 @@ use crate::psids::Psids;
 use crate::seconds::Seconds;
 use crate::sources::Sources;
 use cap_records::{
-    Place, RecordFault, RecordVisitor, Selection, each_record, open_records, traits_of,
+    RecordFault, RecordPlace, RecordVisitor, Selection, each_record, open_records, traits_of,
 };
 use cmd_reporting::{Fault, Io, Status, open};
 use its_linkframe::{FrameView, PACKET};
@@ -41,7 +41,7 @@ impl Counts {
     }
 
     /// Counts the frame of a record.
-    fn add(&mut self, place: &Place, frame: &FrameView<'_>) -> Result<(), AllocError> {
+    fn add(&mut self, place: &RecordPlace, frame: &FrameView<'_>) -> Result<(), AllocError> {
         let length = length_of(place, frame);
         // No frame has more than 2310 octets.
         let octets = u32::try_from(length).unwrap_or(u32::MAX);
@@ -58,7 +58,7 @@ impl Counts {
 }
 
 /// How many octets the frame of a record has: of a secured one the whole frame.
-fn length_of(place: &Place, frame: &FrameView<'_>) -> usize {
+fn length_of(place: &RecordPlace, frame: &FrameView<'_>) -> usize {
     match place.secured {
         Some(secured) => secured.length,
         None => frame.packet.octets().len().saturating_add(PACKET),
@@ -66,14 +66,14 @@ fn length_of(place: &Place, frame: &FrameView<'_>) -> usize {
 }
 
 /// The PSID of a record, if its frame is a signed one.
-fn psid_of(place: &Place) -> Option<u64> {
+fn psid_of(place: &RecordPlace) -> Option<u64> {
     Some(place.secured?.info?.psid)
 }
 
 impl RecordVisitor for Counts {
     fn visit<'f, W: Write>(
         &mut self,
-        place: Place,
+        place: RecordPlace,
         frame: Result<FrameView<'_>, RecordFault>,
         _out: &mut W,
     ) -> Result<(), Fault<'f>> {

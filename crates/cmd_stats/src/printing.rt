@@ -8,7 +8,7 @@ use crate::seconds::{SecondRow, second_table};
 use crate::sources::{SourceRow, source_table};
 use cap_records::{RefusedCapture, Walked};
 use cmd_reporting::Fault;
-use cmd_text::json_lines::JsonLine;
+use its_words::json_lines::JsonLine;
 use serde::{Described, Serialize, Serializer};
 use std::alloc::Global;
 use std::io::Write;

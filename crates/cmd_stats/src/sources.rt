@@ -2,8 +2,8 @@
 
 use crate::numbers::Numbers;
 use crate::table::Table;
-use cmd_text::json_lines::Digits;
 use its_linkframe::FrameView;
+use its_words::json_lines::Digits;
 use serde::Serialize;
 use std::alloc::{AllocError, Global};
 use std::collections::BTreeMap;

@@ -1,5 +1,4 @@
-//! What commands read and print as text: lines of a file, JSON, and the words and keys for frames
-//! and for the answers of a station.
+//! The lines of the files that commands read.
 //!
 //! # What is proved
 //!
@@ -9,12 +8,8 @@
 //!
 //! # Only tested
 //!
-//! - `checks/failures`: lines in pieces of any size, interrupted and failed reads, lines of a
-//!   mebibyte in little memory, failed allocations.
-//! - `test_values`, `cases/sim.md`, `checks/cases`: which keys and values a line of JSON has.
+//! `checks/failures`: lines in pieces of any size, interrupted and failed reads, lines of a
+//! mebibyte in little memory, failed allocations.
 #![tactic(auto)]
 
-pub mod answers;
-pub mod frames;
-pub mod json_lines;
 pub mod lines;

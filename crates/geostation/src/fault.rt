@@ -2,8 +2,9 @@
 
 use cmd_quoting::Quoted;
 use cmd_reporting::{CommandFault, Fault, OutputFormat, Status};
-use cmd_text::frames::Explanation;
-use sim_settings::keys::{Key, SettingFault, SettingReason, WrongValue};
+use its_words::frames::Explanation;
+use its_words::keys::{Key, WrongValue};
+use sim_settings::{SettingFault, SettingReason};
 use std::io::Write;
 use thiserror::Error;
 

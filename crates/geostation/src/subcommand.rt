@@ -16,7 +16,7 @@ use cmd_page::Viewing;
 use cmd_reporting::{OutputFormat, Target, is_standard};
 use cmd_stats::replay::PortList;
 use sim_runs::{ResultFiles, RunFiles, RunOptions};
-use sim_settings::keys::{AirSettings, SettingFault};
+use sim_settings::{AirSettings, SettingFault};
 use std::alloc::Global;
 
 /// What the program is to do.

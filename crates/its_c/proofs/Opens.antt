@@ -5,8 +5,8 @@ use Rattle.std.proofs.Math.Logic.{∥∥₁_map, ∥∥₁_elim}
 use Rattle.std.proofs.lemmas.Grind.{merely}
 use Rattle.std.proofs.lemmas.Option.{same_Some}
 use Rattle.std.specs.Prelude.{Result, Ok, Err, IsSome, IfOk, OnErr, Vec}
-use Rattle.cmd_pipe.specs.Knowing.{Counted}
-use Rattle.cmd_pipe.specs.Serving.{RepresentsCounted}
+use Rattle.its_lines.specs.Knowing.{Counted}
+use Rattle.its_lines.specs.Serving.{RepresentsCounted}
 use Rattle.std.specs.Option.{option_map}
 use Rattle.std.specs.declared.alloc.Global.{Global}
 use Rattle.its_station.specs.State.{StationState, RepresentsStation}

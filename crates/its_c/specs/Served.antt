@@ -1,15 +1,15 @@
 -- What C is told of a line that asks for a call, or for what the station knows.
 use Rattle.std.specs.Prelude.{◌≡◌, ◌≤◌, ◌<◌, ◌⊎◌, ℕ, List, length, Vec, Option, Some, None}
 use Rattle.std.specs.declared.alloc.Global.{Global}
-use Rattle.cmd_text.specs.JsonLines.{IsCompact}
+use Rattle.its_words.specs.JsonLines.{IsCompact}
 use Rattle.its_unit.specs.Unit.{UnitModel, UnitState, RepresentsUnit}
 use Rattle.its_station.specs.declared.answer.Answer.TheVariants as answers
-use Rattle.cmd_pipe.specs.Knowing.{Counted}
-use Rattle.cmd_pipe.specs.Lines.{whole_line}
-use Rattle.cmd_pipe.specs.Serving.{TellsLine, told_in}
-use Rattle.cmd_pipe.specs.declared.response.Known.TheVariants as knowns
-use Rattle.cmd_pipe.specs.declared.response.Response.{Response}
-use Rattle.cmd_pipe.specs.declared.response.Response.TheVariants as responses
+use Rattle.its_lines.specs.Knowing.{Counted}
+use Rattle.its_lines.specs.Lines.{whole_line}
+use Rattle.its_lines.specs.Serving.{TellsLine, told_in}
+use Rattle.its_lines.specs.declared.response.Known.TheVariants as knowns
+use Rattle.its_lines.specs.declared.response.Response.{Response}
+use Rattle.its_lines.specs.declared.response.Response.TheVariants as responses
 use Rattle.its_c.specs.Told.{Holds}
 use Rattle.its_c.specs.declared.handle.Geostation.{Geostation}
 

@@ -1,9 +1,9 @@
 //! The call that takes a line of JSON, as the command `station` does, and answers it.
 
 ghost use Rattle.std.specs.Prelude.{◌≡◌, ◌≢◌, ◌≤◌, ◌<◌, ◌⊎◌, pos, length, Option};
-ghost use Rattle.cmd_pipe.specs.declared.response.Response.{Response as ToldLine};
-ghost use Rattle.cmd_pipe.specs.Lines.{whole_line};
-ghost use Rattle.cmd_pipe.specs.Requests.{AsksSecured};
+ghost use Rattle.its_lines.specs.declared.response.Response.{Response as ToldLine};
+ghost use Rattle.its_lines.specs.Lines.{whole_line};
+ghost use Rattle.its_lines.specs.Requests.{AsksSecured};
 ghost use Rattle.its_unit.specs.Unit.{UnitModel};
 ghost use Rattle.its_c.specs.Held.{counts_in, limits_in, station_in};
 ghost use Rattle.its_c.specs.Open.{HoldsUnit};
@@ -13,10 +13,10 @@ ghost use Rattle.its_c.specs.Told.{Holds};
 use crate::handle::Geostation;
 use crate::status::{NO_MEMORY, NO_ROOM, OK};
 use crate::told::hand_out;
-use cmd_pipe::{Known, Response, Unanswered, answer_line, print_response};
-use cmd_text::json_lines::JsonLine;
+use its_lines::{Known, Response, Unanswered, answer_line, print_response};
 use its_linkframe::LONGEST_FRAME;
 use its_station::Answer;
+use its_words::json_lines::JsonLine;
 use std::alloc::Global;
 
 /// How many octets an answer may have: a call that writes one wants room for it.

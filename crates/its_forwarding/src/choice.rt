@@ -1,14 +1,15 @@
 //! The rules of selection, of simple and of greedy forwarding (EN 302 636-4-1 clauses 8 and 10, in
 //! this profile).
 
-ghost use Rattle.std.specs.Prelude.{◌≡◌, ◌^◌, ◌≤◌, List};
+ghost use Rattle.std.specs.Prelude.{◌≡◌, ◌^◌, ◌≤◌, IsFalse, List};
 ghost use Rattle.its_model.specs.History.{Reception};
 ghost use Rattle.its_model.specs.Stations.{stations_at};
+ghost use Rattle.its_geometry.specs.Area.{area_holds};
 ghost use Rattle.its_geometry.specs.Offsets.{squared_distance};
 ghost use Rattle.its_model.specs.Decision.{decision, is_sender_inside, next_hop, toward};
 ghost use Rattle.its_loctable.specs.Content.{Represents};
 ghost use Rattle.its_loctable.specs.Nearest.{IsNearest};
-ghost use Rattle.its_forwarding.specs.Chosen.{chosen, IsByRules};
+ghost use Rattle.its_forwarding.specs.Chosen.{chosen};
 
 use crate::nearest::find_next_hop;
 use its_geometry::{Area, contains};
@@ -26,12 +27,15 @@ pub enum Choice {
     Drop,
 }
 
-/// To whom a packet for this area goes from the own place, where it came from this sender, if it
-/// came from one: the first that applies. To all, where the area holds the own place (simple
-/// forwarding); to nobody, where the sender is known to stand in the area, by an accurate place; to
-/// the neighbour that is nearest to the area's centre, of equally near ones the one of least
-/// address, where one is nearer than the own place (greedy forwarding); to all. It takes no memory.
-/// `now` is in milliseconds, at most 2^62.
+/// Returns to whom a packet for this area goes from the own position. The first that applies:
+///
+/// - to all, if the area holds the own position (simple forwarding);
+/// - to nobody, if it came from a sender that is known to be in the area, by an accurate position;
+/// - to the neighbour that is nearest to the area's centre, of equally near ones the one of least
+///   address, if it is nearer than the own position (greedy forwarding);
+/// - otherwise to all.
+///
+/// It takes no memory. `now` is in milliseconds, at most 2^62.
 pub fn choose<S: LocationStore>(
     store: &S,
     now: u64,
@@ -45,13 +49,14 @@ pub fn choose<S: LocationStore>(
         chosen result
         ≡ decision (stations_at (S.remember store.now) now history) own area.now sender }
 {
-    match choice_of_rules(store, now, own, area, sender) {
-        Some(choice) => choice,
-        None => {
-            let nearest = store.nearest(now, area.centre());
-            greedy(store, now, own, area, nearest)
-        }
+    if contains(area, own) {
+        return Choice::Broadcast;
     }
+    if is_sender_inside(store, now, area, sender) {
+        return Choice::Drop;
+    }
+    let nearest = store.nearest(now, area.centre());
+    greedy(store, now, own, area, nearest)
 }
 
 /// Returns what `choose` does, and has the store keep the neighbour that is nearest to the area's
@@ -72,35 +77,36 @@ pub fn choose_and_keep<S: LocationStore>(
     ensures limit { S.limit store.new ≡ S.limit store.old }
     ensures remember { S.remember store.new ≡ S.remember store.old }
 {
-    match choice_of_rules(store, now, own, area, sender) {
-        Some(choice) => choice,
-        None => {
-            let nearest = store.keep_nearest(now, area.centre());
-            greedy(store, now, own, area, nearest)
-        }
+    if !contains(area, own) {
+        return choose_outside(store, now, own, area, sender);
     }
+    Choice::Broadcast
 }
 
-/// The choice by the rules that come before greedy forwarding, if one of them applies.
-fn choice_of_rules<S: LocationStore>(
-    store: &S,
+/// Returns what `choose_and_keep` does, for a station that knows that it is outside of the area.
+/// The area is not tested again.
+pub fn choose_outside<S: LocationStore>(
+    store: &mut S,
     now: u64,
     own: Place,
     area: &Area,
     sender: Option<Mac>,
-) -> Option<Choice>
-    requires { now ≤ 2 ^ 62 }
-    ensures { (history : List Reception) →
-        Represents (S.remember store.now) (S.content store.now) history now →
-        IsByRules (stations_at (S.remember store.now) now history) own area.now sender result }
+) -> Choice
+    requires moment { now ≤ 2 ^ 62 }
+    requires outside { IsFalse (area_holds area.now own) }
+    ensures choice { (history : List Reception) →
+        Represents (S.remember store.old) (S.content store.old) history now →
+        chosen result
+        ≡ decision (stations_at (S.remember store.old) now history) own area.now sender }
+    ensures unchanged { S.content store.new ≡ S.content store.old }
+    ensures limit { S.limit store.new ≡ S.limit store.old }
+    ensures remember { S.remember store.new ≡ S.remember store.old }
 {
-    if contains(area, own) {
-        return Some(Choice::Broadcast);
-    }
     if is_sender_inside(store, now, area, sender) {
-        return Some(Choice::Drop);
+        return Choice::Drop;
     }
-    None
+    let nearest = store.keep_nearest(now, area.centre());
+    greedy(store, now, own, area, nearest)
 }
 
 /// The choice of greedy forwarding: the neighbour that is nearest to the area's centre, if one is

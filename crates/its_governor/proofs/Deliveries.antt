@@ -9,6 +9,7 @@ use Rattle.its_model.specs.Packet.{Message, Transmission}
 use Rattle.its_model.specs.Calls as model
 use Rattle.its_model.specs.Calls.{Answer}
 use Rattle.its_governor.specs.declared.governor.Governor.{Governor}
+use Rattle.its_governor.specs.declared.receiver.Receiver.{Receiver}
 use Rattle.its_governor.specs.declared.memory.DeliveredPacket.{DeliveredPacket}
 use Rattle.its_governor.specs.declared.memory.PacketId.{PacketId}
 use Rattle.its_governor.specs.declared.rate.Limits.{Limits}
@@ -50,36 +51,36 @@ delivery_kept g now t false true =
 delivery_kept g now t true false = refl
 delivery_kept g now t false false = refl
 
-judging_kept : (g : Governor) (now : ℕ) (t : Transmission) (handed sent : Bool)
-    → (after_judging g now t handed sent).delivered
-    ≡ noted g.delivered (delivery_if (passed_of g now t handed sent).delivers now t)
-judging_kept g now t handed sent =
-    let p = passed_of g now t handed sent in
+judging_kept : (g : Governor) (r : Receiver) (now : ℕ) (t : Transmission) (handed sent : Bool)
+    → (after_judging g r now t handed sent).delivered
+    ≡ noted g.delivered (delivery_if (passed_of g r now t handed sent).delivers now t)
+judging_kept g r now t handed sent =
+    let p = passed_of g r now t handed sent in
     let source = t.pdu.vector.address in
     delivery_kept (after_forwarding g now source sent p.forwards) now t p.is_repeated p.delivers
     ∙ ap (λ (m : Option MemoryState). noted m (delivery_if p.delivers now t))
     (forwarding_kept g now source sent p.forwards)
 
-answer_kept : (g : Governor) (now : ℕ) (request : Bool) (frame : Option Transmission)
+answer_kept : (g : Governor) (r : Receiver) (now : ℕ) (request : Bool) (frame : Option Transmission)
     (answer : Answer Transmission)
-    → (after_call g now request frame answer).delivered
-    ≡ noted g.delivered (delivered_by g now frame answer)
-answer_kept g now request (Some t) (model.Answer.Accepted handed relayed) =
-    judging_kept g now t (is_some handed) (is_some relayed)
-answer_kept g now request None (model.Answer.Accepted handed relayed) = refl
-answer_kept g now true frame (model.Answer.Sent sent) = refl
-answer_kept g now false frame (model.Answer.Sent sent) = refl
-answer_kept g now request frame model.Answer.Moved = refl
-answer_kept g now request frame model.Answer.Opened = refl
-answer_kept g now request frame model.Answer.Closed = refl
-answer_kept g now request frame model.Answer.Restarted = refl
-answer_kept g now request frame model.Answer.Quiet = refl
-answer_kept g now request frame (model.Answer.Ignored why) = refl
-answer_kept g now request frame (model.Answer.Refused refusal) = refl
+    → (after_call g r now request frame answer).delivered
+    ≡ noted g.delivered (delivered_by g r now frame answer)
+answer_kept g r now request (Some t) (model.Answer.Accepted handed relayed) =
+    judging_kept g r now t (is_some handed) (is_some relayed)
+answer_kept g r now request None (model.Answer.Accepted handed relayed) = refl
+answer_kept g r now true frame (model.Answer.Sent sent) = refl
+answer_kept g r now false frame (model.Answer.Sent sent) = refl
+answer_kept g r now request frame model.Answer.Moved = refl
+answer_kept g r now request frame model.Answer.Opened = refl
+answer_kept g r now request frame model.Answer.Closed = refl
+answer_kept g r now request frame model.Answer.Restarted = refl
+answer_kept g r now request frame model.Answer.Quiet = refl
+answer_kept g r now request frame (model.Answer.Ignored why) = refl
+answer_kept g r now request frame (model.Answer.Refused refusal) = refl
 
 call_kept : (g : Governor) (call : GovernedCall)
     → (after_governed g call).delivered ≡ noted g.delivered (delivered_in g call)
-call_kept g (GovernedCall.Answered now request frame answer) = answer_kept g now request frame answer
+call_kept g (GovernedCall.Answered r now request frame answer) = answer_kept g r now request frame answer
 call_kept g GovernedCall.OverRate = refl
 
 -- ---- the memory is the newest of the deliveries
@@ -114,27 +115,27 @@ keeps_if : (n : ℕ) (past : List DeliveredAt) (delivers : Bool) (now : ℕ) (t 
 keeps_if n past true now t = keeps_of n past (id_of t) now (end_of_life now t.pdu.lifetime)
 keeps_if n past false now t = refl
 
-keeps_by : (n : ℕ) (past : List DeliveredAt) (g : Governor) (now : ℕ)
-    (frame : Option Transmission) (answer : Answer Transmission)
-    → noted (Some (memory_of n past)) (delivered_by g now frame answer)
-    ≡ Some (memory_of n (delivered_by g now frame answer ++ past))
-keeps_by n past g now (Some t) (model.Answer.Accepted handed relayed) =
-    keeps_if n past (passed_of g now t (is_some handed) (is_some relayed)).delivers now t
-keeps_by n past g now None (model.Answer.Accepted handed relayed) = refl
-keeps_by n past g now frame (model.Answer.Sent sent) = refl
-keeps_by n past g now frame model.Answer.Moved = refl
-keeps_by n past g now frame model.Answer.Opened = refl
-keeps_by n past g now frame model.Answer.Closed = refl
-keeps_by n past g now frame model.Answer.Restarted = refl
-keeps_by n past g now frame model.Answer.Quiet = refl
-keeps_by n past g now frame (model.Answer.Ignored why) = refl
-keeps_by n past g now frame (model.Answer.Refused refusal) = refl
+keeps_by : (n : ℕ) (past : List DeliveredAt) (g : Governor) (r : Receiver)
+    (now : ℕ) (frame : Option Transmission) (answer : Answer Transmission)
+    → noted (Some (memory_of n past)) (delivered_by g r now frame answer)
+    ≡ Some (memory_of n (delivered_by g r now frame answer ++ past))
+keeps_by n past g r now (Some t) (model.Answer.Accepted handed relayed) =
+    keeps_if n past (passed_of g r now t (is_some handed) (is_some relayed)).delivers now t
+keeps_by n past g r now None (model.Answer.Accepted handed relayed) = refl
+keeps_by n past g r now frame (model.Answer.Sent sent) = refl
+keeps_by n past g r now frame model.Answer.Moved = refl
+keeps_by n past g r now frame model.Answer.Opened = refl
+keeps_by n past g r now frame model.Answer.Closed = refl
+keeps_by n past g r now frame model.Answer.Restarted = refl
+keeps_by n past g r now frame model.Answer.Quiet = refl
+keeps_by n past g r now frame (model.Answer.Ignored why) = refl
+keeps_by n past g r now frame (model.Answer.Refused refusal) = refl
 
 keeps_in : (n : ℕ) (past : List DeliveredAt) (g : Governor) (call : GovernedCall)
     → noted (Some (memory_of n past)) (delivered_in g call)
     ≡ Some (memory_of n (delivered_in g call ++ past))
-keeps_in n past g (GovernedCall.Answered now request frame answer) =
-    keeps_by n past g now frame answer
+keeps_in n past g (GovernedCall.Answered r now request frame answer) =
+    keeps_by n past g r now frame answer
 keeps_in n past g GovernedCall.OverRate = refl
 
 keeps : (n : ℕ) (g : Governor) (past : List DeliveredAt) (calls : List GovernedCall)
@@ -176,15 +177,15 @@ no_echo : (n : ℕ) (now : ℕ) (past : List DeliveredAt) (id : Option PacketId)
 no_echo n now past None h = refl
 no_echo n now past (Some id) h = none_in_front (is_packet id now) n past (h id refl)
 
-owed_by : (g : Governor) (now : ℕ) (t : Transmission) (message : Message)
+owed_by : (g : Governor) (r : Receiver) (now : ℕ) (t : Transmission) (message : Message)
     (relayed : Option Transmission) → is_echo g.delivered now t ≡ false
     → (sent : Option Transmission)
-    × (governed g now (Some t) (model.Answer.Accepted (Some message) relayed)
+    × (governed g r now (Some t) (model.Answer.Accepted (Some message) relayed)
     ≡ model.Answer.Accepted (Some message) sent)
-owed_by g now t message relayed is = (
-  kept (passed_of g now t true (is_some relayed)).forwards relayed,
+owed_by g r now t message relayed is = (
+  kept (passed_of g r now t true (is_some relayed)).forwards relayed,
   ap (λ (b : Bool). model.Answer.Accepted (kept (not b) (Some message))
-      (kept (passed_of g now t true (is_some relayed)).forwards relayed)) is,
+      (kept (passed_of g r now t true (is_some relayed)).forwards relayed)) is,
 )
 
 nothing_held : (id : Option PacketId) (now : ℕ) → is_remembered None id now ≡ false
@@ -193,22 +194,22 @@ nothing_held (Some id) now = refl
 
 pub owed : (limits : Limits) (g : Governor) → IsNewGovernor limits g → AreOwed g
 unfolding packets_of
-owed limits g new calls now t message relayed h = by limits.delivers_once refl
+owed limits g new calls r now t message relayed h = by limits.delivers_once refl
   where
     by : (b : Bool) → limits.delivers_once ≡ b
         → (sent : Option Transmission)
-        × (governed (after_calls g calls) now (Some t)
+        × (governed (after_calls g calls) r now (Some t)
         (model.Answer.Accepted (Some message) relayed) ≡ model.Answer.Accepted (Some message) sent)
     by true e =
         let starts : g.delivered ≡ Some (memory_of 1024 []) =
         new.delivered ∙ ap (λ (b : Bool). cond b (Some (record { packets = []; limit = 1024 })) None) e in
-        owed_by (after_calls g calls) now t message relayed
+        owed_by (after_calls g calls) r now t message relayed
         (ap (λ (m : Option MemoryState). is_echo m now t) (keeps 1024 g [] calls starts)
         ∙ no_echo 1024 now (deliveries g [] calls) (id_of t) h)
     by false e =
         let starts : g.delivered ≡ None =
         new.delivered ∙ ap (λ (b : Bool). cond b (Some (record { packets = []; limit = 1024 })) None) e in
-        owed_by (after_calls g calls) now t message relayed
+        owed_by (after_calls g calls) r now t message relayed
         (ap (λ (m : Option MemoryState). is_echo m now t) (keeps_none g calls starts)
         ∙ nothing_held (id_of t) now)
 
@@ -239,29 +240,29 @@ fresh true true e = absurd (false≢true e)
 fresh true false e = refl
 fresh false echo e = absurd (false≢true e)
 
-apart_by : (n : ℕ) (past : List DeliveredAt) (g : Governor) (now : ℕ)
-    (frame : Option Transmission) (answer : Answer Transmission)
+apart_by : (n : ℕ) (past : List DeliveredAt) (g : Governor) (r : Receiver)
+    (now : ℕ) (frame : Option Transmission) (answer : Answer Transmission)
     → g.delivered ≡ Some (memory_of n past) → Apart n past
-    → Apart n (delivered_by g now frame answer ++ past)
-apart_by n past g now (Some t) (model.Answer.Accepted handed relayed) is apart =
-    apart_if n past (passed_of g now t (is_some handed) (is_some relayed)).delivers now t
+    → Apart n (delivered_by g r now frame answer ++ past)
+apart_by n past g r now (Some t) (model.Answer.Accepted handed relayed) is apart =
+    apart_if n past (passed_of g r now t (is_some handed) (is_some relayed)).delivers now t
     (λ e. ap (λ (m : Option MemoryState). is_echo m now t) (sym is)
     ∙ fresh (is_some handed) (is_echo g.delivered now t) e) apart
-apart_by n past g now None (model.Answer.Accepted handed relayed) is apart = apart
-apart_by n past g now frame (model.Answer.Sent sent) is apart = apart
-apart_by n past g now frame model.Answer.Moved is apart = apart
-apart_by n past g now frame model.Answer.Opened is apart = apart
-apart_by n past g now frame model.Answer.Closed is apart = apart
-apart_by n past g now frame model.Answer.Restarted is apart = apart
-apart_by n past g now frame model.Answer.Quiet is apart = apart
-apart_by n past g now frame (model.Answer.Ignored why) is apart = apart
-apart_by n past g now frame (model.Answer.Refused refusal) is apart = apart
+apart_by n past g r now None (model.Answer.Accepted handed relayed) is apart = apart
+apart_by n past g r now frame (model.Answer.Sent sent) is apart = apart
+apart_by n past g r now frame model.Answer.Moved is apart = apart
+apart_by n past g r now frame model.Answer.Opened is apart = apart
+apart_by n past g r now frame model.Answer.Closed is apart = apart
+apart_by n past g r now frame model.Answer.Restarted is apart = apart
+apart_by n past g r now frame model.Answer.Quiet is apart = apart
+apart_by n past g r now frame (model.Answer.Ignored why) is apart = apart
+apart_by n past g r now frame (model.Answer.Refused refusal) is apart = apart
 
 apart_in : (n : ℕ) (past : List DeliveredAt) (g : Governor) (call : GovernedCall)
     → g.delivered ≡ Some (memory_of n past) → Apart n past
     → Apart n (delivered_in g call ++ past)
-apart_in n past g (GovernedCall.Answered now request frame answer) is apart =
-    apart_by n past g now frame answer is apart
+apart_in n past g (GovernedCall.Answered r now request frame answer) is apart =
+    apart_by n past g r now frame answer is apart
 apart_in n past g GovernedCall.OverRate is apart = apart
 
 all_apart : (n : ℕ) (g : Governor) (past : List DeliveredAt) (calls : List GovernedCall)

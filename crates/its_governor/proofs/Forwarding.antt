@@ -10,6 +10,7 @@ use Rattle.its_model.specs.Calls as model
 use Rattle.its_model.specs.Calls.{Answer}
 use Rattle.its_governor.specs.declared.bucket.Bucket.{Bucket}
 use Rattle.its_governor.specs.declared.governor.Governor.{Governor}
+use Rattle.its_governor.specs.declared.receiver.Receiver.{Receiver}
 use Rattle.its_governor.specs.declared.rate.Rate.{Rate}
 use Rattle.its_governor.specs.declared.rate.Limits.{Limits}
 use Rattle.its_governor.specs.declared.sources.SourceDraw.{SourceDraw}
@@ -22,7 +23,8 @@ use Rattle.its_governor.specs.Governing.{source_room, source_drawn, draw_from, I
 use Rattle.its_governor.specs.Deliveries.{GovernedCall, after_governed}
 use Rattle.its_governor.specs.Forwarding.{forward_if, forwarded_by, forwarded_in, forwarded, times}
 use Rattle.its_governor.specs.Forwarding.{ForwardsAreBounded, SourcesStayBounded}
-use Rattle.its_governor.specs.Forwarding.{RemembersSources, IsWithheldFor, IsWithheld}
+use Rattle.its_governor.specs.Forwarding.{RemembersSources}
+use Rattle.its_governor.specs.Pressure.{has_share}
 use Rattle.its_governor.proofs.Bounds.{both, bounded, room_since, room_parts, sum_of_parts}
 use Rattle.its_governor.proofs.Buckets.{none_front, none_of}
 
@@ -54,21 +56,22 @@ pub record SourcesPassed (s : SourceState) (frames : List Forwarded) (new : Opti
   pub is : new ≡ Some (drawn_by s frames)
 
 -- what passes has room in both
-has_both : (echo cap common own sent : Bool) → (sent && (not echo && (cap && common && own))) ≡ true
+has_both : (echo cap common own share sent : Bool)
+    → (sent && (not echo && (cap && common && own && share))) ≡ true
     → (common ≡ true) × (own ≡ true)
-has_both echo cap true true true e = (refl, refl)
-has_both true cap common own true e = absurd (false≢true e)
-has_both false false common own true e = absurd (false≢true e)
-has_both false true false own true e = absurd (false≢true e)
-has_both false true true false true e = absurd (false≢true e)
-has_both echo cap common own false e = absurd (false≢true e)
+has_both echo cap true true share true e = (refl, refl)
+has_both true cap common own share true e = absurd (false≢true e)
+has_both false false common own share true e = absurd (false≢true e)
+has_both false true false own share true e = absurd (false≢true e)
+has_both false true true false share true e = absurd (false≢true e)
+has_both echo cap common own share false e = absurd (false≢true e)
 
-forwards_room : (g : Governor) (now : ℕ) (t : Transmission) (handed sent : Bool)
-    → (passed_of g now t handed sent).forwards ≡ true
+forwards_room : (g : Governor) (r : Receiver) (now : ℕ) (t : Transmission) (handed sent : Bool)
+    → (passed_of g r now t handed sent).forwards ≡ true
     → (room_in g.forward now ≡ true) × (source_room g.sources t.pdu.vector.address now ≡ true)
-forwards_room g now t handed sent e =
+forwards_room g r now t handed sent e =
     has_both (is_echo g.delivered now t) (leb t.hops_left g.hop_cap) (room_in g.forward now)
-    (source_room g.sources t.pdu.vector.address now) sent e
+    (source_room g.sources t.pdu.vector.address now) (has_share g.forward g.shares r now t) sent e
 
 passed_if : (b : Bucket) (g : Governor) (now : ℕ) (t : Transmission) (sent p : Bool)
     → g.forward ≡ Some b → (p ≡ true → room_in g.forward now ≡ true)
@@ -96,28 +99,30 @@ sources_passed_if s g now t true false is room = record { pass = tt; is = is }
 sources_passed_if s g now t false false is room = record { pass = tt; is = is }
 
 -- of a packet that was accepted
-passed_judged : (b : Bucket) (g : Governor) (now : ℕ) (t : Transmission) (handed sent : Bool)
+passed_judged : (b : Bucket) (g : Governor) (r : Receiver) (now : ℕ)
+    (t : Transmission) (handed sent : Bool)
     → g.forward ≡ Some b
-    → Passed b (forward_if (passed_of g now t handed sent).forwards now t)
-    (after_judging g now t handed sent).forward
-passed_judged b g now t handed sent is =
-    let p = passed_of g now t handed sent in
+    → Passed b (forward_if (passed_of g r now t handed sent).forwards now t)
+    (after_judging g r now t handed sent).forward
+passed_judged b g r now t handed sent is =
+    let p = passed_of g r now t handed sent in
     let passed = passed_if b g now t sent p.forwards is
-    (λ e. (forwards_room g now t handed sent e).0) in
+    (λ e. (forwards_room g r now t handed sent e).0) in
     record {
       pass = passed.pass;
       is = delivery_forward (after_forwarding g now t.pdu.vector.address sent p.forwards) now t
           p.is_repeated p.delivers ∙ passed.is;
     }
 
-sources_judged : (s : SourceState) (g : Governor) (now : ℕ) (t : Transmission) (handed sent : Bool)
+sources_judged : (s : SourceState) (g : Governor) (r : Receiver) (now : ℕ)
+    (t : Transmission) (handed sent : Bool)
     → g.sources ≡ Some s
-    → SourcesPassed s (forward_if (passed_of g now t handed sent).forwards now t)
-    (after_judging g now t handed sent).sources
-sources_judged s g now t handed sent is =
-    let p = passed_of g now t handed sent in
+    → SourcesPassed s (forward_if (passed_of g r now t handed sent).forwards now t)
+    (after_judging g r now t handed sent).sources
+sources_judged s g r now t handed sent is =
+    let p = passed_of g r now t handed sent in
     let passed = sources_passed_if s g now t sent p.forwards is
-    (λ e. (forwards_room g now t handed sent e).1) in
+    (λ e. (forwards_room g r now t handed sent e).1) in
     record {
       pass = passed.pass;
       is = delivery_sources (after_forwarding g now t.pdu.vector.address sent p.forwards) now t
@@ -125,52 +130,54 @@ sources_judged s g now t handed sent is =
     }
 
 -- of any call
-passed_by : (b : Bucket) (g : Governor) (now : ℕ) (request : Bool) (frame : Option Transmission)
+passed_by : (b : Bucket) (g : Governor) (r : Receiver) (now : ℕ)
+    (request : Bool) (frame : Option Transmission)
     (answer : Answer Transmission) → g.forward ≡ Some b
-    → Passed b (forwarded_by g now frame answer) (after_call g now request frame answer).forward
-passed_by b g now request (Some t) (model.Answer.Accepted handed relayed) is =
-    passed_judged b g now t (is_some handed) (is_some relayed) is
-passed_by b g now request None (model.Answer.Accepted handed relayed) is =
+    → Passed b (forwarded_by g r now frame answer) (after_call g r now request frame answer).forward
+passed_by b g r now request (Some t) (model.Answer.Accepted handed relayed) is =
+    passed_judged b g r now t (is_some handed) (is_some relayed) is
+passed_by b g r now request None (model.Answer.Accepted handed relayed) is =
     record { pass = tt; is = is }
-passed_by b g now true frame (model.Answer.Sent sent) is = record { pass = tt; is = is }
-passed_by b g now false frame (model.Answer.Sent sent) is = record { pass = tt; is = is }
-passed_by b g now request frame model.Answer.Moved is = record { pass = tt; is = is }
-passed_by b g now request frame model.Answer.Opened is = record { pass = tt; is = is }
-passed_by b g now request frame model.Answer.Closed is = record { pass = tt; is = is }
-passed_by b g now request frame model.Answer.Restarted is = record { pass = tt; is = is }
-passed_by b g now request frame model.Answer.Quiet is = record { pass = tt; is = is }
-passed_by b g now request frame (model.Answer.Ignored why) is = record { pass = tt; is = is }
-passed_by b g now request frame (model.Answer.Refused refusal) is = record { pass = tt; is = is }
+passed_by b g r now true frame (model.Answer.Sent sent) is = record { pass = tt; is = is }
+passed_by b g r now false frame (model.Answer.Sent sent) is = record { pass = tt; is = is }
+passed_by b g r now request frame model.Answer.Moved is = record { pass = tt; is = is }
+passed_by b g r now request frame model.Answer.Opened is = record { pass = tt; is = is }
+passed_by b g r now request frame model.Answer.Closed is = record { pass = tt; is = is }
+passed_by b g r now request frame model.Answer.Restarted is = record { pass = tt; is = is }
+passed_by b g r now request frame model.Answer.Quiet is = record { pass = tt; is = is }
+passed_by b g r now request frame (model.Answer.Ignored why) is = record { pass = tt; is = is }
+passed_by b g r now request frame (model.Answer.Refused refusal) is = record { pass = tt; is = is }
 
-sources_passed_by : (s : SourceState) (g : Governor) (now : ℕ) (request : Bool)
+sources_passed_by : (s : SourceState) (g : Governor) (r : Receiver) (now : ℕ)
+    (request : Bool)
     (frame : Option Transmission) (answer : Answer Transmission) → g.sources ≡ Some s
-    → SourcesPassed s (forwarded_by g now frame answer)
-    (after_call g now request frame answer).sources
-sources_passed_by s g now request (Some t) (model.Answer.Accepted handed relayed) is =
-    sources_judged s g now t (is_some handed) (is_some relayed) is
-sources_passed_by s g now request None (model.Answer.Accepted handed relayed) is =
+    → SourcesPassed s (forwarded_by g r now frame answer)
+    (after_call g r now request frame answer).sources
+sources_passed_by s g r now request (Some t) (model.Answer.Accepted handed relayed) is =
+    sources_judged s g r now t (is_some handed) (is_some relayed) is
+sources_passed_by s g r now request None (model.Answer.Accepted handed relayed) is =
     record { pass = tt; is = is }
-sources_passed_by s g now true frame (model.Answer.Sent sent) is = record { pass = tt; is = is }
-sources_passed_by s g now false frame (model.Answer.Sent sent) is = record { pass = tt; is = is }
-sources_passed_by s g now request frame model.Answer.Moved is = record { pass = tt; is = is }
-sources_passed_by s g now request frame model.Answer.Opened is = record { pass = tt; is = is }
-sources_passed_by s g now request frame model.Answer.Closed is = record { pass = tt; is = is }
-sources_passed_by s g now request frame model.Answer.Restarted is = record { pass = tt; is = is }
-sources_passed_by s g now request frame model.Answer.Quiet is = record { pass = tt; is = is }
-sources_passed_by s g now request frame (model.Answer.Ignored why) is = record { pass = tt; is = is }
-sources_passed_by s g now request frame (model.Answer.Refused refusal) is =
+sources_passed_by s g r now true frame (model.Answer.Sent sent) is = record { pass = tt; is = is }
+sources_passed_by s g r now false frame (model.Answer.Sent sent) is = record { pass = tt; is = is }
+sources_passed_by s g r now request frame model.Answer.Moved is = record { pass = tt; is = is }
+sources_passed_by s g r now request frame model.Answer.Opened is = record { pass = tt; is = is }
+sources_passed_by s g r now request frame model.Answer.Closed is = record { pass = tt; is = is }
+sources_passed_by s g r now request frame model.Answer.Restarted is = record { pass = tt; is = is }
+sources_passed_by s g r now request frame model.Answer.Quiet is = record { pass = tt; is = is }
+sources_passed_by s g r now request frame (model.Answer.Ignored why) is = record { pass = tt; is = is }
+sources_passed_by s g r now request frame (model.Answer.Refused refusal) is =
     record { pass = tt; is = is }
 
-passed_in : (b : Bucket) (g : Governor) (call : GovernedCall) → g.forward ≡ Some b
+pub passed_in : (b : Bucket) (g : Governor) (call : GovernedCall) → g.forward ≡ Some b
     → Passed b (forwarded_in g call) (after_governed g call).forward
-passed_in b g (GovernedCall.Answered now request frame answer) is =
-    passed_by b g now request frame answer is
+passed_in b g (GovernedCall.Answered r now request frame answer) is =
+    passed_by b g r now request frame answer is
 passed_in b g GovernedCall.OverRate is = record { pass = tt; is = is }
 
 sources_passed_in : (s : SourceState) (g : Governor) (call : GovernedCall) → g.sources ≡ Some s
     → SourcesPassed s (forwarded_in g call) (after_governed g call).sources
-sources_passed_in s g (GovernedCall.Answered now request frame answer) is =
-    sources_passed_by s g now request frame answer is
+sources_passed_in s g (GovernedCall.Answered r now request frame answer) is =
+    sources_passed_by s g r now request frame answer is
 sources_passed_in s g GovernedCall.OverRate is = record { pass = tt; is = is }
 
 -- of one list of frames after another
@@ -564,27 +571,3 @@ sources_stay limits g forward source new common own fits calls address =
     (all_pass (full forward) g calls (new.forward ∙ ap (option_map full) common))
     (all_sources_pass s g calls (new.sources
     ∙ ap (option_map (λ (r : Rate). record { rate = r; draws = []; limit = 256 })) own)))
-
--- ---- why a packet is withheld
-
-withheld_by : (echo cap common own handed : Bool)
-    → (not echo && (cap && common && own)) ≡ false
-    → (echo ≡ true) ⊎ (cap ≡ false) ⊎ (common ≡ false) ⊎ (own ≡ false)
-withheld_by true cap common own handed e = inl refl
-withheld_by false false common own handed e = inr (inl refl)
-withheld_by false true false own handed e = inr (inr (inl refl))
-withheld_by false true true false handed e = inr (inr (inr refl))
-withheld_by false true true true handed e = absurd (false≢true (sym e))
-
-pub withheld : (g : Governor) (now : ℕ) (t : Transmission) → IsWithheld g now t
-withheld g now t handed e =
-    by (withheld_by (is_echo g.delivered now t) (leb t.hops_left g.hop_cap)
-    (room_in g.forward now) (source_room g.sources t.pdu.vector.address now) handed e)
-  where
-    by : (is_echo g.delivered now t ≡ true) ⊎ (leb t.hops_left g.hop_cap ≡ false)
-        ⊎ (room_in g.forward now ≡ false)
-        ⊎ (source_room g.sources t.pdu.vector.address now ≡ false) → IsWithheldFor g now t
-    by (inl e) = inl e
-    by (inr (inl e)) = inr (inl (leb-false t.hops_left g.hop_cap e))
-    by (inr (inr (inl e))) = inr (inr (inl e))
-    by (inr (inr (inr e))) = inr (inr (inr e))

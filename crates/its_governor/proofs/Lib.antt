@@ -3,3 +3,5 @@ pub mod Buckets
 pub mod SourceBounds
 pub mod Deliveries
 pub mod Forwarding
+pub mod Pressure
+pub mod Tallies

@@ -1,7 +1,7 @@
 -- A token bucket over whole milliseconds. It holds thousandths of a frame, so that each millisecond
 -- adds a whole number of them.
 use Rattle.std.specs.Prelude.{ℕ, ◌+◌, ◌-◌, ◌*◌, ◌/◌, ◌≤◌, min, List, [], ◌∷◌}
-use Rattle.std.specs.Prelude.{Bool, ◌&&◌, nat_le, if◌then◌else◌, IsTrue}
+use Rattle.std.specs.Prelude.{Bool, ◌&&◌, nat_lt, nat_le, if◌then◌else◌, IsTrue}
 use Rattle.its_governor.specs.declared.bucket.Bucket.{Bucket}
 use Rattle.its_governor.specs.declared.rate.Rate.{Rate}
 
@@ -16,6 +16,10 @@ parts_at b now = min (1000 * b.rate.burst) (b.parts + b.rate.per_second * (now -
 -- whether a frame may pass: never before the last one that passed
 abbrev pub has_room : Bucket → ℕ → Bool
 has_room b now = nat_le b.since now && nat_le 1000 (parts_at b now)
+
+-- it holds less than four fifths of its burst
+abbrev pub is_low : Bucket → ℕ → Bool
+is_low b now = nat_lt (parts_at b now) (800 * b.rate.burst)
 
 -- the bucket after a frame passed
 abbrev pub drawn : Bucket → ℕ → Bucket

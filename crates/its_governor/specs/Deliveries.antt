@@ -8,21 +8,22 @@ use Rattle.its_model.specs.Calls.{Answer}
 use Rattle.its_governor.specs.declared.governor.Governor.{Governor}
 use Rattle.its_governor.specs.declared.memory.DeliveredPacket.{DeliveredPacket}
 use Rattle.its_governor.specs.declared.memory.PacketId.{PacketId}
+use Rattle.its_governor.specs.declared.receiver.Receiver.{Receiver}
 use Rattle.its_governor.specs.Memory.{end_of_life, is_packet, is_same_packet}
 use Rattle.its_governor.specs.Governing.{after_call, after_refusal, governed, id_of, passed_of}
 
--- A call of a station with limits, as the contracts of such calls have it: its time, whether it
--- asks for an own packet, the frame that it brought, and the answer of the station. Or a request
--- that is refused for its rate.
+-- A call of a station with limits, as the contracts of such calls have it: the station as the
+-- receiver of a frame, the time, whether the call asks for an own packet, the frame that it brought,
+-- and the answer of the station. Or a request that is refused for its rate.
 pub data GovernedCall : Type 0 where
-  Answered : (now : ℕ) (request : Bool) (frame : Option Transmission)
+  Answered : (receiver : Receiver) (now : ℕ) (request : Bool) (frame : Option Transmission)
       (answer : Answer Transmission) → GovernedCall
   OverRate : GovernedCall
 
 -- the limits after a call, and after many
 abbrev pub after_governed : Governor → GovernedCall → Governor
-after_governed g (GovernedCall.Answered now request frame answer) =
-    after_call g now request frame answer
+after_governed g (GovernedCall.Answered r now request frame answer) =
+    after_call g r now request frame answer
 after_governed g GovernedCall.OverRate = after_refusal g
 
 abbrev pub after_calls : Governor → List GovernedCall → Governor
@@ -44,20 +45,20 @@ delivery_if true now t = delivery_of (id_of t) now (end_of_life now t.pdu.lifeti
 delivery_if false now t = []
 
 -- what is delivered in an accepted frame, in a call, and in many after others
-abbrev pub delivered_of : Governor → ℕ → Option Transmission → Option Message
+abbrev pub delivered_of : Governor → Receiver → ℕ → Option Transmission → Option Message
     → Option Transmission → List DeliveredAt
-delivered_of g now (Some t) handed relayed =
-    delivery_if (passed_of g now t (is_some handed) (is_some relayed)).delivers now t
-delivered_of g now None handed relayed = []
+delivered_of g r now (Some t) handed relayed =
+    delivery_if (passed_of g r now t (is_some handed) (is_some relayed)).delivers now t
+delivered_of g r now None handed relayed = []
 
-abbrev pub delivered_by : Governor → ℕ → Option Transmission → Answer Transmission
+abbrev pub delivered_by : Governor → Receiver → ℕ → Option Transmission → Answer Transmission
     → List DeliveredAt
-delivered_by g now frame (model.Answer.Accepted handed relayed) =
-    delivered_of g now frame handed relayed
-delivered_by g now frame answer = []
+delivered_by g r now frame (model.Answer.Accepted handed relayed) =
+    delivered_of g r now frame handed relayed
+delivered_by g r now frame answer = []
 
 abbrev pub delivered_in : Governor → GovernedCall → List DeliveredAt
-delivered_in g (GovernedCall.Answered now request frame answer) = delivered_by g now frame answer
+delivered_in g (GovernedCall.Answered r now request frame answer) = delivered_by g r now frame answer
 delivered_in g GovernedCall.OverRate = []
 
 abbrev pub deliveries : Governor → List DeliveredAt → List GovernedCall → List DeliveredAt
@@ -73,11 +74,11 @@ IsUndelivered now past id = All (λ d. IsFalse (is_packet id now d.packet)) past
 -- packet was delivered whose lifetime isn't over.
 abbrev pub AreOwed : Governor → Type 0
 AreOwed g =
-    (calls : List GovernedCall) (now : ℕ) (t : Transmission) (message : Message)
+    (calls : List GovernedCall) (r : Receiver) (now : ℕ) (t : Transmission) (message : Message)
     (relayed : Option Transmission)
     → ((id : PacketId) → id_of t ≡ Some id → IsUndelivered now (deliveries g [] calls) id)
     → (sent : Option Transmission)
-    × (governed (after_calls g calls) now (Some t) (model.Answer.Accepted (Some message) relayed)
+    × (governed (after_calls g calls) r now (Some t) (model.Answer.Accepted (Some message) relayed)
     ≡ model.Answer.Accepted (Some message) sent)
 
 -- In each list of calls, two deliveries of one packet are a lifetime of the first one apart, or

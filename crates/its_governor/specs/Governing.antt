@@ -16,6 +16,10 @@ use Rattle.its_governor.specs.Bucket.{full, has_room, drawn}
 use Rattle.its_governor.specs.Sources.{SourceState, bucket_of, with_draw}
 use Rattle.its_governor.specs.declared.memory.PacketId.{PacketId}
 use Rattle.its_governor.specs.Memory.{MemoryState, is_held, end_of_life, with_packet}
+use Rattle.its_governor.specs.declared.rate.Rate.{Rate}
+use Rattle.its_governor.specs.declared.receiver.Receiver.{Receiver}
+use Rattle.its_governor.specs.Shares.{ShareState, with_frame}
+use Rattle.its_governor.specs.Pressure.{is_pressed, has_share}
 
 -- ---- the limits
 
@@ -38,6 +42,12 @@ source_room (Some s) source now = has_room (bucket_of s.rate source s.draws) now
 abbrev pub source_drawn : Option SourceState → ℕ → ℕ → Option SourceState
 source_drawn None source now = None
 source_drawn (Some s) source now = Some (with_draw source now s)
+
+-- the frames that were forwarded last after one of a source, which passed under pressure or not
+abbrev pub shares_noted : Option ShareState → ℕ → ℕ → Bool → Option ShareState
+shares_noted None source now pressed = None
+shares_noted (Some s) source now pressed =
+    Some (with_frame (record { source = source; time = now; pressed = pressed }) s)
 
 -- what tells a packet from all others, if it has a sequence number
 abbrev pub id_by : PositionVector → Option ℕ → Option PacketId
@@ -66,21 +76,21 @@ remembered (Some m) None until = Some m
 -- ---- a packet that a station accepted
 
 -- whether the limits have room for it
-abbrev pub has_room_for : Governor → ℕ → Transmission → Bool
-has_room_for g now t =
+abbrev pub has_room_for : Governor → Receiver → ℕ → Transmission → Bool
+has_room_for g r now t =
     nat_le t.hops_left g.hop_cap && room_in g.forward now
-    && source_room g.sources t.pdu.vector.address now
+    && source_room g.sources t.pdu.vector.address now && has_share g.forward g.shares r now t
 
 -- whether it may be forwarded
-abbrev pub may_forward : Governor → ℕ → Transmission → Bool
-may_forward g now t = not (is_echo g.delivered now t) && has_room_for g now t
+abbrev pub may_forward : Governor → Receiver → ℕ → Transmission → Bool
+may_forward g r now t = not (is_echo g.delivered now t) && has_room_for g r now t
 
 -- what passes of a packet, by whether the station delivers it and would forward it
-abbrev pub passed_of : Governor → ℕ → Transmission → Bool → Bool → Passed
-passed_of g now t handed sent =
+abbrev pub passed_of : Governor → Receiver → ℕ → Transmission → Bool → Bool → Passed
+passed_of g r now t handed sent =
     record {
       delivers = handed && not (is_echo g.delivered now t);
-      forwards = sent && may_forward g now t;
+      forwards = sent && may_forward g r now t;
       is_repeated = is_echo g.delivered now t;
     }
 
@@ -91,6 +101,7 @@ after_forwarding g now source sent forwards =
     then record g {
       forward = draw_from g.forward now;
       sources = source_drawn g.sources source now;
+      shares = shares_noted g.shares source now (is_pressed g.forward g.shares now);
     }
     else if sent
     then record g { counts = record g.counts { suppressed = one_more g.counts.suppressed } }
@@ -113,17 +124,24 @@ after_passing g now t sent p =
     after_delivery (after_forwarding g now t.pdu.vector.address sent p.forwards)
     now t p.is_repeated p.delivers
 
-abbrev pub after_judging : Governor → ℕ → Transmission → Bool → Bool → Governor
-after_judging g now t handed sent =
-    after_passing g now t sent (passed_of g now t handed sent)
+abbrev pub after_judging : Governor → Receiver → ℕ → Transmission → Bool → Bool → Governor
+after_judging g r now t handed sent =
+    after_passing g now t sent (passed_of g r now t handed sent)
 
 -- ---- a new governor
+
+-- what it keeps of the frames that were forwarded last, if both limits are there
+abbrev pub new_shares : Option Rate → Option Rate → Option ShareState
+new_shares None source = None
+new_shares (Some forward) None = None
+new_shares (Some forward) (Some source) = Some (record { frames = []; limit = 256 })
 
 -- its buckets are full, it remembers nothing, and nothing is counted
 pub record IsNewGovernor (limits : Limits) (g : Governor) : Type 0 where
   pub forward : g.forward ≡ option_map full limits.forward
   pub sources : g.sources
       ≡ option_map (λ rate. record { rate = rate; draws = []; limit = 256 }) limits.source
+  pub shares : g.shares ≡ new_shares limits.forward limits.source
   pub own : g.own ≡ option_map full limits.own
   pub hop_cap : g.hop_cap ≡ limits.hop_cap
   pub delivered : g.delivered
@@ -144,9 +162,9 @@ kept false value = None
 
 -- What passes of an accepted packet. Nothing but a frame is accepted: what isn't one is not
 -- forwarded.
-abbrev pub passed_in : Governor → ℕ → Option Transmission → Bool → Bool → Passed
-passed_in g now (Some t) handed sent = passed_of g now t handed sent
-passed_in g now None handed sent =
+abbrev pub passed_in : Governor → Receiver → ℕ → Option Transmission → Bool → Bool → Passed
+passed_in g r now (Some t) handed sent = passed_of g r now t handed sent
+passed_in g r now None handed sent =
     record { delivers = handed; forwards = false; is_repeated = false }
 
 -- the answer to an accepted packet, by what passes
@@ -154,12 +172,12 @@ abbrev pub accepted_by : Option Message → Option Transmission → Passed → A
 accepted_by handed relayed p =
     model.Answer.Accepted (kept p.delivers handed) (kept p.forwards relayed)
 
--- what passes of the answer to a call that brought this frame, or none
-abbrev pub governed : Governor → ℕ → Option Transmission → Answer Transmission
+-- what passes, at this receiver, of the answer to a call that brought this frame, or none
+abbrev pub governed : Governor → Receiver → ℕ → Option Transmission → Answer Transmission
     → Answer Transmission
-governed g now frame (model.Answer.Accepted handed relayed) =
-    accepted_by handed relayed (passed_in g now frame (is_some handed) (is_some relayed))
-governed g now frame answer = answer
+governed g r now frame (model.Answer.Accepted handed relayed) =
+    accepted_by handed relayed (passed_in g r now frame (is_some handed) (is_some relayed))
+governed g r now frame answer = answer
 
 -- whether the packet of a frame was delivered before, and is remembered
 abbrev pub is_echo_in : Governor → ℕ → Option Transmission → Bool
@@ -177,21 +195,22 @@ verified_frame (VerifiedCall.Came v) = Some v.frame
 verified_frame (VerifiedCall.Faulty fault) = None
 
 -- the governor after an accepted packet
-abbrev pub after_accepted : Governor → ℕ → Option Transmission → Bool → Bool → Governor
-after_accepted g now (Some t) handed sent = after_judging g now t handed sent
-after_accepted g now None handed sent = g
+abbrev pub after_accepted : Governor → Receiver → ℕ → Option Transmission → Bool → Bool → Governor
+after_accepted g r now (Some t) handed sent = after_judging g r now t handed sent
+after_accepted g r now None handed sent = g
 
 -- the governor after an own packet was sent
 abbrev pub after_sent : Governor → ℕ → Governor
 after_sent g now = record g { own = draw_from g.own now }
 
--- the governor after a call with this answer: a request for an own packet or not
-abbrev pub after_call : Governor → ℕ → Bool → Option Transmission → Answer Transmission → Governor
-after_call g now request frame (model.Answer.Accepted handed relayed) =
-    after_accepted g now frame (is_some handed) (is_some relayed)
-after_call g now request frame (model.Answer.Sent sent) =
+-- the governor after a call with this answer, at this receiver: a request for an own packet or not
+abbrev pub after_call : Governor → Receiver → ℕ → Bool → Option Transmission → Answer Transmission
+    → Governor
+after_call g r now request frame (model.Answer.Accepted handed relayed) =
+    after_accepted g r now frame (is_some handed) (is_some relayed)
+after_call g r now request frame (model.Answer.Sent sent) =
     if request then after_sent g now else g
-after_call g now request frame answer = g
+after_call g r now request frame answer = g
 
 -- the governor after a request was refused for its rate
 abbrev pub after_refusal : Governor → Governor

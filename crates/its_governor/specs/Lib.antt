@@ -1,6 +1,9 @@
 pub mod Bucket
 pub mod Sources
 pub mod Memory
+pub mod Shares
+pub mod Pressure
 pub mod Governing
 pub mod Deliveries
 pub mod Forwarding
+pub mod Sharing

@@ -1,7 +1,8 @@
 //! A token bucket.
 
-ghost use Rattle.std.specs.Prelude.{◌≡◌, ◌*◌};
-ghost use Rattle.its_governor.specs.Bucket.{full, parts_at, has_room, drawn};
+ghost use Rattle.std.specs.Prelude.{◌≡◌, ◌*◌, ◌<◌, nat_lt};
+ghost use Rattle.its_governor.specs.Bucket.{full, parts_at, has_room, is_low, drawn};
+ghost use Rattle.its_governor.specs.Pressure.{turns_of};
 
 use crate::rate::Rate;
 
@@ -44,6 +45,20 @@ impl Bucket {
         self.since <= now && self.parts_at(now) >= FRAME
     }
 
+    /// Whether the bucket holds less than four fifths of its burst.
+    pub fn is_low(&self, now: u64) -> bool
+        ensures { result ≡ is_low self.now now }
+    {
+        self.parts_at(now) < u64::from(self.rate.burst) * (FRAME / 5 * 4)
+    }
+
+    /// Whether the bucket holds more frames than this.
+    pub(crate) fn holds_more_than(&self, frames: u32, now: u64) -> bool
+        ensures { result ≡ nat_lt (1000 * frames) (parts_at self.now now) }
+    {
+        FRAME * u64::from(frames) < self.parts_at(now)
+    }
+
     /// Takes a frame out of the bucket, which has room for it.
     pub fn draw(&mut self, now: u64)
         ensures { self.new ≡ drawn self.old now }
@@ -60,6 +75,15 @@ impl Bucket {
         let added = u64::from(self.rate.per_second).saturating_mul(elapsed);
         self.parts.saturating_add(added).min(capacity_of(self.rate))
     }
+}
+
+/// How many turns there are under pressure: the whole frames of four fifths of a burst, and at least
+/// one.
+pub(crate) fn turns_of(rate: Rate) -> u32
+    ensures turns { result ≡ turns_of rate }
+    ensures some { 0 < result }
+{
+    ((u64::from(rate.burst) * 4 / 5) as u32).max(1)
 }
 
 /// The size of a bucket, in thousandths of a frame.

@@ -7,10 +7,13 @@ ghost use Rattle.its_governor.specs.Governing.{source_drawn, is_echo, may_forwar
 ghost use Rattle.its_governor.specs.Governing.{after_forwarding, after_delivery, after_judging};
 ghost use Rattle.its_governor.specs.Governing.{IsDraw, IsDrawOf, has_room_for, id_of};
 ghost use Rattle.its_governor.specs.Governing.{is_over_rate, after_refusal, after_sent};
+ghost use Rattle.its_governor.specs.Pressure.{is_pressed, has_share, may_share};
 
-use crate::bucket::Bucket;
+use crate::bucket::{Bucket, turns_of};
 use crate::memory::{DeliveryMemory, PacketId};
 use crate::rate::Limits;
+use crate::receiver::Receiver;
+use crate::shares::{SharedFrame, Shares};
 use crate::sources::SourceBuckets;
 use its_gnvalue::{GnAddress, NoMemory};
 use its_station::{LAST_MOMENT, ReceivedFrame};
@@ -52,6 +55,7 @@ pub struct Passed {
 pub struct Governor {
     pub(crate) forward: Option<Bucket>,
     pub(crate) sources: Option<SourceBuckets>,
+    pub(crate) shares: Option<Shares>,
     pub(crate) own: Option<Bucket>,
     pub(crate) hop_cap: u8,
     pub(crate) delivered: Option<DeliveryMemory>,
@@ -67,6 +71,10 @@ impl Governor {
             Some(rate) => Some(SourceBuckets::new(alloc, rate)?),
             None => None,
         };
+        let shares = match (limits.forward, limits.source) {
+            (Some(_), Some(_)) => Some(Shares::new(alloc)?),
+            _ => None,
+        };
         let delivered = if limits.delivers_once {
             Some(DeliveryMemory::new(alloc)?)
         } else {
@@ -75,6 +83,7 @@ impl Governor {
         Ok(Governor {
             forward: limits.forward.map(Bucket::new),
             sources,
+            shares,
             own: limits.own.map(Bucket::new),
             hop_cap: limits.hop_cap,
             delivered,
@@ -93,21 +102,33 @@ impl Governor {
         self.counts
     }
 
+    /// Whether the bucket of all forwarded frames is under pressure: it holds less than four fifths of
+    /// its burst, and there is a limit per source too. Only then a frame depends on its receiver.
+    pub fn is_pressed(&self, now: u64) -> bool
+        ensures { result ≡ is_pressed self.now.forward self.now.shares now }
+    {
+        match (&self.forward, &self.shares) {
+            (Some(bucket), Some(_)) => bucket.is_low(now),
+            _ => false,
+        }
+    }
+
     /// What passes of a packet that a station accepted: whether it is delivered, and whether it is
     /// forwarded. A packet that is remembered as delivered passes neither way.
     pub fn judge<'a, F: ReceivedFrame<'a>>(
         &mut self,
         now: u64,
+        receiver: &Receiver,
         frame: &F,
         accepted: Accepted,
     ) -> Passed
-        ensures passed { result ≡ passed_of self.old now (F.frame frame.now)
+        ensures passed { result ≡ passed_of self.old receiver.now now (F.frame frame.now)
             accepted.handed accepted.sent }
-        ensures state { self.new ≡ after_judging self.old now (F.frame frame.now)
+        ensures state { self.new ≡ after_judging self.old receiver.now now (F.frame frame.now)
             accepted.handed accepted.sent }
         ensures once { IsTrue (is_echo self.old.delivered now (F.frame frame.now)) →
             IsFalse result.delivers }
-        ensures open { IsTrue (may_forward self.old now (F.frame frame.now)) →
+        ensures open { IsTrue (may_forward self.old receiver.now now (F.frame frame.now)) →
             result ≡ record {
               delivers = accepted.handed;
               forwards = accepted.sent;
@@ -119,7 +140,7 @@ impl Governor {
             result.forwards now self.new.sources }
     {
         let is_repeated = self.is_echo(now, frame);
-        let forwards = accepted.sent && !is_repeated && self.has_room_for(now, frame);
+        let forwards = accepted.sent && !is_repeated && self.has_room_for(now, receiver, frame);
         let delivers = accepted.handed && !is_repeated;
         self.note_forwarding(now, frame.vector().address(), accepted.sent, forwards);
         self.note_delivery(now, frame, is_repeated, delivers);
@@ -131,12 +152,31 @@ impl Governor {
     }
 
     /// Whether the limits have room for a packet that is to be forwarded.
-    fn has_room_for<'a, F: ReceivedFrame<'a>>(&self, now: u64, frame: &F) -> bool
-        ensures { result ≡ has_room_for self.now now (F.frame frame.now) }
+    fn has_room_for<'a, F: ReceivedFrame<'a>>(
+        &self,
+        now: u64,
+        receiver: &Receiver,
+        frame: &F,
+    ) -> bool
+        ensures { result ≡ has_room_for self.now receiver.now now (F.frame frame.now) }
     {
         frame.hops_left() <= self.hop_cap
             && has_room(&self.forward, now)
             && self.source_has_room(now, frame.vector().address())
+            && self.has_share(now, receiver, frame)
+    }
+
+    /// Whether a frame keeps the rules of a bucket under pressure, or there is no pressure.
+    fn has_share<'a, F: ReceivedFrame<'a>>(&self, now: u64, receiver: &Receiver, frame: &F) -> bool
+        ensures { result ≡ has_share self.now.forward self.now.shares receiver.now now
+            (F.frame frame.now) }
+    {
+        match (&self.forward, &self.shares) {
+            (Some(bucket), Some(shares)) => {
+                !bucket.is_low(now) || may_share(bucket, shares, now, receiver, frame)
+            }
+            _ => true,
+        }
     }
 
     /// Whether the bucket of a source has room.
@@ -164,9 +204,17 @@ impl Governor {
         ensures { self.new ≡ after_forwarding self.old now source sent forwards }
     {
         if forwards {
+            let pressed = self.is_pressed(now);
             draw(&mut self.forward, now);
             if let Some(sources) = &mut self.sources {
                 sources.draw(source, now);
+            }
+            if let Some(shares) = &mut self.shares {
+                shares.note(SharedFrame {
+                    source,
+                    time: now,
+                    pressed,
+                });
             }
         } else if sent {
             self.counts.suppressed = self.counts.suppressed.saturating_add(1);
@@ -243,6 +291,23 @@ fn id_of<'a, F: ReceivedFrame<'a>>(frame: &F) -> Option<PacketId>
         }),
         None => None,
     }
+}
+
+/// Whether a frame keeps the rules of a bucket under pressure.
+fn may_share<'a, F: ReceivedFrame<'a>>(
+    bucket: &Bucket,
+    shares: &Shares,
+    now: u64,
+    receiver: &Receiver,
+    frame: &F,
+) -> bool
+    ensures { result ≡ may_share bucket.now shares.now receiver.now now (F.frame frame.now) }
+{
+    let source = frame.vector().address();
+    let turn = receiver.turn_in(turns_of(bucket.rate()), source, frame.number());
+    receiver.knew_source
+        && shares.is_within_share(bucket.rate(), source, now)
+        && bucket.holds_more_than(turn, now)
 }
 
 /// Whether a bucket has room for a frame. A limit that isn't there has.

@@ -11,7 +11,9 @@ ghost use Rattle.its_governor.specs.declared.rate.Limits.{Limits};
 ghost use Rattle.its_governor.specs.declared.rate.Rate.{Rate};
 ghost use Rattle.its_governor.specs.Forwarding.{ForwardsAreBounded, SourcesStayBounded};
 ghost use Rattle.its_governor.specs.Forwarding.{RemembersSources, IsWithheld};
+ghost use Rattle.its_governor.specs.declared.receiver.Receiver.{Receiver};
 ghost use Rattle.its_governor.specs.Governing.{IsNewGovernor};
+ghost use Rattle.its_governor.specs.Sharing.{SharesAreKept, NewSourcesTakeNothing};
 ghost use Rattle.its_governor.specs.Deliveries.{AreApart, AreOwed};
 
 /// Where a bucket lets frames pass at these times, there are in each stretch of time, its ends
@@ -57,7 +59,25 @@ pub fn sources_stay_bounded()
 {}
 
 /// A packet that the station would forward is withheld only if it was delivered before and is
-/// remembered, has more hops left than the greatest, or finds no room in one of its two buckets.
+/// remembered, has more hops left than the greatest, finds no room in one of its two buckets, or is
+/// withheld under pressure. That is only while the bucket of all forwarded frames holds less than
+/// four fifths of its burst, and only if the receiver did not know the source before, the source is
+/// not within its share, or the frame's turn has not come.
 pub fn withheld_for_a_reason()
-    ensures { (g : Limited) (now : ℕ) (t : Transmission) → IsWithheld g now t }
+    ensures { (g : Limited) (r : Receiver) (now : ℕ) (t : Transmission) → IsWithheld g r now t }
+{}
+
+/// After every list of calls, a frame that keeps the rules of pressure is forwarded: its receiver knew
+/// the source before, the source is within its share, and the frame's turn has come. It has to be no
+/// echo, to have no more hops left than the greatest, and to find room in both buckets.
+pub fn shares_are_kept()
+    ensures { (g : Limited) → SharesAreKept g }
+{}
+
+/// After every list of calls, a frame of a source that its receiver did not know is forwarded only if
+/// the bucket of all forwarded frames holds four fifths of its burst. So new sources take nothing of
+/// the rest.
+pub fn new_sources_take_nothing()
+    ensures { (limits : Limits) (g : Limited) (forward source : Rate) → IsNewGovernor limits g →
+        limits.forward ≡ Some forward → limits.source ≡ Some source → NewSourcesTakeNothing g }
 {}

@@ -1,11 +1,15 @@
 -- The inner packet of a secured packet: a Basic Header that names a Common Header, and behind it a
 -- plain part.
-use Rattle.std.specs.Prelude.{ℕ, ◌<◌, List, [], ◌∷◌}
+use Rattle.std.specs.Prelude.{ℕ, ◌<◌, List, [], ◌∷◌, get_or}
 
 -- what a Basic Header says: the lifetime, and the hops that are left
 pub record Basic : Type 0 where
   pub lifetime : ℕ
   pub left : ℕ
+
+-- what the octets of a packet say there
+abbrev pub basic_in : List ℕ → Basic
+basic_in w = record { lifetime = get_or w 2 0; left = get_or w 3 0 }
 
 -- version 1 and next header 1, a reserved octet, lifetime, hops left, and then the plain part
 abbrev pub inner_octets : Basic → List ℕ → List ℕ

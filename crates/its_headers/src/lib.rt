@@ -26,7 +26,6 @@
 
 mod decoding;
 mod encoding;
-mod inner;
 mod kind;
 pub mod laws;
 mod packet;
@@ -37,12 +36,12 @@ mod wire;
 
 pub use decoding::{DecodeCode, DecodeFault, decode};
 pub use encoding::encode_into;
-pub use inner::InnerPacketView;
 pub use its_faults::{Fault, FaultCode, FaultKind};
 pub use kind::{KINDS, Kind};
 pub use packet::{AreaPacket, Header, Packet, SingleHopBroadcast};
 pub use payload::{LONGEST_PAYLOAD, Payload, SHORTEST_PAYLOAD};
 pub use relaying::relay_into;
-pub use view::PacketView;
+pub use view::{InnerPacketView, PacketView};
 pub use wire::basic::BasicHeader;
 pub use wire::fields::HOPS_LEFT;
+pub use wire::octets::{Head, InOnePiece};

@@ -1,6 +1,6 @@
 //! A packet read in place.
 
-ghost use Rattle.std.specs.Prelude.{◌≡◌, ◌≤◌, ◌++◌, ℕ, List, length, take, IfOk, IfErr};
+ghost use Rattle.std.specs.Prelude.{◌≡◌, ◌≤◌, ◌<◌, ◌+◌, ◌++◌, ℕ, List, length, take, IfOk, IfErr};
 ghost use Rattle.std.specs.Prelude.{IsOkAnd, OnErr};
 ghost use Rattle.its_model.specs.Packet.{Pdu, number_in};
 ghost use Rattle.its_headers.specs.Encoding.{Encodes, payload_of};
@@ -19,34 +19,39 @@ use crate::wire::area::area_in;
 use crate::wire::basic::BasicHeader;
 use crate::wire::common::{is_mobile, kind_of, shape_of};
 use crate::wire::fields::{
-    AREA_PAYLOAD, AREA_VECTOR, BASIC_END, CLASS, FLAGS, HOPS_LEFT, LIFETIME, MAX_HOPS, NUMBER,
-    SHB_PAYLOAD, TYPE, VECTOR,
+    AREA_PAYLOAD, AREA_VECTOR, BASIC_END, CLASS, FLAGS, MAX_HOPS, NUMBER, SHB_PAYLOAD, TYPE,
+    VECTOR, octet_in, u16_in,
 };
 use crate::wire::media::media_in;
-use crate::wire::packet_end;
+use crate::wire::octets::{Head, InOnePiece, Octets};
 use crate::wire::position::vector_in;
-use byteorder::{BigEndian, ByteOrder};
+use crate::wire::{packet_end, plain_end};
 use its_faults::Fault;
 use its_geometry::{Area, Shape};
 use its_gnvalue::{Hops, Lifetime, LongPv, NoMemory, TrafficClass};
 use std::alloc::Global;
 use std::marker::Model;
 
-/// A packet in the octets that it was read from: a slice that is an encoding by its type. Contracts
-/// see the packet and the hops that it has left.
+/// A packet in the octets that it was read from, in one piece or behind a Basic Header that is
+/// elsewhere (`InnerPacketView`). By its type they are an encoding. Contracts see the packet and the
+/// hops that it has left.
 #[derive(Debug, Drop)]
-pub struct PacketView<'a> {
-    octets: &'a [u8],
+pub struct PacketView<'a, H: Head = InOnePiece> {
+    octets: Octets<'a, H>,
 }
 
-impl<'a> Model for PacketView<'a> {
+/// The inner packet of a secured packet (profile): its Basic Header is that of the secured packet
+/// with another next header, and its plain part comes from a security entity.
+pub type InnerPacketView<'a> = PacketView<'a, BasicHeader>;
+
+impl<'a, H: Head> Model for PacketView<'a, H> {
     ghost use Rattle.its_headers.specs.Seen.{Seen, seen_of, IsEncoding};
 
     ghost Value = { Seen };
 
-    ghost view = { λ v. seen_of v.octets.now };
+    ghost view = { λ v. seen_of v.octets };
 
-    ghost invariant = { λ v. IsEncoding v.octets.now };
+    ghost invariant = { λ v. IsEncoding v.octets };
 }
 
 impl<'a> PacketView<'a> {
@@ -74,7 +79,10 @@ impl<'a> PacketView<'a> {
     {
         let length = packet_end(octets)?;
         let view = PacketView {
-            octets: &octets[..length],
+            octets: Octets {
+                head: InOnePiece,
+                rest: &octets[..length],
+            },
         };
         Ok((view, length))
     }
@@ -86,28 +94,70 @@ impl<'a> PacketView<'a> {
         requires { IsEncoding octets.now }
         ensures { Encodes result.pdu result.left octets.now }
     {
-        PacketView { octets }
+        PacketView {
+            octets: Octets {
+                head: InOnePiece,
+                rest: octets,
+            },
+        }
     }
 
     /// The octets of the packet, and nothing else.
     pub fn octets(&self) -> &'a [u8]
         ensures { Encodes self.now.pdu self.now.left result.now }
     {
-        &self.octets[..]
+        self.octets.whole()
     }
+}
 
+impl<'a> PacketView<'a, BasicHeader> {
+    /// The packet that the header and the plain part's first octets are, and its length, or the
+    /// first fault, as `PacketView::read` answers of the two put together: faults and length are
+    /// counted in the inner packet, from its Basic Header on. What follows the packet is not
+    /// checked.
+    #[inline(always)]
+    pub fn read_behind(
+        basic: BasicHeader,
+        plain: &'a [u8],
+    ) -> Result<(InnerPacketView<'a>, usize), Fault>
+        ensures found { IfOk result (λ x. (x.1 ≤ 4 + length plain.now)
+            × Encodes x.0.pdu x.0.left (take x.1 (inner_octets basic plain.now))) }
+
+        // Each packet is read, whatever follows it.
+        ensures only { (p : Pdu) (left : ℕ) (w rest : List ℕ) → Encodes p left w
+            → inner_octets basic plain.now ≡ w ++ rest
+            → IsOkAnd result (λ x. (x.0 ≡ record { pdu = p; left = left }) × (x.1 ≡ length w)) }
+        ensures fault { IfErr result (λ f. FirstFault (inner_octets basic plain.now) f) }
+    {
+        let octets = Octets {
+            head: basic,
+            rest: plain,
+        };
+        let end = plain_end(&octets, basic.left())?;
+        let view = PacketView {
+            octets: Octets {
+                head: basic,
+                rest: &plain[..end - BASIC_END],
+            },
+        };
+        Ok((view, end))
+    }
+}
+
+impl<'a, H: Head> PacketView<'a, H> {
     /// What its Basic Header says.
+    #[inline(always)]
     pub fn basic(&self) -> BasicHeader
         ensures { result ≡ basic_of self.now }
     {
-        BasicHeader::within(self.lifetime(), self.octets[HOPS_LEFT])
+        self.octets.basic()
     }
 
     /// The plain part of the packet: what follows its Basic Header, for a security entity to sign.
     pub fn plain(&self) -> &'a [u8]
         ensures { Encodes self.now.pdu self.now.left (inner_octets (basic_of self.now) result.now) }
     {
-        &self.octets[BASIC_END..]
+        self.octets.behind(BASIC_END)
     }
 
     /// The kind of the packet.
@@ -115,7 +165,15 @@ impl<'a> PacketView<'a> {
     pub fn kind(&self) -> Kind
         ensures { result ≡ kind_of_body self.now.pdu.body }
     {
-        kind_of(self.octets[TYPE] / 16)
+        kind_of(octet_in(&self.octets, TYPE) / 16)
+    }
+
+    /// The hops that are left (RHL), from 1.
+    #[inline(always)]
+    pub fn left(&self) -> u8
+        ensures { result ≡ self.now.left }
+    {
+        self.basic().left()
     }
 
     /// The hops that are left (RHL, from 1), and how many there were at most (MHL).
@@ -123,28 +181,28 @@ impl<'a> PacketView<'a> {
     pub fn hops(&self) -> Hops
         ensures { result ≡ record { left = self.now.left; max = self.now.pdu.max_hops } }
     {
-        Hops::within(self.octets[HOPS_LEFT], self.octets[MAX_HOPS])
+        Hops::within(self.left(), octet_in(&self.octets, MAX_HOPS))
     }
 
     /// How long the packet lives (LT).
     pub fn lifetime(&self) -> Lifetime
         ensures { result ≡ self.now.pdu.lifetime }
     {
-        Lifetime::from_octet(self.octets[LIFETIME])
+        self.basic().lifetime()
     }
 
     /// The traffic class (TC).
     pub fn class(&self) -> TrafficClass
         ensures { result ≡ self.now.pdu.class }
     {
-        TrafficClass::from_octet(self.octets[CLASS])
+        TrafficClass::from_octet(octet_in(&self.octets, CLASS))
     }
 
     /// Whether the source is mobile.
     pub fn mobile(&self) -> bool
         ensures { result ≡ self.now.pdu.mobile }
     {
-        is_mobile(self.octets[FLAGS])
+        is_mobile(octet_in(&self.octets, FLAGS))
     }
 
     /// The source's address, place and movement: the long position vector.
@@ -172,7 +230,7 @@ impl<'a> PacketView<'a> {
         ensures { result ≡ media_in self.now.pdu.body }
     {
         match self.kind() {
-            Kind::Shb => Some(media_in(self.octets)),
+            Kind::Shb => Some(media_in(&self.octets)),
             Kind::Beacon | Kind::Gbc | Kind::Gac => None,
         }
     }
@@ -183,7 +241,7 @@ impl<'a> PacketView<'a> {
         ensures { result ≡ number_in self.now.pdu.body }
     {
         match self.kind() {
-            Kind::Gbc | Kind::Gac => Some(BigEndian::read_u16(&self.octets[NUMBER..])),
+            Kind::Gbc | Kind::Gac => Some(u16_in(&self.octets, NUMBER)),
             Kind::Beacon | Kind::Shb => None,
         }
     }
@@ -203,7 +261,7 @@ impl<'a> PacketView<'a> {
     fn shape(&self) -> Shape
         ensures { result ≡ shape_of_body self.now.pdu.body }
     {
-        shape_of(self.octets[TYPE] % 16)
+        shape_of(octet_in(&self.octets, TYPE) % 16)
     }
 
     /// The payload, which lies in the octets that were read: a BTP-B header and what is sent to the
@@ -216,8 +274,8 @@ impl<'a> PacketView<'a> {
     {
         match self.kind() {
             Kind::Beacon => &[],
-            Kind::Shb => &self.octets[SHB_PAYLOAD..],
-            Kind::Gbc | Kind::Gac => &self.octets[AREA_PAYLOAD..],
+            Kind::Shb => self.octets.behind(SHB_PAYLOAD),
+            Kind::Gbc | Kind::Gac => self.octets.behind(AREA_PAYLOAD),
         }
     }
 

@@ -27,7 +27,7 @@ use fields::{
 };
 use its_faults::{Fault, FaultKind};
 use its_geometry::Shape;
-use octets::Octets;
+use octets::{Head, InOnePiece, Octets};
 use payload::check_payload;
 use position::check_vector;
 
@@ -38,6 +38,10 @@ use position::check_vector;
 pub(crate) fn packet_end(octets: &[u8]) -> Result<usize, Fault>
     ensures { result ≡ end_of (walk packet_format 0 octets.now) }
 {
+    let octets = Octets {
+        head: InOnePiece,
+        rest: octets,
+    };
     let basic = check_basic(&octets, NEXT_COMMON)?;
     plain_end(&octets, basic.left())
 }
@@ -46,10 +50,9 @@ pub(crate) fn packet_end(octets: &[u8]) -> Result<usize, Fault>
 /// fault behind it.
 #[tactic(auto, using(crate::proofs::Walks::walk_after))]
 #[inline(always)]
-pub(crate) fn plain_end<O: Octets>(octets: &O, left: u8) -> Result<usize, Fault>
-    requires { O.start octets.now ≤ 4 }
+pub(crate) fn plain_end<H: Head>(octets: &Octets<'_, H>, left: u8) -> Result<usize, Fault>
     ensures { (lifetime : ℕ) → result
-        ≡ end_of (walk (plain_format (lifetime, left)) 4 (O.octets octets.now)) }
+        ≡ end_of (walk (plain_format (lifetime, left)) 4 octets.now) }
 {
     let common = check_common(octets, left)?;
     match common.kind {
@@ -62,9 +65,8 @@ pub(crate) fn plain_end<O: Octets>(octets: &O, left: u8) -> Result<usize, Fault>
 /// Where the beacon ends whose headers were checked.
 #[tactic(auto, using(crate::proofs::Walks::walk_after))]
 #[inline(always)]
-fn beacon_end<O: Octets>(octets: &O) -> Result<usize, Fault>
-    requires { O.start octets.now ≤ 4 }
-    ensures { result ≡ end_of (walk beacon_format 12 (O.octets octets.now)) }
+fn beacon_end<H: Head>(octets: &Octets<'_, H>) -> Result<usize, Fault>
+    ensures { result ≡ end_of (walk beacon_format 12 octets.now) }
 {
     check_vector(octets, VECTOR)?;
     Ok(BEACON_END)
@@ -73,9 +75,8 @@ fn beacon_end<O: Octets>(octets: &O) -> Result<usize, Fault>
 /// Where the single-hop broadcast with a payload of this length ends.
 #[tactic(auto, using(crate::proofs::Walks::walk_after))]
 #[inline(always)]
-fn shb_end<O: Octets>(octets: &O, size: u16) -> Result<usize, Fault>
-    requires { O.start octets.now ≤ 4 }
-    ensures { result ≡ end_of (walk (shb_format size) 12 (O.octets octets.now)) }
+fn shb_end<H: Head>(octets: &Octets<'_, H>, size: u16) -> Result<usize, Fault>
+    ensures { result ≡ end_of (walk (shb_format size) 12 octets.now) }
 {
     check_vector(octets, VECTOR)?;
     check_octets(octets, MEDIA, 4)?;
@@ -86,12 +87,11 @@ fn shb_end<O: Octets>(octets: &O, size: u16) -> Result<usize, Fault>
 /// Where the packet for an area of this shape, with a payload of this length, ends.
 #[tactic(auto, using(crate::proofs::Walks::walk_after))]
 #[inline(always)]
-fn area_packet_end<O: Octets>(octets: &O, shape: Shape, size: u16) -> Result<usize, Fault>
-    requires { O.start octets.now ≤ 4 }
+fn area_packet_end<H: Head>(octets: &Octets<'_, H>, shape: Shape, size: u16) -> Result<usize, Fault>
     ensures gbc { result
-        ≡ end_of (walk (area_packet_format geobroadcast shape size) 12 (O.octets octets.now)) }
+        ≡ end_of (walk (area_packet_format geobroadcast shape size) 12 octets.now) }
     ensures gac { result
-        ≡ end_of (walk (area_packet_format geoanycast shape size) 12 (O.octets octets.now)) }
+        ≡ end_of (walk (area_packet_format geoanycast shape size) 12 octets.now) }
 {
     pass_number(octets, NUMBER, 2)?;
     if u16_at(octets, NUMBER_RESERVED)? != 0 {

@@ -1,5 +1,6 @@
 pub mod CapturesRead
 pub mod CapturesWritten
+pub mod Copying
 pub mod FrameLaws
 pub mod Fronts
 pub mod Heads

@@ -11,3 +11,4 @@ pub use Rattle.its_headers.specs.Encoding
 pub use Rattle.its_headers.specs.FirstFault
 pub use Rattle.its_headers.specs.Seen
 pub use Rattle.its_model.specs.Packet
+pub mod Copies

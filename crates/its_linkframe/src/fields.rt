@@ -15,6 +15,9 @@ pub(crate) const ETHER_TYPE: usize = 12;
 /// Its packet: where the packet begins in a frame.
 pub const PACKET: usize = 14;
 
+/// The lifetime of its packet.
+pub(crate) const LIFETIME: usize = PACKET + 2;
+
 /// The hops that its packet has left.
 pub(crate) const HOPS_LEFT: usize = PACKET + its_headers::HOPS_LEFT;
 

@@ -19,6 +19,7 @@
 #![tactic(auto)]
 
 mod building;
+mod copies;
 mod counted;
 mod fields;
 mod frame;
@@ -35,6 +36,7 @@ mod verified;
 mod writer;
 
 pub use building::{relay_frame, retarget, write_frame};
+pub use copies::is_copy;
 pub use counted::Counted;
 pub use fields::PACKET;
 pub use frame::{FrameView, read_frame};

@@ -43,7 +43,7 @@ impl<'f, 'a> VerifiedFrame<'f, 'a> {
         ensures fault { IfErr result (IsVerifiedFault octets.now plain.now) }
     {
         let secured = read_secured_frame(octets)?;
-        match InnerPacketView::read(secured.basic(), plain) {
+        match InnerPacketView::read_behind(secured.basic(), plain) {
             Ok((_, length)) if length < MESSAGE - PACKET + plain.len() => Err(
                 SecuredFault::Trailing,
             ),

@@ -4,6 +4,7 @@ pub mod Stations
 pub mod Decision
 pub mod Calls
 pub mod Station
+pub mod Contention
 pub mod World
 pub mod Log
 pub mod Schedules

@@ -9,3 +9,4 @@ pub mod Beacons
 pub mod Sizes
 pub mod Beside
 pub mod FramesRead
+pub mod Inside

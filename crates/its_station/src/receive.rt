@@ -32,7 +32,7 @@ use crate::received::ReceivedFrame;
 use crate::refused::Refused;
 use crate::station::Station;
 use its_btp::split;
-use its_forwarding::{Choice, choose_and_keep};
+use its_forwarding::{Choice, choose_outside};
 use its_geometry::contains;
 use its_gnvalue::{GnAddress, Mac, NoMemory};
 use its_headers::Kind;
@@ -279,7 +279,7 @@ impl<S: LocationStore> Station<S> {
         let copy = self.copy_for_relay(frame, inside)?;
         let handed = self.handing(frame, inside);
         self.take_in(now, heard, index)?;
-        let sent = self.direct(now, frame, copy);
+        let sent = self.direct(now, frame, copy, inside);
         Ok(Outcome::Accepted { handed, sent })
     }
 
@@ -363,15 +363,18 @@ impl<S: LocationStore> Station<S> {
         Ok(Some(relayed))
     }
 
-    /// Gives the frame its target, if it goes on at all.
+    /// Gives the frame its target, if it goes on at all. Inside of the area it goes to all (simple
+    /// forwarding).
     #[inline(always)]
     fn direct<'a, F: ReceivedFrame<'a>>(
         &mut self,
         now: u64,
         frame: &F,
         copy: Option<Vec<u8>>,
+        inside: bool,
     ) -> Option<Vec<u8>>
         requires time { now ≤ 2 ^ 62 }
+        requires inside { inside ≡ is_inside self.old.vector.place (F.frame frame.now).pdu.body }
         requires copy { IsRelayBy (F.Encodes frame.now) copy
             (copy_of self.old.vector (F.frame frame.now) (F.frame frame.now).pdu.body) }
         requires short { IfSome copy (λ w. length w.items ≤ F.most frame.now) }
@@ -385,10 +388,13 @@ impl<S: LocationStore> Station<S> {
         let Some(octets) = copy else {
             return None;
         };
+        if inside {
+            return Some(octets);
+        }
         let Some(area) = frame.area() else {
-            return None;
+            unreachable!()
         };
-        match choose_and_keep(
+        match choose_outside(
             &mut self.store,
             now,
             self.vector.place(),

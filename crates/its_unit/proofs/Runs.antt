@@ -15,6 +15,7 @@ use Rattle.its_station.specs.Beside.{send_shb_for_step, shb_for, step_by}
 use Rattle.its_station.specs.Receiving.{VerifiedCall}
 use Rattle.its_governor.specs.declared.bucket.Bucket.{Bucket}
 use Rattle.its_governor.specs.declared.governor.Governor.{Governor}
+use Rattle.its_governor.specs.declared.receiver.Receiver.{Receiver}
 use Rattle.its_governor.specs.declared.rate.Limits.{Limits}
 use Rattle.its_governor.specs.declared.rate.Rate.{Rate}
 use Rattle.its_governor.specs.Bucket.{full, drawn, has_room, MayPass, IsBounded}
@@ -28,8 +29,9 @@ use Rattle.its_governor.specs.Forwarding.{forward_if, forwarded_by, forwarded, t
 use Rattle.its_governor.proofs.Bounds.{bounded}
 use Rattle.its_governor.proofs.Deliveries.{owed, apart}
 use Rattle.its_governor.proofs.Forwarding.{forwards_bounded, sources_stay}
+use Rattle.its_governor.proofs.Pressure.{withheld, shares_kept, new_take_nothing}
 use Rattle.its_unit.specs.Unit.{UnitModel, UnitCall, UnitAnswer, UnitStep, answer_by, frame_of}
-use Rattle.its_unit.specs.Unit.{is_request, passed_step, refused_step, step_within}
+use Rattle.its_unit.specs.Unit.{is_request, passed_step, receiver_of, refused_step, step_within}
 use Rattle.its_unit.specs.Unit.{unit_step}
 use Rattle.its_unit.specs.Runs.{UnitCallAt, unit_run, is_withheld, made, station_after, IsPart}
 use Rattle.its_unit.specs.Runs.{IsPartOf, IsStationRun, IsModelRun, AreModelCalls, model_call}
@@ -69,31 +71,31 @@ accepted_part true delivers forwards message frame = tt
 accepted_part false delivers forwards message frame =
     (kept_part delivers message, kept_part forwards frame)
 
-part_of : (g : Governor) (now : ℕ) (f : Option Transmission) (a : Answer Transmission)
-    → IsPartOf (answer_by (is_repeated_in g now f a) (governed g now f a)) a
-part_of g now (Some t) (model.Answer.Accepted message frame) =
+part_of : (g : Governor) (r : Receiver) (now : ℕ) (f : Option Transmission) (a : Answer Transmission)
+    → IsPartOf (answer_by (is_repeated_in g now f a) (governed g r now f a)) a
+part_of g r now (Some t) (model.Answer.Accepted message frame) =
     accepted_part (is_echo g.delivered now t)
-    (passed_of g now t (is_some message) (is_some frame)).delivers
-    (passed_of g now t (is_some message) (is_some frame)).forwards message frame
-part_of g now None (model.Answer.Accepted message frame) =
+    (passed_of g r now t (is_some message) (is_some frame)).delivers
+    (passed_of g r now t (is_some message) (is_some frame)).forwards message frame
+part_of g r now None (model.Answer.Accepted message frame) =
     (kept_part (is_some message) message, kept_part false frame)
-part_of g now f (model.Answer.Sent sent) = refl
-part_of g now f model.Answer.Moved = refl
-part_of g now f model.Answer.Opened = refl
-part_of g now f model.Answer.Closed = refl
-part_of g now f model.Answer.Restarted = refl
-part_of g now f model.Answer.Quiet = refl
-part_of g now f (model.Answer.Ignored why) = refl
-part_of g now f (model.Answer.Refused refusal) = refl
+part_of g r now f (model.Answer.Sent sent) = refl
+part_of g r now f model.Answer.Moved = refl
+part_of g r now f model.Answer.Opened = refl
+part_of g r now f model.Answer.Closed = refl
+part_of g r now f model.Answer.Restarted = refl
+part_of g r now f model.Answer.Quiet = refl
+part_of g r now f (model.Answer.Ignored why) = refl
+part_of g r now f (model.Answer.Refused refusal) = refl
 
 part_answered : (u : UnitModel) (c : UnitCallAt) → is_withheld u c ≡ false
     → IsPartOf (unit_step u c.now c.call).answer (step_within u.station c.now c.call).answer
 part_answered u c within =
     subst (λ (p : Bool).
     IsPartOf (step_by_rate u c p).answer (step_within u.station c.now c.call).answer) (sym within)
-    (part_of u.governor c.now (frame_of c.call) (step_within u.station c.now c.call).answer)
+    (part_of u.governor (receiver_of u.station c.now (frame_of c.call)) c.now (frame_of c.call) (step_within u.station c.now c.call).answer)
 
-station_runs : (u : UnitModel) → IsStationRun u
+pub station_runs : (u : UnitModel) → IsStationRun u
 station_runs u = record {
   station = same_station u;
   answers = λ calls next within. part_answered (unit_run u calls) next within;
@@ -135,7 +137,7 @@ model_runs u calls timed are =
 abbrev governed_by_rate : UnitModel → UnitCallAt → Bool → GovernedCall
 governed_by_rate u c p =
     cond p GovernedCall.OverRate
-    (GovernedCall.Answered c.now (is_request c.call) (frame_of c.call)
+    (GovernedCall.Answered (receiver_of u.station c.now (frame_of c.call)) c.now (is_request c.call) (frame_of c.call)
     (step_within u.station c.now c.call).answer)
 
 abbrev governed_calls : UnitModel → List UnitCallAt → List GovernedCall
@@ -172,35 +174,35 @@ withheld_sends_on : (f : Option Transmission) (now : ℕ)
 withheld_sends_on None now = refl
 withheld_sends_on (Some t) now = refl
 
-forwarded_of : (g : Governor) (now : ℕ) (f : Option Transmission) (a : Answer Transmission)
-    → forwarded_in f (answer_by (is_repeated_in g now f a) (governed g now f a)) now
-    ≡ forwarded_by g now f a
-forwarded_of g now (Some t) (model.Answer.Accepted message frame) =
-    sent_on t now message frame (is_echo g.delivered now t) (has_room_for g now t)
-forwarded_of g now None (model.Answer.Accepted message frame) = refl
-forwarded_of g now None (model.Answer.Sent sent) = refl
-forwarded_of g now None model.Answer.Moved = refl
-forwarded_of g now None model.Answer.Opened = refl
-forwarded_of g now None model.Answer.Closed = refl
-forwarded_of g now None model.Answer.Restarted = refl
-forwarded_of g now None model.Answer.Quiet = refl
-forwarded_of g now None (model.Answer.Ignored why) = refl
-forwarded_of g now None (model.Answer.Refused refusal) = refl
-forwarded_of g now (Some t) (model.Answer.Sent sent) = refl
-forwarded_of g now (Some t) model.Answer.Moved = refl
-forwarded_of g now (Some t) model.Answer.Opened = refl
-forwarded_of g now (Some t) model.Answer.Closed = refl
-forwarded_of g now (Some t) model.Answer.Restarted = refl
-forwarded_of g now (Some t) model.Answer.Quiet = refl
-forwarded_of g now (Some t) (model.Answer.Ignored why) = refl
-forwarded_of g now (Some t) (model.Answer.Refused refusal) = refl
+forwarded_of : (g : Governor) (r : Receiver) (now : ℕ) (f : Option Transmission) (a : Answer Transmission)
+    → forwarded_in f (answer_by (is_repeated_in g now f a) (governed g r now f a)) now
+    ≡ forwarded_by g r now f a
+forwarded_of g r now (Some t) (model.Answer.Accepted message frame) =
+    sent_on t now message frame (is_echo g.delivered now t) (has_room_for g r now t)
+forwarded_of g r now None (model.Answer.Accepted message frame) = refl
+forwarded_of g r now None (model.Answer.Sent sent) = refl
+forwarded_of g r now None model.Answer.Moved = refl
+forwarded_of g r now None model.Answer.Opened = refl
+forwarded_of g r now None model.Answer.Closed = refl
+forwarded_of g r now None model.Answer.Restarted = refl
+forwarded_of g r now None model.Answer.Quiet = refl
+forwarded_of g r now None (model.Answer.Ignored why) = refl
+forwarded_of g r now None (model.Answer.Refused refusal) = refl
+forwarded_of g r now (Some t) (model.Answer.Sent sent) = refl
+forwarded_of g r now (Some t) model.Answer.Moved = refl
+forwarded_of g r now (Some t) model.Answer.Opened = refl
+forwarded_of g r now (Some t) model.Answer.Closed = refl
+forwarded_of g r now (Some t) model.Answer.Restarted = refl
+forwarded_of g r now (Some t) model.Answer.Quiet = refl
+forwarded_of g r now (Some t) (model.Answer.Ignored why) = refl
+forwarded_of g r now (Some t) (model.Answer.Refused refusal) = refl
 
 forwarded_next : (u : UnitModel) (c : UnitCallAt) (p : Bool)
     → forwarded_in (frame_of c.call) (step_by_rate u c p).answer c.now
     ≡ limits.forwarded_in u.governor (governed_by_rate u c p)
 forwarded_next u c true = withheld_sends_on (frame_of c.call) c.now
 forwarded_next u c false =
-    forwarded_of u.governor c.now (frame_of c.call) (step_within u.station c.now c.call).answer
+    forwarded_of u.governor (receiver_of u.station c.now (frame_of c.call)) c.now (frame_of c.call) (step_within u.station c.now c.call).answer
 
 same_forwarded : (u : UnitModel) (calls : List UnitCallAt)
     → forwarded u.governor (governed_calls u calls) ≡ frames_forwarded u calls
@@ -232,10 +234,10 @@ delivery_own g now t true false = refl
 delivery_own g now t false true = refl
 delivery_own g now t false false = refl
 
-judging_own : (g : Governor) (now : ℕ) (t : Transmission) (handed sent : Bool)
-    → (after_judging g now t handed sent).own ≡ g.own
-judging_own g now t handed sent =
-    let p = passed_of g now t handed sent in
+judging_own : (g : Governor) (r : Receiver) (now : ℕ) (t : Transmission) (handed sent : Bool)
+    → (after_judging g r now t handed sent).own ≡ g.own
+judging_own g r now t handed sent =
+    let p = passed_of g r now t handed sent in
     delivery_own (after_forwarding g now t.pdu.vector.address sent p.forwards) now t
     p.is_repeated p.delivers
     ∙ forwarding_own g now t.pdu.vector.address sent p.forwards
@@ -331,38 +333,38 @@ none_requested now true message frame = refl
 none_requested now false message frame = refl
 
 -- of a call that is made
-sent_made : (b : Bucket) (s : StationModel) (g : Governor) (now : ℕ) (request : Bool)
-    (f : Option Transmission) (a : Answer Transmission) → g.own ≡ Some b
+sent_made : (b : Bucket) (s : StationModel) (g : Governor) (r : Receiver) (now : ℕ)
+    (request : Bool) (f : Option Transmission) (a : Answer Transmission) → g.own ≡ Some b
     → ((t : Transmission) → request ≡ true → a ≡ model.Answer.Sent t → room_in g.own now ≡ true)
-    → SentWith b (request_if request (answer_by (is_repeated_in g now f a) (governed g now f a)) now)
-    (after_call g now request f a).own
-sent_made b s g now true (Some t) (model.Answer.Accepted message frame) is room =
-    subst (λ (l : List ℕ). SentWith b l (after_judging g now t (is_some message) (is_some frame)).own)
+    → SentWith b (request_if request (answer_by (is_repeated_in g now f a) (governed g r now f a)) now)
+    (after_call g r now request f a).own
+sent_made b s g r now true (Some t) (model.Answer.Accepted message frame) is room =
+    subst (λ (l : List ℕ). SentWith b l (after_judging g r now t (is_some message) (is_some frame)).own)
     (sym (none_requested now (is_echo g.delivered now t) _ _))
-    (sent_none b _ (judging_own g now t (is_some message) (is_some frame) ∙ is))
-sent_made b s g now false (Some t) (model.Answer.Accepted message frame) is room =
-    sent_none b _ (judging_own g now t (is_some message) (is_some frame) ∙ is)
-sent_made b s g now true None (model.Answer.Accepted message frame) is room = sent_none b _ is
-sent_made b s g now false None (model.Answer.Accepted message frame) is room = sent_none b _ is
-sent_made b s g now true f (model.Answer.Sent sent) is room =
+    (sent_none b _ (judging_own g r now t (is_some message) (is_some frame) ∙ is))
+sent_made b s g r now false (Some t) (model.Answer.Accepted message frame) is room =
+    sent_none b _ (judging_own g r now t (is_some message) (is_some frame) ∙ is)
+sent_made b s g r now true None (model.Answer.Accepted message frame) is room = sent_none b _ is
+sent_made b s g r now false None (model.Answer.Accepted message frame) is room = sent_none b _ is
+sent_made b s g r now true f (model.Answer.Sent sent) is room =
     sent_one b now _
     (subst (λ (o : Option Bucket). room_in o now ≡ true) is (room sent refl refl))
     (ap (λ (o : Option Bucket). draw_from o now) is)
-sent_made b s g now false f (model.Answer.Sent sent) is room = sent_none b _ is
-sent_made b s g now true f model.Answer.Moved is room = sent_none b _ is
-sent_made b s g now true f model.Answer.Opened is room = sent_none b _ is
-sent_made b s g now true f model.Answer.Closed is room = sent_none b _ is
-sent_made b s g now true f model.Answer.Restarted is room = sent_none b _ is
-sent_made b s g now true f model.Answer.Quiet is room = sent_none b _ is
-sent_made b s g now true f (model.Answer.Ignored why) is room = sent_none b _ is
-sent_made b s g now true f (model.Answer.Refused refusal) is room = sent_none b _ is
-sent_made b s g now false f model.Answer.Moved is room = sent_none b _ is
-sent_made b s g now false f model.Answer.Opened is room = sent_none b _ is
-sent_made b s g now false f model.Answer.Closed is room = sent_none b _ is
-sent_made b s g now false f model.Answer.Restarted is room = sent_none b _ is
-sent_made b s g now false f model.Answer.Quiet is room = sent_none b _ is
-sent_made b s g now false f (model.Answer.Ignored why) is room = sent_none b _ is
-sent_made b s g now false f (model.Answer.Refused refusal) is room = sent_none b _ is
+sent_made b s g r now false f (model.Answer.Sent sent) is room = sent_none b _ is
+sent_made b s g r now true f model.Answer.Moved is room = sent_none b _ is
+sent_made b s g r now true f model.Answer.Opened is room = sent_none b _ is
+sent_made b s g r now true f model.Answer.Closed is room = sent_none b _ is
+sent_made b s g r now true f model.Answer.Restarted is room = sent_none b _ is
+sent_made b s g r now true f model.Answer.Quiet is room = sent_none b _ is
+sent_made b s g r now true f (model.Answer.Ignored why) is room = sent_none b _ is
+sent_made b s g r now true f (model.Answer.Refused refusal) is room = sent_none b _ is
+sent_made b s g r now false f model.Answer.Moved is room = sent_none b _ is
+sent_made b s g r now false f model.Answer.Opened is room = sent_none b _ is
+sent_made b s g r now false f model.Answer.Closed is room = sent_none b _ is
+sent_made b s g r now false f model.Answer.Restarted is room = sent_none b _ is
+sent_made b s g r now false f model.Answer.Quiet is room = sent_none b _ is
+sent_made b s g r now false f (model.Answer.Ignored why) is room = sent_none b _ is
+sent_made b s g r now false f (model.Answer.Refused refusal) is room = sent_none b _ is
 
 withheld_request : (request : Bool) (now : ℕ) → request_if request UnitAnswer.OverRate now ≡ []
 withheld_request true now = refl
@@ -376,7 +378,7 @@ sent_next b u c true e is =
     subst (λ (l : List ℕ). SentWith b l u.governor.own)
     (sym (withheld_request (is_request c.call) c.now)) (sent_none b u.governor.own is)
 sent_next b u c false e is =
-    sent_made b u.station u.governor c.now (is_request c.call) (frame_of c.call)
+    sent_made b u.station u.governor (receiver_of u.station c.now (frame_of c.call)) c.now (is_request c.call) (frame_of c.call)
     (step_within u.station c.now c.call).answer is
     (λ t request sent.
     had_room (is_request c.call) (leb u.station.clock c.now && leb c.now (2 ^ 62))
@@ -422,5 +424,11 @@ lawful limits u new = record {
   deliveries = record {
     owed = owed limits u.governor new;
     apart = apart limits u.governor new;
+  };
+  fair = record {
+    reasons = λ calls r now t. withheld (unit_run u calls).governor r now t;
+    kept = shares_kept u.governor;
+    untaken = λ forward source common own.
+        new_take_nothing limits u.governor forward source new common own;
   };
 }

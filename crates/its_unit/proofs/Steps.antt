@@ -14,55 +14,56 @@ use Rattle.its_station.specs.Steps.{refusal_of}
 use Rattle.its_station.specs.Requests.{TellsSent}
 use Rattle.its_station.specs.declared.refused.Refused.{Refused}
 use Rattle.its_governor.specs.declared.governor.Governor.{Governor}
+use Rattle.its_governor.specs.declared.receiver.Receiver.{Receiver}
 use Rattle.its_governor.specs.Governing.{governed, after_call, after_sent}
 use Rattle.its_governor.specs.Governing.{is_repeated_in, is_over_rate}
 use Rattle.its_unit.specs.Unit.{UnitModel, UnitState, UnitStep, UnitCall, UnitAnswer, RepresentsUnit}
-use Rattle.its_unit.specs.Unit.{answer_by, is_own_request, refused_step, unit_step}
+use Rattle.its_unit.specs.Unit.{answer_by, is_own_request, receiver_of, refused_step, unit_step}
 use Rattle.its_unit.specs.Steps.{IsRefusedStep, IsSendOf, SaysPassed, unsent_of}
 
 -- what passes of a step, by the limits, the frame that came, and whether it is a request
-abbrev passing : Governor → ℕ → Bool → Option Transmission → Step → UnitStep
-passing g now request frame step =
+abbrev passing : Governor → Receiver → ℕ → Bool → Option Transmission → Step → UnitStep
+passing g r now request frame step =
     record {
-      answer = answer_by (is_repeated_in g now frame step.answer) (governed g now frame step.answer);
+      answer = answer_by (is_repeated_in g now frame step.answer) (governed g r now frame step.answer);
       unit = record {
         station = step.station;
-        governor = after_call g now request frame step.answer;
+        governor = after_call g r now request frame step.answer;
       };
     }
 
 -- a refusal passes as it is, and leaves the limits
-refused_by : (g : Governor) (now : ℕ) (request : Bool) (frame : Option Transmission)
+refused_by : (g : Governor) (r : Receiver) (now : ℕ) (request : Bool) (frame : Option Transmission)
     (o : Option Refusal) (new : UnitState) (step : Step) → g ≡ new.governor
     → IfSome o (λ refusal. (step.answer ≡ model.Answer.Refused refusal)
     × RepresentsStation new.station step.station)
-    → IfSome o (λ refusal. ((passing g now request frame step).answer
+    → IfSome o (λ refusal. ((passing g r now request frame step).answer
     ≡ UnitAnswer.Passed (model.Answer.Refused refusal))
-    × RepresentsUnit new (passing g now request frame step).unit)
-refused_by g now request frame None new step same is = tt
-refused_by g now request frame (Some refusal) new step same is = (
-  ap (λ (a : Answer Transmission). answer_by (is_repeated_in g now frame a) (governed g now frame a)) is.0,
+    × RepresentsUnit new (passing g r now request frame step).unit)
+refused_by g r now request frame None new step same is = tt
+refused_by g r now request frame (Some refusal) new step same is = (
+  ap (λ (a : Answer Transmission). answer_by (is_repeated_in g now frame a) (governed g r now frame a)) is.0,
   record {
     station = is.1;
-    governor = ap (λ (a : Answer Transmission). after_call g now request frame a) is.0 ∙ same;
+    governor = ap (λ (a : Answer Transmission). after_call g r now request frame a) is.0 ∙ same;
   },
 )
 
-refused : (g : Governor) (now : ℕ) (request : Bool) (frame : Option Transmission)
+refused : (g : Governor) (r : Receiver) (now : ℕ) (request : Bool) (frame : Option Transmission)
     (e : Refused) (new : UnitState) (step : Step) → g ≡ new.governor
     → station.IsRefusedStep e new.station step
-    → IsRefusedStep e new (passing g now request frame step)
-refused g now request frame e new step same is =
-    refused_by g now request frame (refusal_of e) new step same is
+    → IsRefusedStep e new (passing g r now request frame step)
+refused g r now request frame e new step same is =
+    refused_by g r now request frame (refusal_of e) new step same is
 
 -- ---- requests
 
 -- what is sent passes, and takes a frame out of the bucket of own packets
-sent_passes : (g : Governor) (now : ℕ) (a : Answer Transmission) (t : Transmission)
+sent_passes : (g : Governor) (r : Receiver) (now : ℕ) (a : Answer Transmission) (t : Transmission)
     → a ≡ model.Answer.Sent t
-    → answer_by (is_repeated_in g now None a) (governed g now None a) ≡ UnitAnswer.Passed a
-sent_passes g now a t is =
-    subst (λ (b : Answer Transmission). answer_by (is_repeated_in g now None b) (governed g now None b)
+    → answer_by (is_repeated_in g now None a) (governed g r now None a) ≡ UnitAnswer.Passed a
+sent_passes g r now a t is =
+    subst (λ (b : Answer Transmission). answer_by (is_repeated_in g now None b) (governed g r now None b)
     ≡ UnitAnswer.Passed b) (sym is) refl
 
 -- the limits after a request: a frame is taken out if one is sent
@@ -70,32 +71,33 @@ abbrev pub IfSent : Result (Vec ℕ Global) Refused → Governor → ℕ → Uni
 IfSent (Ok w) g now new = after_sent g now ≡ new.governor
 IfSent (Err e) g now new = g ≡ new.governor
 
-request_passed : (said : Result (Vec ℕ Global) Refused) (g : Governor) (now : ℕ) (new : UnitState)
+request_passed : (said : Result (Vec ℕ Global) Refused) (g : Governor) (r : Receiver) (now : ℕ)
+    (new : UnitState)
     (step : Step)
     → station.IsStepOf TellsSent said new.station step
     → IfSent said g now new
-    → IsSendOf (unsent_of said) new (passing g now true None step)
-request_passed (Ok w) g now new step is same = (
+    → IsSendOf (unsent_of said) new (passing g r now true None step)
+request_passed (Ok w) g r now new step is same = (
   subst (λ (a : UnitAnswer). SaysPassed TellsSent w a)
-      (sym (sent_passes g now step.answer is.0.sent is.0.is)) is.0,
+      (sym (sent_passes g r now step.answer is.0.sent is.0.is)) is.0,
   record {
     station = is.1;
-    governor = ap (λ (a : Answer Transmission). after_call g now true None a) is.0.is ∙ same;
+    governor = ap (λ (a : Answer Transmission). after_call g r now true None a) is.0.is ∙ same;
   },
 )
-request_passed (Err e) g now new step is same = refused g now true None e new step same is
+request_passed (Err e) g r now new step is same = refused g r now true None e new step same is
 
 -- a request that is not over its rate
-request_step : (said : Result (Vec ℕ Global) Refused) (u : UnitModel) (now : ℕ)
+request_step : (said : Result (Vec ℕ Global) Refused) (u : UnitModel) (r : Receiver) (now : ℕ)
     (new : UnitState) (step : Step) → is_over_rate u.governor u.station.clock now ≡ false
     → station.IsStepOf TellsSent said new.station step
     → IfSent said u.governor now new
     → IsSendOf (unsent_of said) new (cond (is_over_rate u.governor u.station.clock now)
-    (refused_step u) (passing u.governor now true None step))
-request_step said u now new step within is same =
+    (refused_step u) (passing u.governor r now true None step))
+request_step said u r now new step within is same =
     subst (λ (b : Bool). IsSendOf (unsent_of said) new
-    (cond b (refused_step u) (passing u.governor now true None step))) (sym within)
-    (request_passed said u.governor now new step is same)
+    (cond b (refused_step u) (passing u.governor r now true None step))) (sym within)
+    (request_passed said u.governor r now new step is same)
 
 -- whether requests are over their rate is seen of the unit
 rate_seen : (st : UnitState) (u : UnitModel) (now : ℕ) → RepresentsUnit st u
@@ -130,6 +132,6 @@ area_step said u now old new kind r rep within is sent failed =
     let step = station_step u.station now (model.Call.Own (area_call kind r)) in
     subst (λ (b : Bool). IsSendOf (unsent_of said) new
     (cond (b && is_over_rate u.governor u.station.clock now) (refused_step u)
-    (passing u.governor now b None step))) (sym (area_request kind r))
-    (request_step said u now new step (rate_seen old u now rep ∙ within) is
+    (passing u.governor (receiver_of u.station now None) now b None step))) (sym (area_request kind r))
+    (request_step said u (receiver_of u.station now None) now new step (rate_seen old u now rep ∙ within) is
     (if_sent said u.governor now old new sent failed rep.governor))

@@ -1,3 +1,5 @@
 pub mod Unit
 pub mod Steps
 pub mod Runs
+pub mod Fleets
+pub mod FleetLaws

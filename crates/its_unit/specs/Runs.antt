@@ -13,7 +13,9 @@ use Rattle.its_governor.specs.Bucket.{IsBounded}
 use Rattle.its_governor.specs.Sources.{Forwarded, times_from}
 use Rattle.its_governor.specs.Governing.{is_over_rate}
 use Rattle.its_governor.specs.Deliveries.{AreApart, AreOwed}
-use Rattle.its_governor.specs.Forwarding.{RemembersSources, times}
+use Rattle.its_governor.specs.declared.receiver.Receiver.{Receiver}
+use Rattle.its_governor.specs.Forwarding.{RemembersSources, IsWithheld, times}
+use Rattle.its_governor.specs.Sharing.{SharesAreKept, NewSourcesTakeNothing}
 use Rattle.its_unit.specs.Unit.{UnitModel, UnitCall, UnitAnswer, unit_step, step_within, frame_of}
 use Rattle.its_unit.specs.Unit.{is_request}
 
@@ -141,9 +143,20 @@ pub record AreDelivered (limits : Limits) (u : UnitModel) : Type 0 where
   pub owed : AreOwed u.governor
   pub apart : IsTrue limits.delivers_once → AreApart u.governor
 
+-- under pressure, after every list of calls: why a frame is withheld (`IsWithheld`), that a frame which
+-- keeps the rules is forwarded (`SharesAreKept`), and that with both limits new sources take nothing
+-- of the lower four fifths of the bucket of all forwarded frames (`NewSourcesTakeNothing`)
+pub record IsFair (limits : Limits) (u : UnitModel) : Type 0 where
+  pub reasons : (calls : List UnitCallAt) (r : Receiver) (now : ℕ) (t : Transmission)
+      → IsWithheld (unit_run u calls).governor r now t
+  pub kept : SharesAreKept u.governor
+  pub untaken : (forward source : Rate) → limits.forward ≡ Some forward
+      → limits.source ≡ Some source → NewSourcesTakeNothing u.governor
+
 -- All that is promised of a unit with these limits.
 pub record IsLawful (limits : Limits) (u : UnitModel) : Type 0 where
   pub station : IsStationRun u
   pub model : IsModelRun u
   pub within : AreWithin limits u
   pub deliveries : AreDelivered limits u
+  pub fair : IsFair limits u

@@ -1,6 +1,8 @@
 -- A unit, as it ships: a station, and the limits on what it sends. Contention belongs between the two.
-use Rattle.std.specs.Prelude.{◌≡◌, ℕ, ℤ, Bool, true, false, ◌&&◌, if◌then◌else◌, Option, None}
+use Rattle.std.specs.Prelude.{◌≡◌, ℕ, ℤ, ◌^◌, Bool, true, false, ◌&&◌, nat_le, if◌then◌else◌}
+use Rattle.std.specs.Prelude.{Option, Some, None, is_some}
 use Rattle.its_gnvalue.specs.Values.{Position}
+use Rattle.its_model.specs.History.{known}
 use Rattle.its_model.specs.Packet.{Transmission}
 use Rattle.its_model.specs.Calls as model
 use Rattle.its_model.specs.Calls.{Answer, Call, OwnCall, ShbRequest}
@@ -10,8 +12,10 @@ use Rattle.its_station.specs.Beside.{move_at_step, send_shb_for_step}
 use Rattle.its_station.specs.Receiving.{VerifiedCall, verified_step}
 use Rattle.its_station.specs.declared.counts.Counts.{Counts}
 use Rattle.its_governor.specs.declared.governor.Governor.{Governor}
+use Rattle.its_governor.specs.declared.receiver.Receiver.{Receiver}
 use Rattle.its_governor.specs.Governing.{frame_in, verified_frame, governed, is_repeated_in}
 use Rattle.its_governor.specs.Governing.{after_call, after_refusal, is_over_rate}
+use Rattle.its_governor.specs.Pressure.{is_pressed}
 
 -- a unit of the model
 pub record UnitModel : Type 0 where
@@ -54,6 +58,18 @@ frame_of (UnitCall.Receive call) = frame_in call
 frame_of (UnitCall.ReceiveVerified call) = verified_frame call
 frame_of call = None
 
+-- whether a station, at a time that it accepts, has a live entry of a source in its location table
+abbrev pub knows : StationModel → ℕ → ℕ → Bool
+knows s now source =
+    nat_le s.clock now && nat_le now (2 ^ 62)
+    && is_some (known s.remember source now s.history)
+
+-- The station as the receiver of a frame, before the call that brings the frame.
+abbrev pub receiver_of : StationModel → ℕ → Option Transmission → Receiver
+receiver_of s now None = record { address = s.address; knew_source = false }
+receiver_of s now (Some t) =
+    record { address = s.address; knew_source = knows s now t.pdu.vector.address }
+
 -- whether a call asks for an own packet that is no beacon
 abbrev pub is_own_request : OwnCall → Bool
 is_own_request (model.OwnCall.SendShb request) = true
@@ -87,10 +103,12 @@ abbrev pub passed_step : UnitModel → ℕ → UnitCall → Step → UnitStep
 passed_step u now call step =
     record {
       answer = answer_by (is_repeated_in u.governor now (frame_of call) step.answer)
-          (governed u.governor now (frame_of call) step.answer);
+          (governed u.governor (receiver_of u.station now (frame_of call)) now (frame_of call)
+          step.answer);
       unit = record {
         station = step.station;
-        governor = after_call u.governor now (is_request call) (frame_of call) step.answer;
+        governor = after_call u.governor (receiver_of u.station now (frame_of call)) now
+            (is_request call) (frame_of call) step.answer;
       };
     }
 
@@ -109,3 +127,14 @@ unit_step u now call =
     if is_request call && is_over_rate u.governor u.station.clock now
     then refused_step u
     else passed_step u now call (step_within u.station now call)
+
+-- ---- words of private functions
+
+-- the receiver of a frame as a unit sees it, which looks the source up under pressure only
+abbrev pub asked : UnitModel → ℕ → ℕ → Receiver
+asked u now source =
+    record {
+      address = u.station.address;
+      knew_source = is_pressed u.governor.forward u.governor.shares now
+          && knows u.station now source;
+    }

@@ -1,15 +1,52 @@
-//! The law of a unit: a function whose contract it is.
+//! The laws of units. Each is the contract of a function that does nothing.
 
+ghost use Rattle.std.specs.Prelude.{List};
+ghost use Rattle.its_model.specs.World.{Config};
 ghost use Rattle.its_governor.specs.declared.rate.Limits.{Limits as GivenLimits};
 ghost use Rattle.its_governor.specs.Governing.{IsNewGovernor};
 ghost use Rattle.its_unit.specs.Unit.{UnitModel};
 ghost use Rattle.its_unit.specs.Runs.{IsLawful};
+ghost use Rattle.its_unit.specs.Fleets.{unit_kind};
+ghost use Rattle.its_unit.specs.FleetLaws.{AreNewUnits, FleetIsWorld, FleetHoldsOfSchedules};
+ghost use Rattle.its_unit.specs.FleetLaws.{UnitsRun, SendsOnce, DeliversAsSent};
+ghost use Rattle.its_unit.specs.FleetLaws.{FramesAreFaithful};
+
+use its_model::laws::every_schedule;
 
 /// The laws of a unit with new limits, in every list of calls: its station has made those very calls,
 /// and a part of each answer passes; the frames that are forwarded, all of them and those of each
 /// source, and the own packets are within the limits; a message is delivered if no copy of its packet
-/// was, and not twice.
+/// was, and not twice. Under pressure a frame is withheld for a reason that is named, one that keeps the
+/// rules is forwarded, and new sources take nothing of the lower four fifths of the bucket of all.
 pub fn units_are_lawful()
     ensures { (limits : GivenLimits) (u : UnitModel) → IsNewGovernor limits u.governor →
         IsLawful limits u }
 {}
+
+/// The laws of a fleet: units that exchange the frames that they send, in every order, with losses.
+///
+/// - `world`: the stations within do what the stations of a world do, on the events that
+///   `world_events` names. Each frame that a unit sends is the world's frame with its number, and a
+///   part of each entry of the world's log passes.
+/// - `schedules`: all that holds after every schedule holds of that world.
+/// - `units`: each unit is a unit after the calls that the fleet makes of it, so its limits hold.
+/// - `once`: no frame that a station made is sent twice.
+/// - `delivered`: a message for an area that a unit delivers was sent by a unit of the fleet, to
+///   that port, for an area that holds the receiver's position.
+/// - `faithful`: each frame that a unit sends is its own packet, or one that a unit sent before,
+///   with one hop fewer.
+pub fn fleets_are_worlds()
+    ensures world { (configs : List Config) (units : List UnitModel) →
+        AreNewUnits unit_kind configs units → FleetIsWorld unit_kind configs units }
+    ensures schedules { (configs : List Config) (units : List UnitModel) →
+        FleetHoldsOfSchedules unit_kind configs units }
+    ensures units { (units : List UnitModel) → UnitsRun units }
+    ensures once { (units : List UnitModel) → SendsOnce units }
+    ensures delivered { (configs : List Config) (units : List UnitModel) →
+        AreNewUnits unit_kind configs units → DeliversAsSent unit_kind units }
+    ensures faithful { (configs : List Config) (units : List UnitModel) →
+        AreNewUnits unit_kind configs units → FramesAreFaithful unit_kind configs units }
+{
+    // A law, for the proof alone.
+    every_schedule();
+}

@@ -34,6 +34,15 @@
 //!   unit is a run of its station whose frames are late or lost. It is a run of the station of the model
 //!   (`IsModelRun`) if no move has a time stamp of its own, no single-hop broadcast a lifetime of its own,
 //!   and no secured frame is faulty.
+//! - **Fleets** (`laws`: `fleets_are_worlds`): units that exchange the frames that they send, in every
+//!   order and with losses, are a world. Its events are named (`world_events`): a request over its
+//!   rate is no event, and a frame that no unit sends is delivered to nobody. So all laws of
+//!   `World::run` hold of the stations within (`HoldsOfSchedules`). What a unit delivers was sent by a
+//!   unit of the fleet (`DeliversAsSent`). Each frame is an own packet or a faithful forwarding
+//!   (`FramesAreFaithful`), and none is sent twice (`SendsOnce`). A frame may arrive as a verified
+//!   secured frame. Moves with a time stamp of their own and broadcasts with a lifetime of their own
+//!   are left out. The definitions are about each kind of unit that sends its station's frames late or
+//!   never (`IsLateOrLost`).
 //! - **Limits** (`AreWithin`): in each stretch of `t` milliseconds at most `burst + per_second * t / 1000`
 //!   frames are forwarded, and own packets sent; and of the frames of each source by its rate, if the
 //!   limits remember sources (`Limits::remembers_sources`).

@@ -18,16 +18,17 @@ ghost use Rattle.its_station.specs.Receiving.VerifiedCall.{Faulty};
 ghost use Rattle.its_governor.specs.Governing.{governed, after_call, is_repeated_in};
 ghost use Rattle.its_unit.specs.Unit.{UnitModel, RepresentsUnit, unit_step};
 ghost use Rattle.its_unit.specs.Unit.UnitCall.{Receive, ReceiveVerified};
-ghost use Rattle.its_unit.specs.Unit.{answer_by};
+ghost use Rattle.its_unit.specs.Unit.{answer_by, asked, knows};
 ghost use Rattle.its_unit.specs.Steps.{IsStepOf, IsRefusedStep, TellsUnit, WherePassed, IsSameUnit};
 ghost use Rattle.its_unit.specs.Steps.{counted_received};
 
 use crate::outcome::UnitOutcome;
 use crate::unit::Unit;
-use its_governor::{Accepted, Governor};
+use its_gnvalue::GnAddress;
+use its_governor::{Accepted, Governor, Receiver};
 use its_linkframe::{FrameFault, SecuredFault, VerifiedFrame, read_frame};
 use its_loctable::LocationStore;
-use its_station::{Outcome, ReceivedFrame, Refused};
+use its_station::{LAST_MOMENT, Outcome, ReceivedFrame, Refused};
 
 impl<S: LocationStore> Unit<S> {
     /// Receives the octets that came, as `Station::receive` does, and keeps what passes of its
@@ -101,12 +102,38 @@ impl<S: LocationStore> Unit<S> {
             (WherePassed (DeliversEndOf (payload_of (F.frame frame.now).pdu.body))) }
         ensures short_frame { IfOk result (WherePassed (SendsAtMost (F.most frame.now))) }
     {
+        let receiver = self.receiver_of(now, frame);
         let said = match self.station.receive_frame(now, frame) {
-            Ok(outcome) => Ok(govern(&mut self.governor, now, frame, outcome)),
+            Ok(outcome) => Ok(govern(&mut self.governor, now, &receiver, frame, outcome)),
             Err(refused) => Err(refused),
         };
         self.note_received(&said);
         said
+    }
+
+    /// Returns the station as the receiver of a frame that it has not received yet. The source is
+    /// looked up under pressure only.
+    fn receiver_of<'a, F: ReceivedFrame<'a>>(&self, now: u64, frame: &F) -> Receiver
+        ensures { (u : UnitModel) → RepresentsUnit self.now u →
+            result ≡ asked u now (F.frame frame.now).pdu.vector.address }
+    {
+        let knew_source = self.governor.is_pressed(now)
+            && self.knows(now, frame.vector().address());
+        Receiver {
+            address: self.station.address(),
+            knew_source,
+        }
+    }
+
+    /// Whether the station, at a time that it accepts, has a live entry of a source in its location
+    /// table.
+    fn knows(&self, now: u64, source: GnAddress) -> bool
+        ensures { (s : StationModel) → RepresentsStation self.now.station s →
+            result ≡ knows s now source }
+    {
+        self.station.clock() <= now
+            && now <= LAST_MOMENT
+            && self.station.table().lookup(now, source).is_some()
     }
 
     /// Why octets with this fault are refused, which are counted: as `Station::refuse_frame` says.
@@ -160,6 +187,7 @@ impl<S: LocationStore> Unit<S> {
 fn govern<'a, F: ReceivedFrame<'a>>(
     governor: &mut Governor,
     now: u64,
+    receiver: &Receiver,
     frame: &F,
     outcome: Outcome<'a>,
 ) -> UnitOutcome<'a>
@@ -167,10 +195,11 @@ fn govern<'a, F: ReceivedFrame<'a>>(
         TellsBy (F.Encodes frame.now) outcome.entry answer →
         TellsUnit (TellsBy (F.Encodes frame.now)) result
         (answer_by (is_repeated_in governor.old now (Some (F.frame frame.now)) answer)
-        (governed governor.old now (Some (F.frame frame.now)) answer)) }
+        (governed governor.old receiver.now now (Some (F.frame frame.now)) answer)) }
     ensures state { (answer : Answer Transmission) →
         TellsBy (F.Encodes frame.now) outcome.entry answer →
-        governor.new ≡ after_call governor.old now false (Some (F.frame frame.now)) answer }
+        governor.new
+        ≡ after_call governor.old receiver.now now false (Some (F.frame frame.now)) answer }
     ensures payload { (w : List ℕ) → DeliversEndOf w outcome.entry →
         WherePassed (DeliversEndOf w) result }
     ensures short_frame { (most : ℕ) → SendsAtMost most outcome.entry →
@@ -183,7 +212,7 @@ fn govern<'a, F: ReceivedFrame<'a>>(
                 handed: handed.is_some(),
                 sent: sent.is_some(),
             };
-            let passed = governor.judge(now, frame, accepted);
+            let passed = governor.judge(now, receiver, frame, accepted);
             if passed.is_repeated {
                 return UnitOutcome::Repeated;
             }

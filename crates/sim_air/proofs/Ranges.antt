@@ -9,7 +9,8 @@ use Rattle.its_world.specs.declared.event.What.{What}
 use Rattle.its_world.specs.declared.event.What.TheVariants as whats
 use Rattle.its_world.specs.Events.{IsInRange}
 use Rattle.sim_scenario.specs.Airs.{moment_of}
-use Rattle.sim_scenario.specs.Events.{FitsFileEvent, own_speed, speed_of}
+use Rattle.its_words.specs.Calls.{own_speed}
+use Rattle.sim_scenario.specs.Events.{FitsFileEvent, speed_of}
 use Rattle.sim_scenario.specs.declared.events.event.FileEvent.{FileEvent}
 use Rattle.sim_scenario.specs.declared.events.event.FileEvent.TheVariants as files
 use Rattle.sim_air.specs.FileEvents.{IsFiledInRange}

@@ -143,7 +143,9 @@ fn take_planned<S: EventSink>(
     Ok(true)
 }
 
-/// Does a delivery, if its station exists and its frame is kept. Both are always so.
+/// Does a delivery, if its station exists and its frame is kept. Both always hold in a run that is
+/// under way (`IsMoving`). But `IsMoving` also says what the sink took, which `run_air` doesn't
+/// require of its caller. So the other branch can't be `unreachable!()`.
 #[inline(always)]
 fn deliver<S: EventSink>(
     run: &mut Run<'_>,
@@ -175,7 +177,7 @@ fn can_deliver(run: &Run<'_>, delivery: &Delivery) -> bool
 }
 
 /// Does what the radio model planned, if its station exists and the frame that it delivers, if any,
-/// is kept. Both are always so.
+/// is kept. Both always hold, as in `deliver`.
 fn do_own<S: EventSink>(
     run: &mut Run<'_>,
     waiting: &Scheduled,

@@ -1,7 +1,7 @@
 -- What a row says.
-use Rattle.std.specs.Prelude.{◌≡◌, ◌≢◌, ◌≤◌, ◌<◌, ◌^◌, ◌%◌, ℕ, ℤ, pos, ◌≤ℤ◌, List, [], ◌+◌, ◌⊎◌}
-use Rattle.std.specs.Prelude.{IsUtf8, Option, Some, None}
-use Rattle.std.specs.Prelude.{length, slice_get, unwrap_or, slice_index}
+use Rattle.std.specs.Prelude.{◌≡◌, ◌≢◌, ◌≤◌, ◌<◌, ◌^◌, ◌%◌, ℕ, ℤ, pos, ◌≤ℤ◌, List, [], ◌+◌}
+use Rattle.std.specs.Prelude.{Option, Some, None, length, slice_get, unwrap_or}
+use Rattle.its_words.specs.Ids.{IsId}
 use Rattle.sim_moves.specs.Columns.{least_of, most_of, places_of}
 use Rattle.sim_moves.specs.Decimals.{WritesWhole, WritesDecimal}
 use Rattle.sim_moves.specs.declared.columns.Column.{Column}
@@ -43,19 +43,6 @@ MayBeNumber notation column None number = number ≡ pos 0
 pub record IsMoment (notation : Notation) (before : ℕ) (octets : List ℕ) (at : ℕ) : Type 0 where
   pub number : IsNumber notation columns.At octets (pos at)
   pub order : before ≤ at
-
--- Here stands a control character (Unicode's Cc): U+0000 to U+001F, U+007F, or U+0080 to U+009F,
--- which UTF-8 writes as C2 and an octet below A0.
-abbrev pub IsControlAt : List ℕ → ℕ → Type 0
-IsControlAt octets place = (slice_index octets place < 32) ⊎ (slice_index octets place ≡ 127)
-    ⊎ ((slice_index octets place ≡ 194) × (slice_index octets (place + 1) < 160))
-
--- 1 to 64 octets of UTF-8 without control characters
-pub record IsId (octets : List ℕ) : Type 0 where
-  pub some : 0 < length octets
-  pub few : length octets ≤ 64
-  pub text : IsUtf8 octets
-  pub plain : (place : ℕ) → place < length octets → ¬ IsControlAt octets place
 
 -- the field of a column that may be absent
 abbrev pub may_field : List (List ℕ) → Option ℕ → Option (List ℕ)

@@ -25,5 +25,5 @@ mod rows;
 
 pub use columns::{Column, Columns, Notation};
 pub use fault::{HeaderFault, MovesFault, ReadFault, Word, WordReason};
-pub use row::{Row, is_id};
+pub use row::Row;
 pub use rows::{LONGEST_LINE, Rows};

@@ -1,20 +1,19 @@
 //! A row of moves.
 
-ghost use Rattle.std.specs.Prelude.{◌≡◌, ◌↔◌, ◌<◌, ◌≤◌, ◌^◌, pos, ℕ, ℤ, length};
-ghost use Rattle.std.specs.Prelude.{IsTrue, IfSome, IfNone, IfOk, IfErr};
+ghost use Rattle.std.specs.Prelude.{◌≡◌, ◌<◌, ◌≤◌, ◌^◌, pos, ℕ, ℤ};
+ghost use Rattle.std.specs.Prelude.{IfSome, IfNone, IfOk, IfErr};
 ghost use Rattle.std.specs.Option.{option_map};
 ghost use Rattle.its_gnvalue.specs.Values.{IsSpeed};
 ghost use Rattle.sim_moves.specs.Fields.{cut};
-ghost use Rattle.sim_moves.specs.Rows.{AreNumbers, IsFirstWord, IsId, IsMoment, IsNumber};
-ghost use Rattle.sim_moves.specs.Rows.{IsControlAt, IsWordOfPlace, MayBeNumber, field_at};
-ghost use Rattle.sim_moves.specs.Rows.{may_field};
+ghost use Rattle.sim_moves.specs.Rows.{AreNumbers, IsFirstWord, IsMoment, IsNumber};
+ghost use Rattle.sim_moves.specs.Rows.{IsWordOfPlace, MayBeNumber, field_at, may_field};
 
 use crate::columns::{Column, Columns, Notation};
 use crate::decimal::{decimal, whole};
 use crate::fault::Word;
 use crate::fields::{Bound, within};
 use its_gnvalue::Place;
-use std::str;
+use its_words::ids::is_id;
 
 /// Where something moved.
 #[derive(Debug, PartialEq, Eq, Drop)]
@@ -30,9 +29,6 @@ pub struct Row {
     /// Heading where, in 0.1 degree clockwise from north: below 3600.
     pub heading: u16,
 }
-
-/// The most octets of an id.
-const MOST_ID_OCTETS: usize = 64;
 
 /// The number of a column that octets write, in the own unit and in its range. `None` for others.
 fn number(notation: Notation, column: Column, octets: &[u8]) -> Option<i128>
@@ -56,44 +52,6 @@ fn moment_of(columns: &Columns, before: u64, octets: &[u8]) -> Option<u64>
 {
     let at = number(columns.notation, Column::At, octets)? as u64;
     if at < before { None } else { Some(at) }
-}
-
-/// Whether octets are an id: 1 to 64 octets of UTF-8 without control characters (Unicode's Cc).
-pub fn is_id(octets: &[u8]) -> bool
-    ensures { IsTrue result ↔ IsId octets.now }
-{
-    if octets.is_empty() || octets.len() > MOST_ID_OCTETS {
-        return false;
-    }
-    str::from_utf8(octets).is_ok() && has_no_controls(octets)
-}
-
-/// Whether there is no control character (Unicode's Cc) in UTF-8.
-fn has_no_controls(octets: &[u8]) -> bool
-    ensures { IsTrue result ↔ ((place : ℕ) → place < length octets.now
-        → ¬ IsControlAt octets.now place) }
-{
-    for place in 0..octets.len() {
-        if is_control(octets, place) {
-            return false;
-        }
-    }
-    true
-}
-
-/// Whether a control character stands here: an octet below 20, 7F, or C2 before one below A0.
-fn is_control(octets: &[u8], place: usize) -> bool
-    requires { place < length octets.now }
-    ensures { IsTrue result ↔ IsControlAt octets.now place }
-{
-    let octet = octets[place];
-    if octet != 0xc2 {
-        return octet < 0x20 || octet == 0x7f;
-    }
-    match octets.get(place + 1) {
-        Some(next) => *next < 0xa0,
-        None => true,
-    }
 }
 
 /// The number of a column, which is refused by its word where it isn't one in its range.

@@ -2,8 +2,8 @@
 
 ghost use Rattle.std.specs.Prelude.{◌≡◌, ◌≤◌, IfOk, IfSome, string_bytes};
 ghost use Rattle.sim_moves.specs.Fields.{cut};
-ghost use Rattle.sim_moves.specs.Rows.{IsId, IsRow, IsRowBetween, ReachesBetween, ReachesRow};
-ghost use Rattle.sim_moves.specs.Rows.{field_at};
+ghost use Rattle.its_words.specs.Ids.{IsId};
+ghost use Rattle.sim_moves.specs.Rows.{IsRow, IsRowBetween, ReachesBetween, ReachesRow, field_at};
 
 use crate::columns::{Column, Columns, Found, Notation, columns_of, find, names_none};
 use crate::fault::{HeaderFault, LineFault, MovesFault, ReadFault, Word};

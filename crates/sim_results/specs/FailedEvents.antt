@@ -6,9 +6,10 @@ use Rattle.its_world.specs.Events.{what_of}
 use Rattle.sim_results.specs.declared.failed_events.AskedSend.{AskedSend}
 use Rattle.sim_results.specs.declared.failed_events.FailedEvent.{FailedEvent}
 use Rattle.sim_results.specs.declared.failed_events.FailedEvents.{FailedEvents}
-use Rattle.sim_scenario.specs.Verbs.{action_verb, verb_of}
-use Rattle.sim_settings.specs.declared.keys.verb.Verb.{Verb}
-use Rattle.sim_settings.specs.declared.keys.verb.Verb.TheVariants as verbs
+use Rattle.its_words.specs.Verbs.{verb_of}
+use Rattle.sim_scenario.specs.Verbs.{action_verb}
+use Rattle.its_words.specs.declared.keys.verb.Verb.{Verb}
+use Rattle.its_words.specs.declared.keys.verb.Verb.TheVariants as verbs
 use Rattle.sim_simulation.specs.declared.note.Note.{Note}
 use Rattle.sim_simulation.specs.declared.note.Note.TheVariants.{Absent}
 use Rattle.sim_simulation.specs.declared.record.EventRecord.{EventRecord}

@@ -19,7 +19,7 @@ use its_world::{Entry, What, World};
 use sim_scenario::events::end_of;
 use sim_scenario::{Scenario, Timeline};
 use sim_settings::Traffic;
-use sim_settings::keys::Verb;
+use its_words::keys::Verb;
 use sim_simulation::{EventRecord, Note};
 use std::alloc::Global;
 use std::io::Write;

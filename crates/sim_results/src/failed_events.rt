@@ -9,13 +9,13 @@ ghost use Rattle.its_world.specs.Entries.{was_done};
 
 use crate::late_events::{WhyLate, late_events};
 use cmd_quoting::OneLine;
-use cmd_text::frames::Explanation;
 use its_gnvalue::NoMemory;
 use its_station::Answer;
+use its_words::frames::Explanation;
+use its_words::keys::Verb;
 use its_world::{EntryFault, Event};
 use sim_scenario::events::{AddressedEvent, verb_of};
 use sim_scenario::{Scenario, Timeline};
-use sim_settings::keys::Verb;
 use sim_simulation::{EntryReason, EventRecord, Note};
 use std::alloc::Global;
 use std::io::Write;

@@ -3,7 +3,7 @@
 use crate::in_file::InFile;
 use cmd_quoting::Quoted;
 use cmd_reporting::{CommandFault, OutputFormat, Status};
-use cmd_text::frames::Explanation;
+use its_words::frames::Explanation;
 use sim_moves::{Word, WordReason};
 use std::fmt;
 use std::io::Write;

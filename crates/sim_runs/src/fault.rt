@@ -5,7 +5,7 @@ ghost use Rattle.std.specs.Prelude.{◌≡◌};
 use crate::bad_row::BadRow;
 use crate::in_file::InFile;
 use cmd_reporting::{CommandFault, Fault, OutputFormat, Status, WriterFault};
-use cmd_text::frames::Explanation;
+use its_words::frames::Explanation;
 use sim_air::AirFault;
 use sim_moves::MovesFault;
 use sim_scenario::ScenarioFault;

@@ -1,7 +1,7 @@
 //! What the arguments choose beside the scenario.
 
 use sim_scenario::{AirTable, Reading};
-use sim_settings::keys::AirSettings;
+use sim_settings::AirSettings;
 
 /// How a scenario is run.
 #[derive(Clone, Copy, Debug, Default, PartialEq, Eq)]

@@ -14,7 +14,7 @@ use crate::options::RunOptions;
 use crate::outputs::Outputs;
 use crate::sinks::RunSinks;
 use cmd_reporting::{Fault, Io, OutputFormat, ProgressWriter, Status};
-use cmd_text::frames::Explanation;
+use its_words::frames::Explanation;
 use its_world::World;
 use sim_air::{AirFault, run_moves, run_scenario};
 use sim_scenario::{MOST_STATIONS, Reading, Scenario, Timeline};

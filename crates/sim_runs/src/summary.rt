@@ -2,8 +2,8 @@
 
 use crate::report::Report;
 use cmd_reporting::OutputFormat;
-use cmd_text::json_lines::{JsonLine, Printed};
 use its_gnvalue::NoMemory;
+use its_words::json_lines::{JsonLine, Printed};
 use serde::Serialize;
 use sim_results::{Doubt, Reach};
 use sim_simulation::SimulationFault;

@@ -1,11 +1,11 @@
 -- Events of a file that are read, and then done where their stations are.
 use Rattle.std.proofs.Common.{◌++◌, List, [], ◌∷◌, subst, sym}
 use Rattle.its_gnvalue.specs.Values.{Position}
-use Rattle.sim_settings.specs.Fields.{FieldValues}
+use Rattle.its_words.specs.Fields.{FieldValues}
 use Rattle.sim_settings.specs.Items.{SayItems}
 use Rattle.sim_settings.specs.Tables.{table_values}
-use Rattle.sim_settings.specs.declared.keys.key.Key.TheVariants as keys
-use Rattle.sim_settings.specs.Fields.{IsNumber}
+use Rattle.its_words.specs.declared.keys.key.Key.TheVariants as keys
+use Rattle.its_words.specs.Fields.{IsNumber}
 use Rattle.sim_scenario.specs.Actions.{IsDoneAt}
 use Rattle.sim_scenario.specs.Saying.{SaysFileEvent, SaysStationEvent}
 use Rattle.sim_scenario.specs.declared.events.event.FileEvent.{FileEvent}

@@ -1,7 +1,7 @@
 -- Timelines of documents, in an air and where it is ignored.
 use Rattle.std.proofs.Common.{◌≡◌, Bool, false, sym, subst}
 use Rattle.std.specs.Prelude.{Option, Some, None}
-use Rattle.sim_settings.specs.Fields.{FieldValues}
+use Rattle.its_words.specs.Fields.{FieldValues}
 use Rattle.sim_scenario.specs.Scenarios.{ArePartsOf, IsPlain, Parts, SayAirTimeline, SayScenario}
 use Rattle.sim_scenario.specs.Scenarios.{SayTimeline, SayTimelineIn, air_if, reads_air}
 use Rattle.sim_scenario.specs.declared.reading.AirTable.{AirTable}

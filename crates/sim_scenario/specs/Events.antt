@@ -1,12 +1,11 @@
 -- The events of a scenario.
 use Rattle.std.specs.Prelude.{ℕ, ℤ, pos, ◌<◌, ◌^◌, string_bytes}
 use Rattle.its_gnvalue.specs.Values.{IsSpeed}
-use Rattle.its_station.specs.declared.call.OwnCall.{OwnCall}
-use Rattle.its_station.specs.declared.call.OwnCall.TheVariants as own_calls
+use Rattle.its_words.specs.Calls.{own_speed}
 use Rattle.its_world.specs.declared.event.Event.{Event}
 use Rattle.its_world.specs.declared.event.What.{What}
 use Rattle.its_world.specs.declared.event.What.TheVariants as whats
-use Rattle.sim_moves.specs.Rows.{IsId}
+use Rattle.its_words.specs.Ids.{IsId}
 use Rattle.sim_scenario.specs.Airs.{moment_of}
 use Rattle.sim_scenario.specs.declared.events.action.Action.{Action}
 use Rattle.sim_scenario.specs.declared.events.action.Action.TheVariants as actions
@@ -18,10 +17,6 @@ use Rattle.sim_scenario.specs.declared.events.event.FileEvent.TheVariants as fil
 use Rattle.sim_scenario.specs.declared.events.event.StationEvent.{StationEvent}
 
 -- the speed of a move; 0 where none is given
-abbrev pub own_speed : OwnCall → ℤ
-own_speed (own_calls.MoveTo place pai speed heading) = speed
-own_speed call = pos 0
-
 abbrev pub speed_of : What → ℤ
 speed_of (whats.Call call) = own_speed call
 speed_of (whats.Deliver frame) = pos 0

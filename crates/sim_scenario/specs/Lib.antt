@@ -5,6 +5,5 @@ pub mod Airs
 pub mod Actions
 pub mod Events
 pub mod Measures
-pub mod Reading
 pub mod Saying
 pub mod Verbs

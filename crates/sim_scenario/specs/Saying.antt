@@ -1,16 +1,16 @@
 -- What the tables of a scenario say of its stations and its events.
 use Rattle.std.specs.Prelude.{◌≡◌, ℕ, Bool, false, not, List, length, string_bytes}
 use Rattle.std.specs.Int.{w64, from_be_bytes}
-use Rattle.sim_settings.specs.Fields.{FieldValues, AreOctets, IsMissing, IsNumber}
-use Rattle.sim_settings.specs.Fields.{IsNumberOr, IsPlace, IsText, IsTruthOr}
+use Rattle.its_words.specs.Fields.{FieldValues, AreOctets, IsMissing, IsNumber}
+use Rattle.its_words.specs.Fields.{IsNumberOr, IsPlace, IsText, IsTruthOr}
 use Rattle.its_gnvalue.specs.Values.{Position}
-use Rattle.sim_settings.specs.Verbs.{verb_word}
-use Rattle.sim_settings.specs.declared.keys.key.Key.TheVariants as keys
-use Rattle.sim_settings.specs.declared.keys.verb.Verb.TheVariants as verbs
+use Rattle.its_words.specs.Verbs.{verb_word}
+use Rattle.its_words.specs.declared.keys.key.Key.TheVariants as keys
+use Rattle.its_words.specs.declared.keys.verb.Verb.TheVariants as verbs
 use Rattle.sim_scenario.specs.Airs.{moment_of}
 use Rattle.sim_scenario.specs.Events.{station_in}
 use Rattle.sim_scenario.specs.Actions.{what_at, what_in}
-use Rattle.sim_scenario.specs.Reading.{SaysWhat, shape_word}
+use Rattle.its_words.specs.Reading.{SaysWhat, shape_word}
 use Rattle.sim_scenario.specs.declared.events.action.Action.{Action}
 use Rattle.sim_scenario.specs.declared.events.action.Action.TheVariants as actions
 use Rattle.sim_scenario.specs.declared.events.around.AroundRequest.{AroundRequest}

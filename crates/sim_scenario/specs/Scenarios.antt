@@ -3,13 +3,13 @@ use Rattle.std.specs.Prelude.{◌≡◌, ℕ, Bool, true, false, List, [], Optio
 use Rattle.std.specs.Prelude.{String, is_some}
 use Rattle.std.specs.Option.{option_map}
 use Rattle.std.specs.declared.alloc.Global.{Global}
-use Rattle.sim_settings.specs.Fields.{FieldValues}
-use Rattle.sim_settings.specs.Keys.{word_of}
+use Rattle.its_words.specs.Fields.{FieldValues}
+use Rattle.its_words.specs.Keys.{word_of}
 use Rattle.sim_settings.specs.Settings.{set_values}
 use Rattle.sim_settings.specs.Tables.{table_values}
-use Rattle.sim_settings.specs.declared.keys.key.Key.TheVariants as keys
-use Rattle.sim_settings.specs.declared.keys.settings.AirSettings.{AirSettings}
-use Rattle.sim_settings.specs.declared.keys.settings.SetAir.{SetAir}
+use Rattle.its_words.specs.declared.keys.key.Key.TheVariants as keys
+use Rattle.sim_settings.specs.declared.air_settings.AirSettings.{AirSettings}
+use Rattle.sim_settings.specs.declared.air_settings.SetAir.{SetAir}
 use Rattle.its_world.specs.declared.event.Event.{Event}
 use Rattle.sim_settings.specs.Items.{SayItems, items_if, items_under, members_if}
 use Rattle.sim_settings.specs.Moves.{SaysMoves}

@@ -14,14 +14,15 @@ use crate::events::{
 use crate::fault::ScenarioFault;
 use crate::part::Part;
 use crate::places::Places;
+use its_words::keys::{Key, KeyFault};
 use its_world::{Config, Event};
-use sim_settings::keys::{Key, KeyFault};
+use sim_settings::TomlFields;
 use std::alloc::Global;
 use toml::{Table, Value};
 
 /// An event of a document, which a table of it describes.
 pub(crate) trait TableEvent: Sized + Drop {
-    ghost use Rattle.sim_settings.specs.Fields.{FieldValues};
+    ghost use Rattle.its_words.specs.Fields.{FieldValues};
 
     /// The keys of its table say this event.
     ghost Says: { FieldValues → Self → Type 0 };
@@ -45,7 +46,7 @@ impl TableEvent for Event {
     ghost Fits = { FitsEvent };
 
     fn read(alloc: Global, table: &Table, _: usize, _: usize) -> Result<Event, KeyFault> {
-        read_event(alloc, table)
+        read_event(alloc, &TomlFields(table))
     }
 }
 
@@ -59,7 +60,7 @@ impl TableEvent for StationEvent {
     ghost Fits = { FitsStationEvent };
 
     fn read(alloc: Global, table: &Table, _: usize, _: usize) -> Result<StationEvent, KeyFault> {
-        read_station_event(alloc, table)
+        read_station_event(alloc, &TomlFields(table))
     }
 }
 
@@ -78,7 +79,7 @@ impl TableEvent for AddressedEvent {
         number: usize,
         stations: usize,
     ) -> Result<AddressedEvent, KeyFault> {
-        read_addressed(alloc, table, number, stations)
+        read_addressed(alloc, &TomlFields(table), number, stations)
     }
 }
 

@@ -3,9 +3,9 @@
 
 mod action;
 mod around;
+mod around_keys;
 mod end;
 mod event;
-mod geocast;
 mod station;
 mod verb;
 mod what;
@@ -16,5 +16,5 @@ pub use end::{AFTER_EVENTS, end_of};
 pub use event::{AddressedEvent, Addressee, FileEvent, read_addressed, read_event};
 pub(crate) use event::{StationEvent, read_station_event};
 pub use station::{read_present, read_station};
-pub use verb::{own_verb, verb_of};
-pub use what::{read_call, read_what};
+pub use verb::verb_of;
+pub use what::read_what;

@@ -1,7 +1,8 @@
 //! The values that a message shows.
 
 use cmd_quoting::Quoted;
-use sim_settings::keys::{Key, value_of};
+use its_words::keys::Key;
+use sim_settings::value_of;
 use std::alloc::{AllocError, Global};
 use std::fmt;
 use toml::{Table, Value};

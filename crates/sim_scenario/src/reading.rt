@@ -3,7 +3,7 @@
 ghost use Rattle.std.specs.Prelude.{◌≡◌};
 ghost use Rattle.sim_scenario.specs.Scenarios.{reads_air};
 
-use sim_settings::keys::AirSettings;
+use sim_settings::AirSettings;
 
 /// How a document is read as a scenario. `default` is how `from_toml` reads it.
 #[derive(Clone, Copy, Debug, Default, PartialEq, Eq)]

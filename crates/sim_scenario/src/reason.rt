@@ -2,7 +2,7 @@
 
 use crate::fault::ScenarioFault;
 use crate::found::Found;
-use sim_settings::keys::{Key, NotOneOf, WrongOf, WrongValue};
+use its_words::keys::{Key, NotOneOf, WrongOf, WrongValue};
 use std::fmt;
 
 /// The sentence of a scenario's fault, for a person: what was wrong and, in a text that is no TOML,

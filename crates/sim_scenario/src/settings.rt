@@ -13,9 +13,10 @@ ghost use Rattle.toml.specs.View.{items_view, table_view};
 use crate::fault::ScenarioFault;
 use crate::part::Part;
 use crate::unknown::refuse_unknown;
-use sim_settings::keys::{Key, SetAir};
+use its_words::keys::Key;
 use sim_settings::{
-    Air, Expectation, Moves, Traffic, read_air, read_expectation, read_moves, read_traffic,
+    Air, Expectation, Moves, SetAir, TomlFields, Traffic, read_air, read_expectation, read_moves,
+    read_traffic,
 };
 use std::alloc::Global;
 use toml::{Table, Value};
@@ -57,7 +58,7 @@ fn read_known_traffic(alloc: Global, table: &Table, number: usize) -> Result<Tra
     ensures refused { IfErr result IsPastToml }
 {
     let part = Part::Every(number);
-    let traffic = read_traffic(table).map_err(|fault| {
+    let traffic = read_traffic(&TomlFields(table)).map_err(|fault| {
         ScenarioFault::of_key(alloc, fault, part, table)
     })?;
     refuse_unknown(alloc, table, part)?;
@@ -107,7 +108,7 @@ fn read_known_expectation(
     ensures refused { IfErr result IsPastToml }
 {
     let part = Part::Expectation(number);
-    let expectation = read_expectation(table).map_err(|fault| {
+    let expectation = read_expectation(&TomlFields(table)).map_err(|fault| {
         ScenarioFault::of_key(alloc, fault, part, table)
     })?;
     refuse_unknown(alloc, table, part)?;

@@ -12,8 +12,9 @@ ghost use Rattle.toml.specs.View.{items_view, table_view};
 use crate::events::{read_present, read_station};
 use crate::fault::ScenarioFault;
 use crate::part::Part;
+use its_words::keys::Key;
 use its_world::Config;
-use sim_settings::keys::Key;
+use sim_settings::TomlFields;
 use std::alloc::Global;
 use toml::{Table, Value};
 
@@ -56,7 +57,7 @@ fn read_numbered_station(
     ensures ranges { IfOk result IsConfig }
     ensures refused { IfErr result IsPastToml }
 {
-    read_station(table).map_err(|fault| {
+    read_station(&TomlFields(table)).map_err(|fault| {
         ScenarioFault::of_key(alloc, fault, Part::Station(number), table)
     })
 }
@@ -74,7 +75,7 @@ fn read_presence(
     if !has_air {
         return Ok(true);
     }
-    read_present(table).map_err(|fault| {
+    read_present(&TomlFields(table)).map_err(|fault| {
         ScenarioFault::of_key(alloc, fault, Part::Station(number), table)
     })
 }

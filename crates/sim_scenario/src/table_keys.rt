@@ -1,7 +1,8 @@
 //! Which keys a table of a scenario may have.
 
 use crate::part::Part;
-use sim_settings::keys::{AIR_KEYS, Key};
+use its_words::keys::Key;
+use sim_settings::AIR_KEYS;
 
 /// Returns the keys that this part of the scenario may have. `None` is the scenario itself.
 pub(crate) fn keys_of(part: Option<Part>) -> &'static [Key] {

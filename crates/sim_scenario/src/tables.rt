@@ -1,9 +1,9 @@
 //! The tables of a document, and the scenario of them.
 
 ghost use Rattle.std.specs.Prelude.{◌≡◌, ◌≤◌, IfOk, IfErr, vec_len};
-ghost use Rattle.sim_settings.specs.Keys.{word_of};
+ghost use Rattle.its_words.specs.Keys.{word_of};
 ghost use Rattle.sim_settings.specs.Tables.{items_of_found};
-ghost use Rattle.sim_settings.specs.declared.keys.key.Key.TheVariants as keys;
+ghost use Rattle.its_words.specs.declared.keys.key.Key.TheVariants as keys;
 ghost use Rattle.sim_scenario.specs.Documents.{IsPastToml};
 ghost use Rattle.sim_scenario.specs.Scenarios.{ArePartsOf, SayScenario, SayTimeline, air_if};
 ghost use Rattle.sim_scenario.specs.Scenarios.{air_in, members_in, parts_in, reads_air};
@@ -20,9 +20,9 @@ use crate::settings::{read_every, read_expectations, read_known_air, read_known_
 use crate::stations::read_stations;
 use crate::timeline::{AirTimeline, MovesTimeline, PlainTimeline, Timeline};
 use crate::unknown::{refuse_all_unknown, unknown_keys};
+use its_words::keys::Key;
 use its_world::{Config, refuse_shared};
-use sim_settings::Moves;
-use sim_settings::keys::{Key, SetAir, items_of, value_of};
+use sim_settings::{Moves, SetAir, items_of, value_of};
 use std::alloc::Global;
 use toml::{Table, Value};
 

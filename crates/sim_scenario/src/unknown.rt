@@ -7,7 +7,7 @@ use crate::fault::ScenarioFault;
 use crate::part::Part;
 use crate::table_keys::keys_of;
 use cmd_quoting::OneLine;
-use sim_settings::keys::{Key, nearest};
+use its_words::keys::{Key, nearest};
 use std::alloc::{AllocError, Global};
 use std::fmt;
 use toml::{Table, Value};

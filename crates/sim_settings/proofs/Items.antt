@@ -2,7 +2,7 @@
 use Rattle.std.proofs.Common.{◌≡◌, ℕ, ◌+◌, ◌<◌, List, [], ◌∷◌, ◌++◌, length, take, get_or}
 use Rattle.std.proofs.Common.{sym, ap, subst, ◌∙◌}
 use Rattle.std.proofs.lemmas.List.{take_more}
-use Rattle.sim_settings.specs.Fields.{FieldValues}
+use Rattle.its_words.specs.Fields.{FieldValues}
 use Rattle.sim_settings.specs.Items.{EachItem, SayItems, SaysItem}
 use Rattle.toml.specs.Data.{Data}
 use Rattle.toml.specs.View.{items_view, view}

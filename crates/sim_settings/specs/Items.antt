@@ -1,9 +1,9 @@
 -- The items of an array of a document, and what was read of each.
 use Rattle.std.specs.Prelude.{◌≡◌, Bool, List, [], ◌∷◌, Option, Some, None, cond}
-use Rattle.sim_settings.specs.Keys.{word_of}
-use Rattle.sim_settings.specs.Fields.{FieldValues}
+use Rattle.its_words.specs.Keys.{word_of}
+use Rattle.its_words.specs.Fields.{FieldValues}
 use Rattle.sim_settings.specs.Tables.{items_of_found, table_values}
-use Rattle.sim_settings.specs.declared.keys.key.Key.{Key}
+use Rattle.its_words.specs.declared.keys.key.Key.{Key}
 use Rattle.toml.specs.Data.{Data, Items, no_items, item, Members, no_members, as_table}
 use Rattle.toml.specs.Data.{get_member}
 

@@ -1,10 +1,5 @@
 pub mod Items
 pub mod Moves
 pub mod Saying
-pub mod Keys
-pub mod Fields
 pub mod Tables
-pub mod Faults
-pub mod Verbs
-pub mod Nearest
 pub mod Settings

@@ -1,9 +1,9 @@
 -- What the table of moves says.
 use Rattle.std.specs.Prelude.{◌≡◌, ◌⊎◌, ℕ, pos, List, [], ◌∷◌, Some}
 use Rattle.std.specs.Int.{bytes_high_first}
-use Rattle.sim_settings.specs.Fields.{FieldValues, AreOctets, IsMissing, IsNumberOr}
+use Rattle.its_words.specs.Fields.{FieldValues, AreOctets, IsMissing, IsNumberOr}
 use Rattle.sim_settings.specs.Tables.{table_values}
-use Rattle.sim_settings.specs.declared.keys.key.Key.TheVariants as keys
+use Rattle.its_words.specs.declared.keys.key.Key.TheVariants as keys
 use Rattle.sim_settings.specs.Items.{EachItem, items_under}
 use Rattle.sim_settings.specs.declared.moves.Moves.{Moves}
 use Rattle.toml.specs.Data.{Data, Items, Members, as_integer}

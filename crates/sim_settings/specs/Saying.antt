@@ -1,7 +1,7 @@
 -- What the tables of a scenario say of how it runs: its air, its traffic, and what is expected.
 use Rattle.std.specs.Prelude.{false, codes}
-use Rattle.sim_settings.specs.Fields.{FieldValues, IsNumber, IsNumberIf, IsNumberOr, IsText, IsTruthOr}
-use Rattle.sim_settings.specs.declared.keys.key.Key.TheVariants as keys
+use Rattle.its_words.specs.Fields.{FieldValues, IsNumber, IsNumberIf, IsNumberOr, IsText, IsTruthOr}
+use Rattle.its_words.specs.declared.keys.key.Key.TheVariants as keys
 use Rattle.sim_settings.specs.declared.air.Air.{Air}
 use Rattle.sim_settings.specs.declared.expectation.Expectation.{Expectation}
 use Rattle.sim_settings.specs.declared.expectation.Reached.{Reached}

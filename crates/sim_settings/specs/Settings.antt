@@ -1,14 +1,14 @@
 -- Values of the air that are given beside a scenario, and what is wrong with one.
 use Rattle.std.specs.Prelude.{ℕ, ℤ, Bool, ◌||◌, List, [], ◌∷◌, Option, None, cond, is_some}
 use Rattle.std.specs.Option.{option_or}
-use Rattle.sim_settings.specs.Fields.{FieldValues}
-use Rattle.sim_settings.specs.Keys.{is_word, word_of}
-use Rattle.sim_settings.specs.Nearest.{IsMeant}
-use Rattle.sim_settings.specs.declared.keys.key.Key.TheVariants as keys
-use Rattle.sim_settings.specs.declared.keys.key.Key.{Key}
-use Rattle.sim_settings.specs.declared.keys.settings.AirSettings.{AirSettings}
-use Rattle.sim_settings.specs.declared.keys.settings.SettingReason.{SettingReason}
-use Rattle.sim_settings.specs.declared.keys.settings.SettingReason.TheVariants.{Meant, Value}
+use Rattle.its_words.specs.Fields.{FieldValues}
+use Rattle.its_words.specs.Keys.{is_word, word_of}
+use Rattle.its_words.specs.Nearest.{IsMeant}
+use Rattle.its_words.specs.declared.keys.key.Key.TheVariants as keys
+use Rattle.its_words.specs.declared.keys.key.Key.{Key}
+use Rattle.sim_settings.specs.declared.air_settings.AirSettings.{AirSettings}
+use Rattle.sim_settings.specs.declared.air_settings.SettingReason.{SettingReason}
+use Rattle.sim_settings.specs.declared.air_settings.SettingReason.TheVariants.{Meant, Value}
 
 -- the keys of the air
 abbrev pub air_keys : List Key

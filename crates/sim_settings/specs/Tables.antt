@@ -1,7 +1,7 @@
 -- What stands under the words of a table of TOML.
 use Rattle.std.specs.Prelude.{Option, Some, None, is_some}
 use Rattle.std.specs.Option.{option_and_then}
-use Rattle.sim_settings.specs.Fields.{FieldValues}
+use Rattle.its_words.specs.Fields.{FieldValues}
 use Rattle.toml.specs.Data.{Data, Items, no_items, Members, as_array, as_bool, as_integer}
 use Rattle.toml.specs.Data.{as_str, get_member}
 

@@ -1,12 +1,12 @@
 //! Reading an air.
 
 ghost use Rattle.std.specs.Prelude.{◌≤◌, ◌<◌, ◌^◌, IfOk, IfSome, false};
-ghost use Rattle.sim_settings.specs.Fields.{IsNumberIf, IsNumberOr, IsTruthOr};
-ghost use Rattle.sim_settings.specs.declared.keys.key.Key.TheVariants as keys;
+ghost use Rattle.its_words.specs.Fields.{IsNumberIf, IsNumberOr, IsTruthOr};
+ghost use Rattle.its_words.specs.declared.keys.key.Key.TheVariants as keys;
 ghost use Rattle.sim_settings.specs.Saying.{SaysAir};
 
 use crate::air::Air;
-use crate::keys::{Fields, Key, KeyFault, number, truth, whole, whole_or};
+use its_words::keys::{Fields, Key, KeyFault, number, truth, whole, whole_or};
 
 /// Reads an air: `range`, `delay`, `loss`, `seed`, `beacons`, `until`, checked in this order. All
 /// but `range` may be missing.

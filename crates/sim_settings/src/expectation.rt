@@ -1,10 +1,10 @@
 //! What a scenario expects of its run.
 ghost use Rattle.std.specs.Prelude.{IfOk};
-ghost use Rattle.sim_settings.specs.Fields.{IsNumberIf};
-ghost use Rattle.sim_settings.specs.declared.keys.key.Key.TheVariants as keys;
+ghost use Rattle.its_words.specs.Fields.{IsNumberIf};
+ghost use Rattle.its_words.specs.declared.keys.key.Key.TheVariants as keys;
 ghost use Rattle.sim_settings.specs.Saying.{SaysExpectation, SaysReached};
 
-use crate::keys::{Fields, Key, KeyFault, number, whole};
+use its_words::keys::{Fields, Key, KeyFault, number, whole};
 
 /// At how many stations a packet has to be delivered.
 #[derive(Clone, Copy, Debug, PartialEq, Eq)]

@@ -3,16 +3,13 @@
 //!
 //! # What is proved
 //!
-//! Settings and keys are in range by their types and clauses (`whole`, `place`, `Air`, `Traffic`,
-//! `Moves`): each field is what stands under its key, in the range of the one table of keys, or its
-//! default. A fault is that of a key without a value that it takes. `nearest` is the first word with
-//! the fewest changed letters, at most two.
+//! Settings are in range by their types and clauses (`Air`, `Traffic`, `Moves`): each field is what
+//! stands under its key, in the range of the one table of keys (`its_words`), or its default.
 //!
 //! # Only tested
 //!
-//! - `cases/scenario.md`, `cases/reading.md`, `cases/moving.md`: each refusal and its sentence;
-//!   which of several bad keys is refused first; each key at both ends of its range; both letter
-//!   cases; that the first MID is not a group's, and a port not a second one.
+//! - `cases/scenario.md`, `cases/moving.md`: each refusal and its sentence; which of several bad keys
+//!   is refused first; that the first MID is not a group's, and a port not a second one.
 //! - `cases/unknown.md`: `--set`.
 //!
 //! # By review
@@ -22,17 +19,20 @@
 
 mod air;
 mod air_keys;
+mod air_settings;
 mod expectation;
-pub mod keys;
 mod moves;
 mod moves_keys;
+mod toml_fields;
 mod traffic;
 mod traffic_keys;
 
 pub use air::Air;
 pub use air_keys::read_air;
+pub use air_settings::{AIR_KEYS, AirSettings, SetAir, SettingFault, SettingReason};
 pub use expectation::{Expectation, Reached, read_expectation};
 pub use moves::Moves;
 pub use moves_keys::read_moves;
+pub use toml_fields::{TomlFields, items_of, value_of};
 pub use traffic::Traffic;
 pub use traffic_keys::read_traffic;

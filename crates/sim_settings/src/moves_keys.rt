@@ -1,16 +1,17 @@
 //! Reading how the moves of a file are read.
 
 ghost use Rattle.std.specs.Prelude.{◌≤◌, ◌^◌, IfOk};
-ghost use Rattle.sim_settings.specs.Fields.{IsNumberOr};
-ghost use Rattle.sim_settings.specs.declared.keys.key.Key.TheVariants as keys;
+ghost use Rattle.its_words.specs.Fields.{IsNumberOr};
+ghost use Rattle.its_words.specs.declared.keys.key.Key.TheVariants as keys;
 ghost use Rattle.sim_settings.specs.Moves.{AreMidOctets, ArePorts, IsMid, IsPort, SaysMoves};
 ghost use Rattle.sim_settings.specs.Moves.{SaysPorts};
 ghost use Rattle.toml.specs.Data.{no_members};
 ghost use Rattle.toml.specs.View.{items_view, table_view, view};
 
-use crate::keys::{Fields, Key, KeyFault, Wrong, items_of, octets_into, whole_or};
 use crate::moves::Moves;
+use crate::toml_fields::{TomlFields, items_of};
 use its_gnvalue::Mac;
+use its_words::keys::{Fields, Key, KeyFault, Wrong, octets_into, whole_or};
 use std::alloc::Global;
 use toml::{Table, Value};
 
@@ -50,12 +51,13 @@ impl Moves {
 pub fn read_moves(alloc: Global, table: &Table) -> Result<Moves, KeyFault>
     ensures { IfOk result (SaysMoves (table_view table.now)) }
 {
+    let fields = TomlFields(table);
     Ok(Moves {
-        begin: read_begin(table)?,
-        gone: read_time(table)?,
-        mid: read_mid(table)?,
-        capacity: read_capacity(table)?,
-        remember: read_remember(table)?,
+        begin: read_begin(&fields)?,
+        gone: read_time(&fields)?,
+        mid: read_mid(&fields)?,
+        capacity: read_capacity(&fields)?,
+        remember: read_remember(&fields)?,
         ports: read_ports(alloc, table)?,
     })
 }

@@ -1,13 +1,13 @@
 //! Reading what the stations of a scenario send by themselves.
 
 ghost use Rattle.std.specs.Prelude.{◌≤◌, IfOk};
-ghost use Rattle.sim_settings.specs.Fields.{IsNumber};
-ghost use Rattle.sim_settings.specs.declared.keys.key.Key.TheVariants as keys;
+ghost use Rattle.its_words.specs.Fields.{IsNumber};
+ghost use Rattle.its_words.specs.declared.keys.key.Key.TheVariants as keys;
 ghost use Rattle.sim_settings.specs.Saying.{SaysTraffic};
 
-use crate::keys::{Fields, Key, KeyFault, number, octet, whole};
 use crate::traffic::Traffic;
 use its_gnvalue::TrafficClass;
+use its_words::keys::{Fields, Key, KeyFault, number, octet, whole};
 
 /// Reads a traffic: `period`, `port`, `info`, `tc`, `octets`, checked in this order.
 pub fn read_traffic<F: Fields>(fields: &F) -> Result<Traffic, KeyFault>

@@ -1,8 +1,8 @@
 //! What is told of an entry.
 
 use crate::reason::EntryReason;
-use cmd_text::answers::words::{CLOSED, MOVED, OPENED, QUIET, RESTARTED};
-use cmd_text::answers::{AnswerKeys, PrintedAnswer};
+use its_words::answers::words::{CLOSED, MOVED, OPENED, QUIET, RESTARTED};
+use its_words::answers::{AnswerKeys, PrintedAnswer};
 use its_world::{Entry, EntryCode};
 use std::fmt;
 

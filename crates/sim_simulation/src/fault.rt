@@ -1,7 +1,7 @@
 //! What ends a simulation before its last event.
 
-use cmd_text::json_lines::JsonFault;
 use its_gnvalue::NoMemory;
+use its_words::json_lines::JsonFault;
 use std::alloc::AllocError;
 use std::io;
 use thiserror::Error;

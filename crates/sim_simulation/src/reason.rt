@@ -1,6 +1,6 @@
 //! Why an event is refused, as a sentence for a person.
 
-use cmd_text::answers::RefusedReason;
+use its_words::answers::RefusedReason;
 use its_world::EntryFault;
 use std::fmt;
 

@@ -5,8 +5,8 @@ ghost use Rattle.its_world.specs.Events.{event_of};
 ghost use Rattle.sim_simulation.specs.Records.{happening_in, IsRecordOf};
 
 use crate::entry::{EntryKeys, entry_keys};
-use cmd_text::json_lines::Octets;
 use its_station::OwnCall;
+use its_words::json_lines::Octets;
 use its_world::{Entry, Event, What, World, frame_of};
 use serde::Serialize;
 use sim_scenario::events::verb_of;

@@ -1,6 +1,8 @@
 //! Tests of a station behind a governor, through its public calls.
 
 #[cfg(test)]
+mod flood;
+#[cfg(test)]
 mod storm;
 #[cfg(test)]
 mod unit;

@@ -3,6 +3,8 @@
 #![tactic(auto)]
 
 #[cfg(test)]
+mod contention;
+#[cfg(test)]
 mod embedding;
 #[cfg(test)]
 mod endurance;

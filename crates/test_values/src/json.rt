@@ -1,7 +1,7 @@
 //! The line of a value: its keys in order, its octets, and the kinds that no line has.
 
 use crate::equality::same;
-use cmd_text::json_lines::{JsonFault, JsonLine, Octets, Printed};
+use its_words::json_lines::{JsonFault, JsonLine, Octets, Printed};
 use serde::Serialize;
 use std::process::Abort;
 use std::test::Fail;

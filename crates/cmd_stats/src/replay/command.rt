@@ -8,7 +8,7 @@ ghost use Rattle.cmd_stats.specs.Units.{IsUnit};
 use crate::replay::printing::Printer;
 use crate::replay::replaying::replay_records;
 use crate::replay::unit::Unit;
-use cap_records::{FileFault, Records, Selection, open_records};
+use cap_records::{CaptureFile, FileFault, Selection, open_records};
 use cmd_reporting::{
     Fault, FrameFile, FrameTarget, Io, Status, Target, WriterFault, create_frames, end_frames,
     frame_target, is_standard, keep_apart, open,
@@ -107,7 +107,8 @@ fn replay_lines<'a, R: Read + Drop, F: Write + Drop, W: Write, E: Write>(
     ensures { IfOk result IsCommandStatus }
 {
     let (file, selection) = (replay.file, &replay.selection);
-    let Records::Source(mut source) = open_records(alloc, file, selection.format, reader)? else {
+    let CaptureFile::Source(mut source) = open_records(alloc, file, selection.format, reader)?
+    else {
         return printer.refuse(FileFault::gzip(), 0);
     };
     let mut station = replay.unit.begin(alloc)?;

@@ -2,8 +2,8 @@
 
 use crate::replay::heard::Heard;
 use cap_records::{RecordCode, RecordFault};
-use cmd_text::answers::{AnswerKeys, PrintedAnswer, RefusedReason};
 use its_station::{Answer, Refused, RefusedCode, StationAnswer};
+use its_words::answers::{AnswerKeys, PrintedAnswer, RefusedReason};
 use serde::Serialize;
 use std::fmt;
 

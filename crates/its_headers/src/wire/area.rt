@@ -10,7 +10,7 @@ use crate::wire::fields::{
     ANGLE, AREA_LATITUDE, AREA_LONGITUDE, DISTANCE_A, DISTANCE_B, fault, u16_at, u16_in, u32_at,
     u32_in, write_u16, write_u32,
 };
-use crate::wire::octets::Octets;
+use crate::wire::octets::{Head, Octets};
 use crate::wire::position::{is_latitude, is_longitude};
 use its_faults::{Fault, FaultKind};
 use its_geometry::{Area, Shape};
@@ -19,10 +19,9 @@ use its_gnvalue::Place;
 /// Checks the area, of a shape that the sub-type names.
 #[tactic(auto, unfolding(crate::specs::Layout::area_format))]
 #[inline(always)]
-pub(crate) fn check_area<O: Octets>(octets: &O, shape: Shape) -> Result<(), Fault>
-    requires { O.start octets.now ≤ 40 }
-    ensures { Gives (λ _. (area_at shape (O.octets octets.now), 54)) result
-        (walk (area_format shape) 40 (O.octets octets.now)) }
+pub(crate) fn check_area<H: Head>(octets: &Octets<'_, H>, shape: Shape) -> Result<(), Fault>
+    ensures { Gives (λ _. (area_at shape octets.now, 54)) result
+        (walk (area_format shape) 40 octets.now) }
 {
     if !is_latitude(u32_at(octets, AREA_LATITUDE)?.cast_signed()) {
         return Err(fault(AREA_LATITUDE, FaultKind::Area));
@@ -63,11 +62,10 @@ fn is_angle(shape: Shape, angle: u16) -> bool
 }
 
 /// The area, of this shape, which was checked.
-pub(crate) fn area_in<O: Octets>(octets: &O, shape: Shape) -> Area
-    requires start { O.start octets.now ≤ 40 }
-    requires here { 54 ≤ length (O.octets octets.now) }
-    requires fits { IsArea (area_at shape (O.octets octets.now)) }
-    ensures { result ≡ area_at shape (O.octets octets.now) }
+pub(crate) fn area_in<H: Head>(octets: &Octets<'_, H>, shape: Shape) -> Area
+    requires here { 54 ≤ length octets.now }
+    requires fits { IsArea (area_at shape octets.now) }
+    ensures { result ≡ area_at shape octets.now }
 {
     let lat = u32_in(octets, AREA_LATITUDE).cast_signed();
     let lon = u32_in(octets, AREA_LONGITUDE).cast_signed();

@@ -3,7 +3,7 @@
 ghost use Rattle.std.specs.Prelude.{◌≡◌, ◌≤◌, ◌<◌, ◌∷◌, ◌++◌, [], ℕ, List, length, drop, Err};
 ghost use Rattle.std.specs.Prelude.{IfOk, IfErr, IsOkAnd};
 ghost use Rattle.its_headers.specs.Format.{Gives, walk};
-ghost use Rattle.its_headers.specs.Inner.{Basic, IsBasic, secured_header};
+ghost use Rattle.its_headers.specs.Inner.{Basic, IsBasic, basic_in, secured_header};
 ghost use Rattle.its_headers.specs.Layout.{basic_format_of, secured_format};
 ghost use Rattle.its_headers.specs.Puts.{Puts};
 
@@ -12,7 +12,7 @@ use crate::wire::fields::{
     BASIC_END, BASIC_RESERVED, HOPS_LEFT, LIFETIME, VERSION, fault, octet_at, pass_number,
     write_octets,
 };
-use crate::wire::octets::Octets;
+use crate::wire::octets::{InOnePiece, Octets};
 use its_faults::{Fault, FaultKind};
 use its_gnvalue::Lifetime;
 use std::marker::Model;
@@ -100,10 +100,9 @@ impl BasicHeader {
 /// Checks the Basic Header, which has to name this next header.
 #[tactic(auto, unfolding(crate::specs::Layout::basic_format_of))]
 #[inline(always)]
-pub(crate) fn check_basic<O: Octets>(octets: &O, next: u8) -> Result<BasicHeader, Fault>
-    requires { O.start octets.now ≤ 0 }
+pub(crate) fn check_basic(octets: &Octets<'_, InOnePiece>, next: u8) -> Result<BasicHeader, Fault>
     ensures { Gives (λ b. ((b.lifetime, b.left), 4)) result
-        (walk (basic_format_of next) 0 (O.octets octets.now)) }
+        (walk (basic_format_of next) 0 octets.now) }
 {
     let first = octet_at(octets, VERSION)?;
     if first / 16 != VERSION_1 {
@@ -123,11 +122,25 @@ pub(crate) fn check_basic<O: Octets>(octets: &O, next: u8) -> Result<BasicHeader
     Ok(BasicHeader { lifetime, left })
 }
 
+/// What the Basic Header of these octets says, which was checked.
+#[inline(always)]
+pub(crate) fn basic_in(octets: &[u8]) -> BasicHeader
+    requires here { 4 ≤ length octets.now }
+    requires range { IsBasic (basic_in octets.now) }
+    ensures { result ≡ basic_in octets.now }
+{
+    BasicHeader::within(Lifetime::from_octet(octets[LIFETIME]), octets[HOPS_LEFT])
+}
+
 /// Checks the Basic Header of a secured packet, and that a message follows.
 #[tactic(auto, using(crate::proofs::Walks::walk_after))]
 fn check_secured(octets: &[u8]) -> Result<BasicHeader, Fault>
     ensures { Gives (λ b. ((b.lifetime, b.left), 5)) result (walk secured_format 0 octets.now) }
 {
+    let octets = Octets {
+        head: InOnePiece,
+        rest: octets,
+    };
     let basic = check_basic(&octets, NEXT_SECURED)?;
     pass_number(&octets, BASIC_END, 1)?;
     Ok(basic)

@@ -19,7 +19,7 @@ use crate::wire::fields::{
     CLASS, COMMON_RESERVED, FLAGS, LENGTH, MAX_HOPS, NEXT, TYPE, fault, octet_at, pass_number,
     u16_at, write_octets,
 };
-use crate::wire::octets::Octets;
+use crate::wire::octets::{Head, Octets};
 use its_faults::{Fault, FaultKind};
 use its_geometry::Shape;
 
@@ -56,22 +56,21 @@ pub(crate) struct CommonHeader {
 /// Checks the Common Header of a packet that has so many hops left.
 #[tactic(auto, using(crate::proofs::Walks::walk_after), unfolding(crate::specs::Layout::common_format))]
 #[inline(always)]
-pub(crate) fn check_common<O: Octets>(octets: &O, left: u8) -> Result<CommonHeader, Fault>
-    requires { O.start octets.now ≤ 4 }
+pub(crate) fn check_common<H: Head>(octets: &Octets<'_, H>, left: u8) -> Result<CommonHeader, Fault>
     ensures size { IfOk result (λ c. IsLength c.kind c.length) }
     ensures reading { Gives
         (λ x. (
           record {
             kind = x.kind;
             shape = x.shape;
-            class = big_number 1 (drop 6 (O.octets octets.now));
-            mobile = nat_le 128 (big_number 1 (drop 7 (O.octets octets.now)));
+            class = big_number 1 (drop 6 octets.now);
+            mobile = nat_le 128 (big_number 1 (drop 7 octets.now));
             length = x.length;
-            max_hops = big_number 1 (drop 10 (O.octets octets.now));
+            max_hops = big_number 1 (drop 10 octets.now);
           },
           12,
         ))
-        result (walk (common_format left) 4 (O.octets octets.now)) }
+        result (walk (common_format left) 4 octets.now) }
 {
     let (header_type, sub_type) = type_and_sub_type(octets)?;
     pass_number(octets, CLASS, 1)?;
@@ -98,9 +97,8 @@ pub(crate) fn check_common<O: Octets>(octets: &O, left: u8) -> Result<CommonHead
 /// Header type and sub-type, which the next header in front of them allows.
 #[tactic(auto, unfolding(crate::specs::Layout::type_format))]
 #[inline(always)]
-fn type_and_sub_type<O: Octets>(octets: &O) -> Result<(u8, u8), Fault>
-    requires { O.start octets.now ≤ 4 }
-    ensures { Gives (λ x. ((x.0, x.1), 6)) result (walk type_format 4 (O.octets octets.now)) }
+fn type_and_sub_type<H: Head>(octets: &Octets<'_, H>) -> Result<(u8, u8), Fault>
+    ensures { Gives (λ x. ((x.0, x.1), 6)) result (walk type_format 4 octets.now) }
 {
     let first = octet_at(octets, NEXT)?;
     let next = first / 16;

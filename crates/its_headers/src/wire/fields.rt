@@ -1,13 +1,13 @@
 //! The table of a packet's fields, from octet 0 to the last (EN 302 636-4-1 clause 9), and reading
 //! and writing one. Numbers of several octets go highest octet first.
 
-ghost use Rattle.std.specs.Prelude.{◌≡◌, ◌≤◌, ◌<◌, ◌+◌, ◌^◌, length, take, drop, IfOk};
+ghost use Rattle.std.specs.Prelude.{◌≡◌, ◌≤◌, ◌<◌, ◌+◌, ◌^◌, length, take, drop, get_or, IfOk};
 ghost use Rattle.byteorder.specs.Endian.{big_bytes, big_number};
 ghost use Rattle.its_headers.specs.Encoding.{IsBytes};
 ghost use Rattle.its_headers.specs.Format.{Gives, number_at, octets_at};
 ghost use Rattle.its_headers.specs.Puts.{Puts};
 
-use crate::wire::octets::Octets;
+use crate::wire::octets::{Head, Octets};
 use byteorder::{BigEndian, ByteOrder};
 use its_faults::{Fault, FaultKind};
 
@@ -127,49 +127,59 @@ pub(crate) fn fault(at: usize, kind: FaultKind) -> Fault
 }
 
 /// G1: the octets end before or in a field.
-fn truncated<O: Octets>(octets: &O) -> Fault
-    ensures { result ≡ record { at = length (O.octets octets.now); kind = FaultKind.Truncated } }
+fn truncated<H: Head>(octets: &Octets<'_, H>) -> Fault
+    ensures { result ≡ record { at = length octets.now; kind = FaultKind.Truncated } }
 {
     fault(octets.count(), FaultKind::Truncated)
 }
 
+/// The octet at a place, which is there.
+#[inline(always)]
+pub(crate) fn octet_in<H: Head>(octets: &Octets<'_, H>, at: usize) -> u8
+    requires start { H.SIZE ≤ at }
+    requires here { at < length octets.now }
+    ensures { result ≡ get_or octets.now at 0 }
+{
+    octets.behind(at)[0]
+}
+
 /// The number of two octets at a place, which is there.
 #[inline(always)]
-pub(crate) fn u16_in<O: Octets>(octets: &O, at: usize) -> u16
-    requires start { O.start octets.now ≤ at }
-    requires here { at + 2 ≤ length (O.octets octets.now) }
-    ensures { result ≡ big_number 2 (drop at (O.octets octets.now)) }
+pub(crate) fn u16_in<H: Head>(octets: &Octets<'_, H>, at: usize) -> u16
+    requires start { H.SIZE ≤ at }
+    requires here { at + 2 ≤ length octets.now }
+    ensures { result ≡ big_number 2 (drop at octets.now) }
 {
     BigEndian::read_u16(octets.behind(at))
 }
 
 /// The number of four octets at a place, which is there.
 #[inline(always)]
-pub(crate) fn u32_in<O: Octets>(octets: &O, at: usize) -> u32
-    requires start { O.start octets.now ≤ at }
-    requires here { at + 4 ≤ length (O.octets octets.now) }
-    ensures { result ≡ big_number 4 (drop at (O.octets octets.now)) }
+pub(crate) fn u32_in<H: Head>(octets: &Octets<'_, H>, at: usize) -> u32
+    requires start { H.SIZE ≤ at }
+    requires here { at + 4 ≤ length octets.now }
+    ensures { result ≡ big_number 4 (drop at octets.now) }
 {
     BigEndian::read_u32(octets.behind(at))
 }
 
 /// The number of eight octets at a place, which is there.
 #[inline(always)]
-pub(crate) fn u64_in<O: Octets>(octets: &O, at: usize) -> u64
-    requires start { O.start octets.now ≤ at }
-    requires here { at + 8 ≤ length (O.octets octets.now) }
-    ensures { result ≡ big_number 8 (drop at (O.octets octets.now)) }
+pub(crate) fn u64_in<H: Head>(octets: &Octets<'_, H>, at: usize) -> u64
+    requires start { H.SIZE ≤ at }
+    requires here { at + 8 ≤ length octets.now }
+    ensures { result ≡ big_number 8 (drop at octets.now) }
 {
     BigEndian::read_u64(octets.behind(at))
 }
 
 /// The octet at a place, or G1.
 #[tactic(auto, unfolding(crate::specs::Format::number_at))]
-pub(crate) fn octet_at<O: Octets>(octets: &O, at: usize) -> Result<u8, Fault>
+pub(crate) fn octet_at<H: Head>(octets: &Octets<'_, H>, at: usize) -> Result<u8, Fault>
     requires small { at < 2 ^ 32 }
-    requires start { O.start octets.now ≤ at }
-    ensures reading { Gives (λ x. x) result (number_at 1 at (O.octets octets.now)) }
-    ensures value { IfOk result (λ x. x ≡ big_number 1 (drop at (O.octets octets.now))) }
+    requires start { H.SIZE ≤ at }
+    ensures reading { Gives (λ x. x) result (number_at 1 at octets.now) }
+    ensures value { IfOk result (λ x. x ≡ big_number 1 (drop at octets.now)) }
 {
     if octets.count() < at + 1 {
         return Err(truncated(octets));
@@ -179,11 +189,11 @@ pub(crate) fn octet_at<O: Octets>(octets: &O, at: usize) -> Result<u8, Fault>
 
 /// The number of two octets at a place, or G1.
 #[tactic(auto, unfolding(crate::specs::Format::number_at))]
-pub(crate) fn u16_at<O: Octets>(octets: &O, at: usize) -> Result<u16, Fault>
+pub(crate) fn u16_at<H: Head>(octets: &Octets<'_, H>, at: usize) -> Result<u16, Fault>
     requires small { at < 2 ^ 32 }
-    requires start { O.start octets.now ≤ at }
-    ensures reading { Gives (λ x. x) result (number_at 2 at (O.octets octets.now)) }
-    ensures value { IfOk result (λ x. x ≡ big_number 2 (drop at (O.octets octets.now))) }
+    requires start { H.SIZE ≤ at }
+    ensures reading { Gives (λ x. x) result (number_at 2 at octets.now) }
+    ensures value { IfOk result (λ x. x ≡ big_number 2 (drop at octets.now)) }
 {
     if octets.count() < at + 2 {
         return Err(truncated(octets));
@@ -193,11 +203,11 @@ pub(crate) fn u16_at<O: Octets>(octets: &O, at: usize) -> Result<u16, Fault>
 
 /// The number of four octets at a place, or G1.
 #[tactic(auto, unfolding(crate::specs::Format::number_at))]
-pub(crate) fn u32_at<O: Octets>(octets: &O, at: usize) -> Result<u32, Fault>
+pub(crate) fn u32_at<H: Head>(octets: &Octets<'_, H>, at: usize) -> Result<u32, Fault>
     requires small { at < 2 ^ 32 }
-    requires start { O.start octets.now ≤ at }
-    ensures reading { Gives (λ x. x) result (number_at 4 at (O.octets octets.now)) }
-    ensures value { IfOk result (λ x. x ≡ big_number 4 (drop at (O.octets octets.now))) }
+    requires start { H.SIZE ≤ at }
+    ensures reading { Gives (λ x. x) result (number_at 4 at octets.now) }
+    ensures value { IfOk result (λ x. x ≡ big_number 4 (drop at octets.now)) }
 {
     if octets.count() < at + 4 {
         return Err(truncated(octets));
@@ -207,11 +217,11 @@ pub(crate) fn u32_at<O: Octets>(octets: &O, at: usize) -> Result<u32, Fault>
 
 /// The number of eight octets at a place, or G1.
 #[tactic(auto, unfolding(crate::specs::Format::number_at))]
-pub(crate) fn u64_at<O: Octets>(octets: &O, at: usize) -> Result<u64, Fault>
+pub(crate) fn u64_at<H: Head>(octets: &Octets<'_, H>, at: usize) -> Result<u64, Fault>
     requires small { at < 2 ^ 32 }
-    requires start { O.start octets.now ≤ at }
-    ensures reading { Gives (λ x. x) result (number_at 8 at (O.octets octets.now)) }
-    ensures value { IfOk result (λ x. x ≡ big_number 8 (drop at (O.octets octets.now))) }
+    requires start { H.SIZE ≤ at }
+    ensures reading { Gives (λ x. x) result (number_at 8 at octets.now) }
+    ensures value { IfOk result (λ x. x ≡ big_number 8 (drop at octets.now)) }
 {
     if octets.count() < at + 8 {
         return Err(truncated(octets));
@@ -221,10 +231,14 @@ pub(crate) fn u64_at<O: Octets>(octets: &O, at: usize) -> Result<u64, Fault>
 
 /// Passes over a number of so many octets, each of whose values is right, or answers G1.
 #[tactic(auto, unfolding(crate::specs::Format::number_at))]
-pub(crate) fn pass_number<O: Octets>(octets: &O, at: usize, count: usize) -> Result<(), Fault>
+pub(crate) fn pass_number<H: Head>(
+    octets: &Octets<'_, H>,
+    at: usize,
+    count: usize,
+) -> Result<(), Fault>
     requires { at + count < 2 ^ 32 }
-    ensures { Gives (λ _. big_number count (drop at (O.octets octets.now))) result
-        (number_at count at (O.octets octets.now)) }
+    ensures { Gives (λ _. big_number count (drop at octets.now)) result
+        (number_at count at octets.now) }
 {
     if octets.count() < at + count {
         return Err(truncated(octets));
@@ -234,10 +248,14 @@ pub(crate) fn pass_number<O: Octets>(octets: &O, at: usize, count: usize) -> Res
 
 /// Passes over so many octets, or answers G1.
 #[tactic(auto, unfolding(crate::specs::Format::octets_at))]
-pub(crate) fn check_octets<O: Octets>(octets: &O, at: usize, count: usize) -> Result<(), Fault>
+pub(crate) fn check_octets<H: Head>(
+    octets: &Octets<'_, H>,
+    at: usize,
+    count: usize,
+) -> Result<(), Fault>
     requires { at + count < 2 ^ 32 }
-    ensures { Gives (λ _. take count (drop at (O.octets octets.now))) result
-        (octets_at count at (O.octets octets.now)) }
+    ensures { Gives (λ _. take count (drop at octets.now)) result
+        (octets_at count at octets.now) }
 {
     if octets.count() < at + count {
         return Err(truncated(octets));

@@ -5,18 +5,16 @@ ghost use Rattle.its_headers.specs.Encoding.{IsMedia};
 ghost use Rattle.its_headers.specs.Puts.{Puts};
 
 use crate::wire::fields::{MEDIA, write_octets};
+use crate::wire::octets::{Head, Octets};
 
 /// The media-dependent data, which was checked to be there.
-pub(crate) fn media_in(octets: &[u8]) -> [u8; 4]
+pub(crate) fn media_in<H: Head>(octets: &Octets<'_, H>) -> [u8; 4]
     requires { 40 ≤ length octets.now }
     ensures { result ≡ take 4 (drop 36 octets.now) }
 {
-    [
-        octets[MEDIA],
-        octets[MEDIA + 1],
-        octets[MEDIA + 2],
-        octets[MEDIA + 3],
-    ]
+    let mut media = [0; 4];
+    media.copy_from_slice(&octets.behind(MEDIA)[..4]);
+    media
 }
 
 /// Writes the media-dependent data, four octets.

@@ -8,14 +8,18 @@ ghost use Rattle.its_headers.specs.Puts.{Puts};
 
 use crate::payload::Payload;
 use crate::wire::fields::{check_octets, write_octets};
-use crate::wire::octets::Octets;
+use crate::wire::octets::{Head, Octets};
 use its_faults::Fault;
 
 /// Checks that a payload of this length is there.
-pub(crate) fn check_payload<O: Octets>(octets: &O, at: usize, size: u16) -> Result<(), Fault>
+pub(crate) fn check_payload<H: Head>(
+    octets: &Octets<'_, H>,
+    at: usize,
+    size: u16,
+) -> Result<(), Fault>
     requires { at ≤ 56 }
-    ensures { Gives (λ _. take size (drop at (O.octets octets.now))) result
-        (octets_at size at (O.octets octets.now)) }
+    ensures { Gives (λ _. take size (drop at octets.now)) result
+        (octets_at size at octets.now) }
 {
     check_octets(octets, at, size as usize)
 }

@@ -13,7 +13,7 @@ use crate::wire::fields::{
     ADDRESS, HEADING, LATITUDE, LONGITUDE, MOTION, TIMESTAMP, fault, pass_number, u16_in, u32_at,
     u32_in, u64_at, u64_in, write_u16, write_u32, write_u64,
 };
-use crate::wire::octets::Octets;
+use crate::wire::octets::{Head, Octets};
 use its_faults::{Fault, FaultKind};
 use its_gnvalue::{GnAddress, LongPv, Place};
 
@@ -23,11 +23,11 @@ const ACCURATE: u16 = 0x8000;
 /// Checks the vector that begins at this octet.
 #[tactic(auto, unfolding(crate::specs::Layout::vector_format))]
 #[inline(always)]
-pub(crate) fn check_vector<O: Octets>(octets: &O, at: usize) -> Result<(), Fault>
+pub(crate) fn check_vector<H: Head>(octets: &Octets<'_, H>, at: usize) -> Result<(), Fault>
     requires small { at ≤ 16 }
-    requires start { O.start octets.now ≤ at }
-    ensures { Gives (λ _. (vector_at at (O.octets octets.now), at + 24)) result
-        (walk vector_format at (O.octets octets.now)) }
+    requires start { H.SIZE ≤ at }
+    ensures { Gives (λ _. (vector_at at octets.now, at + 24)) result
+        (walk vector_format at octets.now) }
 {
     if !is_individual(u64_at(octets, at + ADDRESS)?) {
         return Err(fault(at + ADDRESS, FaultKind::Position));
@@ -67,12 +67,12 @@ pub(crate) fn is_longitude(z: i32) -> bool
 
 /// The vector that begins at this octet, which was checked.
 #[inline(always)]
-pub(crate) fn vector_in<O: Octets>(octets: &O, at: usize) -> LongPv
+pub(crate) fn vector_in<H: Head>(octets: &Octets<'_, H>, at: usize) -> LongPv
     requires small { at ≤ 16 }
-    requires start { O.start octets.now ≤ at }
-    requires here { at + 24 ≤ length (O.octets octets.now) }
-    requires fits { IsVector (vector_at at (O.octets octets.now)) }
-    ensures { result ≡ vector_at at (O.octets octets.now) }
+    requires start { H.SIZE ≤ at }
+    requires here { at + 24 ≤ length octets.now }
+    requires fits { IsVector (vector_at at octets.now) }
+    ensures { result ≡ vector_at at octets.now }
 {
     let address = GnAddress::within(u64_in(octets, at + ADDRESS));
     let tst = u32_in(octets, at + TIMESTAMP);

@@ -7,7 +7,8 @@ ghost use Rattle.its_station.specs.Runs.{own_of};
 ghost use Rattle.its_world.specs.Events.{what_of};
 ghost use Rattle.sim_scenario.specs.Actions.{IsDoneAt, request_at, what_at};
 ghost use Rattle.sim_scenario.specs.Events.{FitsAction, FitsWhat, frame_at, frame_in, frame_of};
-ghost use Rattle.sim_scenario.specs.Events.{own_speed, speed_in};
+ghost use Rattle.its_words.specs.Calls.{own_speed};
+ghost use Rattle.sim_scenario.specs.Events.{speed_in};
 ghost use Rattle.sim_scenario.specs.Verbs.{action_verb};
 
 use crate::events::around::AroundRequest;
@@ -16,8 +17,8 @@ use crate::events::verb::verb_of;
 use its_geometry::Area;
 use its_gnvalue::Place;
 use its_station::{OwnCall, OwnedGbcRequest, OwnedShbRequest};
+use its_words::keys::Verb;
 use its_world::{Event, What};
-use sim_settings::keys::Verb;
 use std::alloc::{AllocError, Global};
 
 /// What an event of a scenario with a radio model does.

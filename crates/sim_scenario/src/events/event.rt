@@ -1,28 +1,28 @@
 //! The events and leaves of a scenario, line by line.
 
 ghost use Rattle.std.specs.Prelude.{◌≡◌, ◌<◌, ◌^◌, IfOk, IfSome, MatchOption, string_bytes};
-ghost use Rattle.sim_settings.specs.Fields.{IsMissing, IsNumber, IsText};
-ghost use Rattle.sim_settings.specs.Verbs.{verb_word};
-ghost use Rattle.sim_settings.specs.declared.keys.key.Key.TheVariants as keys;
+ghost use Rattle.its_words.specs.Fields.{IsMissing, IsNumber, IsText};
+ghost use Rattle.its_words.specs.Verbs.{verb_word};
+ghost use Rattle.its_words.specs.declared.keys.key.Key.TheVariants as keys;
 ghost use Rattle.its_gnvalue.specs.Values.{IsSpeed};
-ghost use Rattle.sim_moves.specs.Rows.{IsId};
+ghost use Rattle.its_words.specs.Ids.{IsId};
 ghost use Rattle.sim_scenario.specs.Actions.{IsDoneAt};
 ghost use Rattle.sim_scenario.specs.Airs.{moment_of};
 ghost use Rattle.sim_scenario.specs.Events.{FitsAction, FitsAddressed, FitsEvent, HasId};
 ghost use Rattle.sim_scenario.specs.Events.{FitsStationEvent, FitsWhat, frame_at, frame_in};
 ghost use Rattle.sim_scenario.specs.Events.{number_of, speed_in, station_in};
-ghost use Rattle.sim_scenario.specs.Reading.{SaysWhat};
+ghost use Rattle.its_words.specs.Reading.{SaysWhat};
 ghost use Rattle.sim_scenario.specs.Saying.{SaysAction, SaysAddressed, SaysAddressee, SaysEvent};
 ghost use Rattle.sim_scenario.specs.Saying.{SaysStationEvent};
 ghost use Rattle.its_world.specs.Events.{what_of};
 
 use crate::events::action::Action;
-use crate::events::geocast::{lacks_centre, read_around};
+use crate::events::around_keys::{lacks_centre, read_around};
 use crate::events::what::read_what;
 use its_gnvalue::Place;
+use its_words::ids::is_id;
+use its_words::keys::{Fields, Key, KeyFault, Verb, Verbs, Wrong, number, text, whole};
 use its_world::{Event, What};
-use sim_moves::is_id;
-use sim_settings::keys::{Fields, Key, KeyFault, Verb, Verbs, Wrong, number, text, whole};
 use std::alloc::{AllocError, Global};
 
 /// What waits in an air: a line of the scenario's file of events.

@@ -1,14 +1,14 @@
 //! The stations of a scenario.
 
 ghost use Rattle.std.specs.Prelude.{◌≡◌, IfOk, length};
-ghost use Rattle.sim_settings.specs.Fields.{AreOctets};
-ghost use Rattle.sim_settings.specs.declared.keys.key.Key.TheVariants as keys;
+ghost use Rattle.its_words.specs.Fields.{AreOctets};
+ghost use Rattle.its_words.specs.declared.keys.key.Key.TheVariants as keys;
 ghost use Rattle.sim_scenario.specs.Saying.{IsAddress, SaysPresent, SaysStation};
 ghost use Rattle.its_world.specs.Events.{IsConfig};
 
 use its_gnvalue::GnAddress;
+use its_words::keys::{Fields, Key, KeyFault, Wrong, octets_into, place, truth, whole_or};
 use its_world::Config;
-use sim_settings::keys::{Fields, Key, KeyFault, Wrong, octets_into, place, truth, whole_or};
 
 /// The capacity where none is given.
 const USUAL_ENTRIES: i64 = 64;

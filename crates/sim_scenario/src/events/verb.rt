@@ -1,13 +1,12 @@
-//! The word of an event and of a call.
+//! The word of what happens at a station.
 
 ghost use Rattle.std.specs.Prelude.{◌≡◌};
-ghost use Rattle.its_station.specs.Runs.{own_of};
+ghost use Rattle.its_words.specs.Verbs.{verb_of};
 ghost use Rattle.its_world.specs.Events.{what_of};
-ghost use Rattle.sim_scenario.specs.Verbs.{own_verb, verb_of};
 
-use its_station::OwnCall;
+use its_words::calls::own_verb;
+use its_words::keys::Verb;
 use its_world::What;
-use sim_settings::keys::Verb;
 
 /// What a station does where this happens in a world.
 pub fn verb_of(what: &What) -> Verb
@@ -16,21 +15,5 @@ pub fn verb_of(what: &What) -> Verb
     match what {
         What::Call(call) => own_verb(call),
         What::Deliver(_) => Verb::Deliver,
-    }
-}
-
-/// What a station does by this call of its applications.
-pub fn own_verb(call: &OwnCall) -> Verb
-    ensures { result ≡ own_verb (own_of call.now) }
-{
-    match call {
-        OwnCall::MoveTo { .. } => Verb::Move,
-        OwnCall::Open(_) => Verb::Open,
-        OwnCall::Close(_) => Verb::Close,
-        OwnCall::Tick(_) => Verb::Tick,
-        OwnCall::SendShb(_) => Verb::Shb,
-        OwnCall::SendGeobroadcast(_) => Verb::Gbc,
-        OwnCall::SendGeoanycast(_) => Verb::Gac,
-        OwnCall::Restart(_) => Verb::Restart,
     }
 }

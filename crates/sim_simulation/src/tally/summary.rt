@@ -3,8 +3,8 @@
 ghost use Rattle.std.specs.Prelude.{◌≡◌};
 ghost use Rattle.sim_simulation.specs.Packets.{with_one_frame, delivered_to};
 
-use cmd_text::json_lines::Printed;
 use its_headers::Kind;
+use its_words::json_lines::Printed;
 use serde::Serialize;
 use std::fmt;
 

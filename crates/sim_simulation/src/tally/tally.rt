@@ -17,10 +17,10 @@ ghost use Rattle.sim_simulation.specs.Totals.{with_accepted, packets_sent, is_ar
 use crate::tally::presence::Presence;
 use crate::tally::summary::{SendSummary, Totals};
 use crate::{EventRecord, EventSink, Note, SimulationFault};
-use cmd_text::json_lines::Printed;
 use its_gnvalue::NoMemory;
 use its_headers::Kind;
 use its_station::{OwnCall, OwnedGbcRequest, Why};
+use its_words::json_lines::Printed;
 use its_world::{Entry, What, World};
 use std::alloc::Global;
 use std::collections::{HashSet, VecDeque};

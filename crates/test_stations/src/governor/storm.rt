@@ -143,8 +143,9 @@ fn a_storm_is_bounded_by_the_bucket(rt: HostRuntime) -> Result<(), Fail> {
 fn a_storm_ends_with_the_limits_of_a_channel(rt: HostRuntime) -> Result<(), Fail> {
     let storm = watch(rt.alloc(), &Limits::CHANNEL, 10, 10_000)?;
     assert!(rt; storm.ended);
-    // The burst of the source passes at each of two stations.
-    assert!(rt; storm.forwarded >= 40);
+    // A fifth of the common burst passes at each of two stations. From then on the source has its
+    // share, which is less than its burst.
+    assert!(rt; storm.forwarded >= 20);
     assert!(rt; storm.forwarded <= 300);
     assert_eq!(rt; storm.delivered, 256);
     Ok(())

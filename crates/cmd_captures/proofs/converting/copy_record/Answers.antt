@@ -1,7 +1,7 @@
 use Rattle.std.proofs.Common.{◌≡◌, true, false, None, List, [], ℕ, refl, rules, subst, take}
 use Rattle.cap_linklayers.specs.declared.link.TheConstants.{LONGEST_RECORD}
 use Rattle.cap_pcap.specs.Words.{word_of}
-use Rattle.cap_records.specs.Walks.{Chooses}
+use Rattle.cap_records.specs.Selections.{Chooses}
 use Rattle.cmd_captures.proofs.Copies.{left_out}
 use Rattle.cmd_captures.specs.Conversions.{kept}
 use Rattle.cmd_captures.proofs.converting.copy_record.Goals as goal

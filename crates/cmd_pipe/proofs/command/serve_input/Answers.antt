@@ -9,7 +9,7 @@ use Rattle.its_station.specs.State.{StationState}
 use Rattle.its_world.specs.declared.config.Config.{Config}
 use Rattle.cmd_pipe.specs.Serving.{IsServed, ServesInput, beginning}
 use Rattle.cmd_pipe.specs.declared.ended.Ended.{Ended}
-use Rattle.cmd_pipe.specs.declared.response.Response.{Response}
+use Rattle.its_lines.specs.declared.response.Response.{Response}
 use Rattle.cmd_pipe.proofs.command.serve_input.Goals as goal
 
 behind_nothing : (octets : Option (List ℕ)) → prepend_known [] octets ≡ octets

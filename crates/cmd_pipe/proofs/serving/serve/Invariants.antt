@@ -1,6 +1,6 @@
 use Rattle.std.proofs.Common.{◌≡◌, []}
-use Rattle.cmd_pipe.specs.Knowing.{Counted}
-use Rattle.cmd_pipe.specs.Serving.{RepresentsCounted}
+use Rattle.its_lines.specs.Knowing.{Counted}
+use Rattle.its_lines.specs.Serving.{RepresentsCounted}
 use Rattle.cmd_pipe.proofs.Served.{Serving}
 use Rattle.cmd_pipe.proofs.serving.serve.Given as goal
 

@@ -1,8 +1,8 @@
 use Rattle.std.proofs.Common.{rules, refl, sym, ◌∙◌, Option, Some}
-use Rattle.cmd_pipe.specs.Knowing.{Counted}
-use Rattle.cmd_pipe.specs.Lines.{whole_line}
-use Rattle.cmd_pipe.specs.Serving.{TellsLine, told_in}
-use Rattle.cmd_pipe.specs.declared.response.Response.{Response}
+use Rattle.its_lines.specs.Knowing.{Counted}
+use Rattle.its_lines.specs.Lines.{whole_line}
+use Rattle.its_lines.specs.Serving.{TellsLine, told_in}
+use Rattle.its_lines.specs.declared.response.Response.{Response}
 use Rattle.its_c.proofs.Opens.{held_unit, stays_asked}
 use Rattle.its_c.proofs.serving.geostation_handle_json.Goals as goal
 

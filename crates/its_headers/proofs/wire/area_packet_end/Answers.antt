@@ -13,7 +13,7 @@ end_at r = end_of r
 pub returns-then-branch-ne0-2-clause-gbc : goal.returns-then-branch-ne0-2-clause-gbc
 returns-then-branch-ne0-2-clause-gbc g c =
     sym (ap end_at
-    (area_packet_then geobroadcast c.args.shape c.args.size (g.O.Octets.octets c.args.octets.now)
+    (area_packet_then geobroadcast c.args.shape c.args.size c.args.octets.now
     _ _ _ _ c.in_ok-pass_number.ensures c.in_ok-u16_at.ensures.reading
     (omega (arith, c.if-branch-ne0.false)) c.in_ok-check_vector.ensures c.in_ok-check_area.ensures)
     ∙ search rules)
@@ -23,7 +23,7 @@ returns-in_err-check_payload-clause-gbc g c =
     let p = err_from_is_err_and c.from_residual-in_err-check_payload.result
     c.from_residual-in_err-check_payload.ensures.1 in
     sym (ap end_at
-    (area_packet_then geobroadcast c.args.shape c.args.size (g.O.Octets.octets c.args.octets.now)
+    (area_packet_then geobroadcast c.args.shape c.args.size c.args.octets.now
     _ _ _ _ c.in_ok-pass_number.ensures c.in_ok-u16_at.ensures.reading
     (omega (arith, c.if-branch-ne0.false)) c.in_ok-check_vector.ensures c.in_ok-check_area.ensures)
     ∙ rw (p.1, p.2) (search rules))
@@ -31,7 +31,7 @@ returns-in_err-check_payload-clause-gbc g c =
 pub returns-then-branch-ne0-2-clause-gac : goal.returns-then-branch-ne0-2-clause-gac
 returns-then-branch-ne0-2-clause-gac g c =
     sym (ap end_at
-    (area_packet_then geoanycast c.args.shape c.args.size (g.O.Octets.octets c.args.octets.now)
+    (area_packet_then geoanycast c.args.shape c.args.size c.args.octets.now
     _ _ _ _ c.in_ok-pass_number.ensures c.in_ok-u16_at.ensures.reading
     (omega (arith, c.if-branch-ne0.false)) c.in_ok-check_vector.ensures c.in_ok-check_area.ensures)
     ∙ search rules)
@@ -41,7 +41,27 @@ returns-in_err-check_payload-clause-gac g c =
     let p = err_from_is_err_and c.from_residual-in_err-check_payload.result
     c.from_residual-in_err-check_payload.ensures.1 in
     sym (ap end_at
-    (area_packet_then geoanycast c.args.shape c.args.size (g.O.Octets.octets c.args.octets.now)
+    (area_packet_then geoanycast c.args.shape c.args.size c.args.octets.now
+    _ _ _ _ c.in_ok-pass_number.ensures c.in_ok-u16_at.ensures.reading
+    (omega (arith, c.if-branch-ne0.false)) c.in_ok-check_vector.ensures c.in_ok-check_area.ensures)
+    ∙ rw (p.1, p.2) (search rules))
+
+pub returns-in_err-u16_at-2-clause-gbc : goal.returns-in_err-u16_at-2-clause-gbc
+returns-in_err-u16_at-2-clause-gbc g c =
+    let p = err_from_is_err_and c.from_residual-in_err-u16_at-2.result
+    c.from_residual-in_err-u16_at-2.ensures.1 in
+    sym (ap end_at
+    (area_packet_then geobroadcast c.args.shape c.args.size c.args.octets.now
+    _ _ _ _ c.in_ok-pass_number.ensures c.in_ok-u16_at.ensures.reading
+    (omega (arith, c.if-branch-ne0.false)) c.in_ok-check_vector.ensures c.in_ok-check_area.ensures)
+    ∙ rw (p.1, p.2) (search rules))
+
+pub returns-in_err-u16_at-2-clause-gac : goal.returns-in_err-u16_at-2-clause-gac
+returns-in_err-u16_at-2-clause-gac g c =
+    let p = err_from_is_err_and c.from_residual-in_err-u16_at-2.result
+    c.from_residual-in_err-u16_at-2.ensures.1 in
+    sym (ap end_at
+    (area_packet_then geoanycast c.args.shape c.args.size c.args.octets.now
     _ _ _ _ c.in_ok-pass_number.ensures c.in_ok-u16_at.ensures.reading
     (omega (arith, c.if-branch-ne0.false)) c.in_ok-check_vector.ensures c.in_ok-check_area.ensures)
     ∙ rw (p.1, p.2) (search rules))

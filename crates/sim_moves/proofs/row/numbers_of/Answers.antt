@@ -4,7 +4,8 @@ use mir.Syntax.{w16}
 use Rattle.std.proofs.lemmas.Int.{to_z-of_z}
 use Rattle.its_gnvalue.specs.Values.{IsSpeed}
 use Rattle.sim_moves.specs.Fields.{cut}
-use Rattle.sim_moves.specs.Rows.{IsId, IsMoment, IsNumber, MayBeNumber, may_field}
+use Rattle.its_words.specs.Ids.{IsId}
+use Rattle.sim_moves.specs.Rows.{IsMoment, IsNumber, MayBeNumber, may_field}
 use Rattle.sim_moves.specs.declared.columns.Column.TheVariants as columns
 use Rattle.sim_moves.proofs.Bounds.{length_cut}
 use Rattle.sim_moves.proofs.row.numbers_of.Goals as goal

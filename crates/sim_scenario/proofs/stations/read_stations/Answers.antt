@@ -1,6 +1,6 @@
 use Rattle.std.proofs.Common.{◌+◌, ◌<◌, ℕ, List, rules, arith, All, length, take, sym, subst}
 use Rattle.std.proofs.lemmas.List.Elements.{All-push}
-use Rattle.sim_settings.specs.Fields.{FieldValues}
+use Rattle.its_words.specs.Fields.{FieldValues}
 use Rattle.sim_settings.specs.Tables.{table_values}
 use Rattle.sim_settings.proofs.Items.{say_more}
 use Rattle.sim_scenario.specs.Saying.{SaysStation}

@@ -6,6 +6,6 @@ use Rattle.its_headers.proofs.wire.area.check_area.Goals as goal
 pub returns : goal.returns
 returns g c =
     let last = number_at-ok 2 _ _ _ c.in_ok-u16_at-3.ensures.reading in
-    area_judged c.args.shape (g.O.Octets.octets c.args.octets.now) (omega (arith, last.0))
+    area_judged c.args.shape c.args.octets.now (omega (arith, last.0))
     (search rules) (search rules)
     (omega (arith, c.in_ok-u16_at.ensures.value)) (search rules) (search rules)

@@ -22,7 +22,7 @@ pub returns-clause-reading : goal.returns-clause-reading
 returns-clause-reading g c =
     let last = number_at-ok 1 _ _ _ c.in_ok-octet_at-3.ensures.reading in
     let judged =
-    common_judged c.args.left (g.O.Octets.octets c.args.octets.now) (
+    common_judged c.args.left c.args.octets.now (
       c.in_ok-header_type.header_type,
       c.in_ok-header_type.sub_type,
     ) c.in_ok-header_type.ensures (omega (arith, last.0))

@@ -6,6 +6,6 @@ use Rattle.its_headers.proofs.wire.position.check_vector.Goals as goal
 pub returns : goal.returns
 returns g c =
     let last = number_at-ok 2 _ _ _ c.in_ok-pass_number-3.ensures in
-    vector_judged c.args.at (g.O.Octets.octets c.args.octets.now) (omega (arith, last.0))
+    vector_judged c.args.at c.args.octets.now (omega (arith, last.0))
     (search rules) (search rules)
     (search rules)

@@ -5,7 +5,7 @@ use Rattle.its_headers.proofs.wire.position.vector_in.Goals as goal
 pub returns : goal.returns
 returns g c =
     c.vector_of.ensures
-    ∙ vector_of_fields (g.O.Octets.octets c.args.octets.now) c.args.at _ _ _ _ _ _ _ _ _
+    ∙ vector_of_fields c.args.octets.now c.args.at _ _ _ _ _ _ _ _ _
     (search rules) (search rules) c.within.ensures c.cast_signed-lat.ensures
     c.cast_signed-lon.ensures
     (c.within-address.ensures

@@ -1,0 +1,7 @@
+pub mod Calls
+pub mod Neighbours
+pub mod Read
+pub mod Own
+pub mod Secured
+pub mod Heard
+pub mod Verified

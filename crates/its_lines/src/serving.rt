@@ -1,0 +1,176 @@
+//! One line, and its answer.
+
+ghost use Rattle.std.specs.Prelude.{◌≡◌, ◌<◌, ◌∷◌, [], None, Some, IfOk, OnErr, Err, IsErr};
+ghost use Rattle.its_station.specs.Runs.{IsInRange};
+ghost use Rattle.its_lines.specs.Knowing.{Counted};
+ghost use Rattle.its_lines.specs.Lines.{whole_line};
+ghost use Rattle.its_lines.specs.Requests.{AsksSecured, IsAskedIn, line_of};
+ghost use Rattle.its_lines.specs.Serving.{RepresentsCounted, TellsAsked, TellsCall, TellsLine};
+ghost use Rattle.its_lines.specs.Serving.{told_in};
+
+use crate::knowing::answer_query;
+use crate::lines::LONGEST_LINE;
+use crate::reading::read_request;
+use crate::receiving::{receive, receive_verified};
+use crate::request::{Id, LineRequest, Request};
+use crate::response::Response;
+use its_gnvalue::NoMemory;
+use its_linkframe::LONGEST_SECURED_FRAME;
+use its_loctable::SortedTable;
+use its_station::Call;
+use its_unit::Unit;
+use std::alloc::{AllocError, Global};
+
+/// Does what the line of this number asks for, and returns the answer. A blank line has no answer.
+/// `NoMemory` if an allocation failed: the station is as before.
+fn respond(
+    alloc: Global,
+    unit: &mut Unit<SortedTable>,
+    number: u64,
+    line: LineRequest,
+) -> Result<Option<Response>, NoMemory>
+    requires { IsAskedIn IsInRange line.request }
+    ensures tells { (s : Counted) → RepresentsCounted unit.old.station unit.old.counts s →
+        IfOk result (λ told. (next : Counted)
+        × TellsAsked s number line.id line.request (told_in told) next
+        × RepresentsCounted unit.new.station unit.new.counts next) }
+    ensures unchanged { OnErr result (unit.new.station ≡ unit.old.station) }
+    ensures limits { unit.new.governor ≡ unit.old.governor }
+{
+    let id = line.id;
+    match line.request {
+        Request::Nothing => Ok(None),
+        Request::Call(at, call) => Ok(Some(make_call(alloc, unit, id, at, &call)?)),
+        Request::Verified(at, octets) => {
+            let response = receive_verified(alloc, unit, id, at, &octets)?;
+            Ok(Some(response))
+        }
+        Request::Query(at, query) => {
+            let known = answer_query(alloc, unit, at, query)?;
+            Ok(Some(Response::Known { id, at, known }))
+        }
+        Request::Bad(fault) => Ok(Some(Response::Fault {
+            id,
+            line: number,
+            fault,
+        })),
+    }
+}
+
+/// Does what one line of an input asks for, at the time under its key `at`, and returns the answer.
+///
+/// The line has no line feed. `octets` are its first octets, and `longer` says whether it has more:
+/// such a line can't be read. `number` is its number among the lines, from 1. A blank line has no
+/// answer. `NoMemory` if an allocation failed: the station is as before. The limits don't apply to
+/// what a line asks for.
+///
+/// - `tells` (`TellsLine`): a call is the step of the model, whose answer is returned and counted.
+///   A query is answered as the station knows it. A query and any other line change nothing.
+pub fn answer_input_line(
+    alloc: Global,
+    unit: &mut Unit<SortedTable>,
+    number: u64,
+    octets: &[u8],
+    longer: bool,
+) -> Result<Option<Response>, NoMemory>
+    ensures tells { (s : Counted) → RepresentsCounted unit.old.station unit.old.counts s →
+        IfOk result (λ told. (next : Counted)
+        × TellsLine None s number (line_of octets.now longer) (told_in told) next
+        × RepresentsCounted unit.new.station unit.new.counts next) }
+    ensures unchanged { OnErr result (unit.new.station ≡ unit.old.station) }
+    ensures limits { unit.new.governor ≡ unit.old.governor }
+{
+    let asked = read_request(alloc, octets, longer, None)?;
+    Ok(respond(alloc, unit, number, asked)?)
+}
+
+/// Does what one line asks for, at the time `now`, and returns the answer. What is under `at` is
+/// ignored.
+///
+/// The line has no line feed. A line of more than 65536 octets can't be read. `number` is its
+/// number among the lines, from 1. A blank line has no answer. `room` is the buffer size for a
+/// frame. If it is under 2310, `NoRoom` is returned for a line whose answer may have a secured
+/// frame (`seal`, and `receive` with a key `plain`): nothing is done. `NoMemory` if an allocation
+/// failed: the station is as before.
+pub fn answer_line(
+    alloc: Global,
+    unit: &mut Unit<SortedTable>,
+    now: u64,
+    number: u64,
+    line: &[u8],
+    room: usize,
+) -> Result<Option<Response>, Unanswered>
+    ensures tells { (s : Counted) → RepresentsCounted unit.old.station unit.old.counts s →
+        IfOk result (λ told. (next : Counted)
+        × TellsLine (Some now) s number (whole_line line.now) (told_in told) next
+        × RepresentsCounted unit.new.station unit.new.counts next) }
+    ensures room { room < 2310 → AsksSecured (whole_line line.now) → IsErr result }
+    ensures no_room { result ≡ Err Unanswered.NoRoom → (room < 2310)
+        × AsksSecured (whole_line line.now) × (unit.new.counts ≡ unit.old.counts) }
+    ensures unchanged { OnErr result (unit.new.station ≡ unit.old.station) }
+    ensures limits { unit.new.governor ≡ unit.old.governor }
+{
+    let longer = line.len() > LONGEST_LINE;
+    let asked = read_request(alloc, line, longer, Some(now))?;
+    if asked.secured && room < LONGEST_SECURED_FRAME {
+        return Err(Unanswered::NoRoom);
+    }
+    Ok(respond(alloc, unit, number, asked)?)
+}
+
+/// Why a line is not answered. The station is as before.
+#[derive(Clone, Copy, Debug, PartialEq, Eq)]
+pub enum Unanswered {
+    /// A secured frame might not fit: nothing was done.
+    NoRoom,
+    /// An allocation failed.
+    NoMemory,
+}
+
+impl From<AllocError> for Unanswered {
+    ghost use Rattle.its_lines.specs.declared.serving.Unanswered.{Unanswered};
+
+    ghost from_gives = { λ error unanswered. unanswered ≡ Unanswered.NoMemory };
+
+    fn from(_: AllocError) -> Unanswered {
+        Unanswered::NoMemory
+    }
+}
+
+impl From<NoMemory> for Unanswered {
+    ghost use Rattle.its_lines.specs.declared.serving.Unanswered.{Unanswered};
+
+    ghost from_gives = { λ error unanswered. unanswered ≡ Unanswered.NoMemory };
+
+    fn from(_: NoMemory) -> Unanswered {
+        Unanswered::NoMemory
+    }
+}
+
+/// Makes a call of the station at a time, counts it, and returns the answer. `NoMemory` if an
+/// allocation failed: the station is as before.
+fn make_call(
+    alloc: Global,
+    unit: &mut Unit<SortedTable>,
+    id: Option<Id>,
+    at: u64,
+    call: &Call,
+) -> Result<Response, NoMemory>
+    requires { IsInRange call.now }
+    ensures tells { (s : Counted) → RepresentsCounted unit.old.station unit.old.counts s →
+        IfOk result (λ told. (next : Counted)
+        × TellsCall s id at call.now (told ∷ []) next
+        × RepresentsCounted unit.new.station unit.new.counts next) }
+    ensures unchanged { OnErr result (unit.new.station ≡ unit.old.station) }
+    ensures limits { unit.new.governor ≡ unit.old.governor }
+{
+    if let Call::Receive(frame) = call {
+        return receive(alloc, unit, id, at, frame);
+    }
+    Ok(Response::Reply {
+        id,
+        at,
+        source: None,
+        reply: unit.answer_unlimited(at, call)?,
+    })
+}

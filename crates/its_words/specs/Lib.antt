@@ -1,0 +1,9 @@
+pub mod Keys
+pub mod Fields
+pub mod Faults
+pub mod Verbs
+pub mod Nearest
+pub mod Calls
+pub mod Reading
+pub mod Ids
+pub mod JsonLines

@@ -1,0 +1,273 @@
+//! Values of the air that stand in place of a scenario's.
+
+ghost use Rattle.std.specs.Prelude.{◌≡◌, Some, None, IfNone, IfOk, IfSome, map};
+ghost use Rattle.its_words.specs.Keys.{word_of};
+ghost use Rattle.its_words.specs.Nearest.{IsFar};
+ghost use Rattle.sim_settings.specs.Settings.{IsTip, air_keys, set_number, set_truth};
+
+use crate::toml_fields::value_of;
+use cmd_quoting::{OneLine, Quoted};
+use its_words::keys::{Fields, Key, KeyFault, WrongValue, nearest, truth, whole};
+use std::alloc::{AllocError, Global};
+use std::fmt;
+use thiserror::Error;
+use toml::Table;
+
+/// The keys of the air, in the order in which they are checked.
+pub const AIR_KEYS: [Key; 6] = [
+    Key::Range,
+    Key::Delay,
+    Key::Loss,
+    Key::Seed,
+    Key::Beacons,
+    Key::Until,
+];
+
+/// Values of keys of the air, each of which stands in place of the scenario's own. `default` has
+/// none.
+#[derive(Clone, Copy, Debug, Default, PartialEq, Eq)]
+pub struct AirSettings {
+    range: Option<i64>,
+    delay: Option<i64>,
+    loss: Option<i64>,
+    seed: Option<i64>,
+    beacons: Option<bool>,
+    until: Option<i64>,
+}
+
+/// A key that is not one of the air, or whose value the air doesn't take. Its text is what follows
+/// `geostation: ` on standard error.
+#[derive(Clone, Copy, Debug, PartialEq, Eq, Error)]
+#[error("--set: {}", OneLine(*.word))]
+pub struct SettingFault<'a> {
+    /// The key, as it was given.
+    pub word: &'a str,
+    /// What is wrong with its value, where it is one of the air's.
+    pub wrong: Option<WrongValue<Quoted<'a>>>,
+}
+
+/// What is wrong with a setting, as words.
+#[derive(Clone, Copy, Debug, PartialEq, Eq)]
+pub enum SettingReason<'a> {
+    /// Its key is not one of the air. This key may be meant.
+    Meant(Key),
+    /// Its value isn't taken.
+    Value(WrongValue<Quoted<'a>>),
+}
+
+impl fmt::Display for SettingReason<'_> {
+    fn fmt<W: fmt::Write>(&self, f: &mut fmt::Formatter<W>) -> fmt::Result {
+        match self {
+            SettingReason::Meant(key) => write!(f, "did you mean '{key}'?"),
+            SettingReason::Value(wrong) => write!(f, "{wrong}"),
+        }
+    }
+}
+
+impl<'a> SettingFault<'a> {
+    /// Returns what is wrong with it: with its value or, if its key is not one of the air, the key
+    /// that may be meant. That is the first one that needs the fewest changes of a letter. `None`
+    /// if each needs more than two.
+    pub fn reason(&self, alloc: Global) -> Result<Option<SettingReason<'a>>, AllocError>
+        ensures value { IfSome self.now.wrong (λ wrong. IfOk result (λ reason.
+            reason ≡ Some (SettingReason.Value wrong))) }
+        ensures key { self.now.wrong ≡ None → IfOk result (λ reason.
+            IfSome reason (IsTip self.now.word.now)) }
+        ensures none { self.now.wrong ≡ None → IfOk result (λ reason.
+            IfNone reason (IsFar self.now.word.now (map word_of air_keys))) }
+    {
+        match self.wrong {
+            Some(wrong) => Ok(Some(SettingReason::Value(wrong))),
+            None => match nearest(alloc, self.word, &AIR_KEYS)? {
+                Some(key) => Ok(Some(SettingReason::Meant(key))),
+                None => Ok(None),
+            },
+        }
+    }
+}
+
+impl AirSettings {
+    /// Takes the value of `KEY=VALUE`, in place of one that was given before: decimal digits or,
+    /// for `beacons`, `true` or `false`. The key ends at the first `=`, or at the end if there is
+    /// no `=`.
+    ///
+    /// Refuses a key that is not one of the air, that has no value, or one out of its range.
+    pub fn set<'a>(&mut self, text: &'a str) -> Result<(), SettingFault<'a>> {
+        let setting = Setting::of(text);
+        let word = setting.word;
+        let set = match word {
+            "range" => set_whole(&mut self.range, &setting, Key::Range),
+            "delay" => set_whole(&mut self.delay, &setting, Key::Delay),
+            "loss" => set_whole(&mut self.loss, &setting, Key::Loss),
+            "seed" => set_whole(&mut self.seed, &setting, Key::Seed),
+            "beacons" => set_truth(&mut self.beacons, &setting),
+            "until" => set_whole(&mut self.until, &setting, Key::Until),
+            _ => return Err(SettingFault { word, wrong: None }),
+        };
+        set.map_err(|fault| SettingFault {
+            word,
+            wrong: setting.wrong(fault),
+        })
+    }
+
+    /// Whether there is a value of a key.
+    pub fn is_empty(&self) -> bool {
+        *self == AirSettings::default()
+    }
+
+    /// The whole number of a key.
+    fn number(&self, word: &str) -> Option<i64>
+        ensures { result ≡ set_number self.now word.now }
+    {
+        match word {
+            "range" => self.range,
+            "delay" => self.delay,
+            "loss" => self.loss,
+            "seed" => self.seed,
+            "until" => self.until,
+            _ => None,
+        }
+    }
+
+    /// The truth of a key.
+    fn truth(&self, word: &str) -> Option<bool>
+        ensures { result ≡ set_truth self.now word.now }
+    {
+        match word {
+            "beacons" => self.beacons,
+            _ => None,
+        }
+    }
+}
+
+/// Keeps the whole number of a key, in its range.
+fn set_whole(kept: &mut Option<i64>, setting: &Setting<'_>, key: Key) -> Result<(), KeyFault> {
+    *kept = Some(whole(setting, key)?);
+    Ok(())
+}
+
+/// Keeps whether stations tick by themselves.
+fn set_truth(kept: &mut Option<bool>, setting: &Setting<'_>) -> Result<(), KeyFault> {
+    *kept = Some(truth(setting, Key::Beacons)?);
+    Ok(())
+}
+
+/// A key and its value, as they were given.
+#[derive(Clone, Copy)]
+struct Setting<'a> {
+    word: &'a str,
+    value: Option<&'a str>,
+    /// The whole number of the value, where it is decimal digits.
+    number: Option<i64>,
+    /// The truth of the value, where it is one.
+    truth: Option<bool>,
+}
+
+impl<'a> Setting<'a> {
+    /// Those of `KEY=VALUE`.
+    fn of(text: &'a str) -> Setting<'a> {
+        let (word, value) = match text.split_once('=') {
+            Some((word, value)) => (word, Some(value)),
+            None => (text, None),
+        };
+        Setting {
+            word,
+            value,
+            number: value.and_then(number_in),
+            truth: value.and_then(truth_in),
+        }
+    }
+
+    /// What is wrong with its value, by the fault of its key. `None` where an allocation failed.
+    fn wrong(&self, fault: KeyFault) -> Option<WrongValue<Quoted<'a>>> {
+        let value = self.value.map(Quoted);
+        fault.wrong().map(|wrong| WrongValue { wrong, value })
+    }
+}
+
+/// The whole number of decimal digits.
+fn number_in(digits: &str) -> Option<i64> {
+    if digits.bytes().all(|octet| octet.is_ascii_digit()) {
+        digits.parse().ok()
+    } else {
+        None
+    }
+}
+
+/// The truth of its word.
+fn truth_in(word: &str) -> Option<bool> {
+    match word {
+        "true" => Some(true),
+        "false" => Some(false),
+        _ => None,
+    }
+}
+
+impl Fields for Setting<'_> {
+    ghost use Rattle.std.specs.Prelude.{◌&&◌, is_some, nat_eq};
+    ghost use Rattle.std.specs.Cmp.Lexicographic.{pointwise};
+    ghost use Rattle.std.specs.Option.{option_copied};
+
+    ghost values = { λ setting. record {
+      has = λ word. pointwise nat_eq word setting.word.now && is_some setting.value;
+      integer = λ _. setting.number;
+      truth = λ _. setting.truth;
+      text = λ _. option_copied setting.value;
+    } };
+
+    fn has(&self, word: &str) -> bool {
+        word == self.word && self.value.is_some()
+    }
+
+    fn integer(&self, _word: &str) -> Option<i64> {
+        self.number
+    }
+
+    fn truth(&self, _word: &str) -> Option<bool> {
+        self.truth
+    }
+
+    fn text(&self, _word: &str) -> Option<&str> {
+        self.value
+    }
+}
+
+/// The table of an air, with values that stand in place of its own.
+#[derive(Clone, Copy)]
+pub struct SetAir<'a> {
+    /// The table of the air.
+    pub table: &'a Table,
+    /// The values.
+    pub settings: &'a AirSettings,
+}
+
+impl Fields for SetAir<'_> {
+    ghost use Rattle.toml.specs.View.{table_view};
+    ghost use Rattle.sim_settings.specs.Settings.{set_values};
+    ghost use Rattle.sim_settings.specs.Tables.{table_values};
+
+    ghost values = { λ air. set_values air.settings.now (table_values (table_view air.table.now)) };
+
+    fn has(&self, word: &str) -> bool {
+        let is_set = self.settings.number(word).is_some() || self.settings.truth(word).is_some();
+        is_set || value_of(self.table, word).is_some()
+    }
+
+    fn integer(&self, word: &str) -> Option<i64> {
+        match self.settings.number(word) {
+            Some(number) => Some(number),
+            None => value_of(self.table, word)?.as_integer(),
+        }
+    }
+
+    fn truth(&self, word: &str) -> Option<bool> {
+        match self.settings.truth(word) {
+            Some(truth) => Some(truth),
+            None => value_of(self.table, word)?.as_bool(),
+        }
+    }
+
+    fn text(&self, word: &str) -> Option<&str> {
+        value_of(self.table, word)?.as_str()
+    }
+}
