@@ -281,7 +281,8 @@ struct geostation_config {
 
     /* Limits on what is sent. A rate or a burst of 0 turns a limit off. A limit per source needs a
      * limit of all: forward_burst below 256, and source_burst * forward_rate at most
-     * (256 - forward_burst) * source_rate. Otherwise the config is #GEOSTATION_BAD_ARGUMENT. */
+     * (256 - forward_burst) * source_rate. Otherwise the config is #GEOSTATION_BAD_ARGUMENT. With
+     * both, sources share what is left of forward_burst once a fifth of it is used (C.md). */
     uint32_t forward_rate;  /**< forwarded frames per second, 0 to 1000000 (default 100) */
     uint32_t forward_burst; /**< frames forwarded at once, 0 to 1000000 (default 50) */
     uint32_t source_rate;   /**< forwarded frames per second of each source (default 20) */

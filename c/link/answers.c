@@ -1,100 +1,108 @@
-/* Requests of applications. The library reads the line and writes the answer. What it does not
- * know, the state of the link and of the position, is put into the answer afterwards. */
-#define _GNU_SOURCE
+/* Requests of applications. The library reads the line and writes the answer. Before the station is
+ * asked, a second one is: a request that can't be done leaves the station as it was. */
 #include "parts.h"
 #include <inttypes.h>
 #include <stdio.h>
-#include <string.h>
 
-/* Finds the result in an answer. No text of a client is mistaken for it: in a text, quotation marks
- * have a backslash. */
-static const uint8_t *result_in(const uint8_t *answer, size_t n) {
-    static const char key[] = "\"result\":\"";
-    const uint8_t *at = memmem(answer, n, key, sizeof key - 1);
-    return at == NULL ? NULL : at + sizeof key - 1;
-}
+/* What a line would do at a station that is as new. */
+struct intent {
+    bool ticks;       /* it sends a beacon if one is due */
+    bool asks_beacon; /* when the next one is due */
+    bool sends, passes_frame, moves, restarts, opens, closes;
+    bool processes;   /* the frame that it passes is one */
+    size_t length;    /* of the frame that it sends */
+    uint16_t port;    /* to which that goes */
+};
 
-static bool has_result(const uint8_t *answer, size_t n, const char *word) {
-    const uint8_t *at = result_in(answer, n);
-    size_t length = strlen(word);
-    return at != NULL && (size_t)(answer + n - at) > length && memcmp(at, word, length) == 0
-        && at[length] == '"';
-}
+static const struct refusal not_allowed = { "not allowed",
+                                            "the rights of this socket don't include it" };
+static const struct refusal not_verified = {
+    "not verified", "frames reach the station only by the link and the security entity"
+};
 
-/* Turns an answer that has a result into a refusal, and returns its length. */
-static size_t refuse(uint8_t *answer, size_t n, const char *code, const char *reason) {
-    char text[256];
-    size_t kept = (size_t)(result_in(answer, n) - answer);
-    int length = snprintf(text, sizeof text, "refused\",\"code\":\"%s\",\"reason\":\"%s\"}", code,
-                          reason);
-    memcpy(answer + kept, text, (size_t)length);
-    return kept + (size_t)length;
-}
-
-static size_t serve(geostation_handle *h, struct station *s, uint64_t now, uint64_t number,
+static size_t serve(geostation_handle *h, struct station *s, uint64_t moment, uint64_t number,
                     const uint8_t *line, size_t n, uint8_t *answer, size_t *frame_length) {
     size_t length = 0;
-    int status = geostation_handle_json(h, now, number, line, n, answer, GEOSTATION_ANSWER_MAX,
+    int status = geostation_handle_json(h, moment, number, line, n, answer, GEOSTATION_ANSWER_MAX,
                                         &length, s->frame, sizeof s->frame, frame_length);
     if (status == GEOSTATION_NO_MEMORY) {
         return (size_t)snprintf((char *)answer, GEOSTATION_ANSWER_MAX,
-                                "{\"at\":%" PRIu64 ",\"result\":\"refused\",\"code\":\"S5\"}", now);
+                                "{\"at\":%" PRIu64 ",\"result\":\"refused\",\"code\":\"S5\"}",
+                                moment);
     }
     return length;
 }
 
-/* What the probe answers to a line. The probe is as new. */
-static size_t ask_probe(struct station *s, uint64_t now, uint64_t number, const uint8_t *line,
-                        size_t n, uint8_t *answer) {
-    size_t frame_length = 0;
-    ignore_status(geostation_restart(s->probe, now, 0));
-    return serve(s->probe, s, now, number, line, n, answer, &frame_length);
+static uint32_t kind_of(const uint8_t *frame, size_t length, uint16_t *port) {
+    struct geostation_packet packet;
+    ignore_status(geostation_read_frame(frame, length, &packet));
+    *port = packet.message.port;
+    return packet.kind;
 }
 
-static bool would_send(const uint8_t *answer, size_t n) {
-    return has_result(answer, n, "sent") || has_result(answer, n, "quiet");
+/* Asks the probe, which has no open ports. A received frame is accepted, ignored, or refused by S3
+ * or S4. No other call has these codes, and only `close` has S8 B4. */
+static struct intent foresee(struct station *s, uint64_t moment, uint64_t number,
+                             const uint8_t *line, size_t n, struct held *h) {
+    struct intent i = { .length = 0 };
+    ignore_status(geostation_restart(s->probe, moment, 0));
+    h->length = serve(s->probe, s, moment, number, line, n, h->answer, &i.length);
+    const uint8_t *answer = h->answer;
+    size_t end = h->length;
+    i.sends = answer_has_result(answer, end, "sent");
+    i.ticks = answer_has_result(answer, end, "quiet")
+        || (i.sends && kind_of(s->frame, i.length, &i.port) == GEOSTATION_BEACON);
+    i.asks_beacon = answer_has_result(answer, end, "next_beacon");
+    i.processes = answer_has_result(answer, end, "accepted")
+        || answer_has_result(answer, end, "ignored");
+    i.passes_frame = i.processes || answer_has_code(answer, end, "S3")
+        || answer_has_code(answer, end, "S4");
+    i.moves = answer_has_result(answer, end, "moved");
+    i.restarts = answer_has_result(answer, end, "restarted");
+    i.opens = answer_has_result(answer, end, "opened");
+    i.closes = answer_has_code(answer, end, "S8 B4");
+    return i;
 }
 
-/* A received frame is accepted, ignored, or refused by S3 or S4. No other call has these codes. */
-static bool would_receive(const uint8_t *answer, size_t n) {
-    static const char bad_frame[] = "\"code\":\"S3", table_full[] = "\"code\":\"S4";
-    return has_result(answer, n, "accepted") || has_result(answer, n, "ignored")
-        || memmem(answer, n, bad_frame, sizeof bad_frame - 1) != NULL
-        || memmem(answer, n, table_full, sizeof table_full - 1) != NULL;
-}
-
-/* Without a position, a line that would send or receive is refused. Returns the length of the
- * refusal; 0: the station may be asked. `answer` has the probe's answer. */
-static size_t refuse_unplaced(const struct station *s, uint8_t *answer, size_t n) {
-    bool refused = would_send(answer, n) || has_result(answer, n, "accepted")
-        || has_result(answer, n, "ignored");
-    return !refused ? 0 : refuse(answer, n, "no place", s->place->known
-                                 ? "the last fix is too old" : "the station has no position yet");
-}
-
-/* With security, no application passes a frame to the station, and nothing is sent without the
- * entity. Returns as `refuse_unplaced`. */
-static size_t refuse_insecure(const struct station *s, uint8_t *answer, size_t n) {
-    if (would_receive(answer, n)) {
-        return refuse(answer, n, "not verified",
-                      "frames reach the station only by the link and the security entity");
+/* Is this the port of a line that opens or closes one? The probe finds out. */
+static bool is_port_of(struct station *s, uint64_t moment, const struct intent *i, uint16_t port,
+                       const uint8_t *line, size_t n) {
+    static uint8_t answer[GEOSTATION_ANSWER_MAX];
+    size_t none = 0;
+    if (i->opens) {
+        return geostation_close_port(s->probe, moment, port) == GEOSTATION_OK;
     }
-    if (would_send(answer, n) && !security_is_up(s->security)) {
-        return refuse(answer, n, "no security", "there is no security entity");
-    }
-    return 0;
+    ignore_status(geostation_open_port(s->probe, moment, port));
+    size_t length = serve(s->probe, s, moment, 0, line, n, answer, &none);
+    return answer_has_result(answer, length, "closed");
 }
 
-/* Returns the length of a refusal of a line that the station may not be asked about, or 0. */
-static size_t refuse_early(struct station *s, uint64_t now, uint64_t number, const uint8_t *line,
-                           size_t n, uint8_t *answer) {
-    bool placed = place_is_usable(s->place);
-    if (placed && s->security == NULL) {
-        return 0;
+/* Has a client with limited rights the right to this? It may close only ports that it opened. */
+static bool has_right(struct station *s, uint64_t moment, const struct client *c,
+                      const struct intent *i, const uint8_t *line, size_t n) {
+    uint16_t port;
+    if (i->passes_frame || i->moves || i->restarts || i->ticks) {
+        return false;
     }
-    size_t length = ask_probe(s, now, number, line, n, answer);
-    size_t refused = s->security != NULL ? refuse_insecure(s, answer, length) : 0;
-    return refused == 0 && !placed ? refuse_unplaced(s, answer, length) : refused;
+    if (i->sends) {
+        return rights_to_send(c->rights, i->port);
+    }
+    if (!i->opens && !i->closes) {
+        return true;
+    }
+    return line_port(line, n, &port) && is_port_of(s, moment, i, port, line, n)
+        && (i->opens ? rights_to_listen(c->rights, port) : ports_have(&c->opened, port));
+}
+
+/* Why a line can't be done, or NULL. */
+static const struct refusal *judge(struct station *s, uint64_t now, const struct intent *i) {
+    if (i->passes_frame && s->security != NULL) {
+        return &not_verified;
+    }
+    if (i->sends || i->ticks) {
+        return own_refusal(s, now, i->length, i->ticks);
+    }
+    return i->processes ? own_place_refusal(s) : NULL;
 }
 
 /* A line moved the station. The probe gets the same line; a packet of it has the new position. */
@@ -103,123 +111,105 @@ static void follow_move(struct station *s, uint64_t now, const uint8_t *line, si
     const struct geostation_shb_request any = { .port = 0 };
     struct geostation_packet packet;
     size_t length = 0;
-    (void)serve(s->probe, s, now, 0, line, n, answer, &length);
-    ignore_status(geostation_send_shb(s->probe, now, &any, NULL, 0, s->frame, sizeof s->frame,
+    (void)serve(s->probe, s, s->last, 0, line, n, answer, &length);
+    ignore_status(geostation_send_shb(s->probe, s->last, &any, NULL, 0, s->frame, sizeof s->frame,
                                       &length));
     if (length != 0 && geostation_read_frame(s->frame, length, &packet) == GEOSTATION_OK) {
         place_take(s->place, &packet.vector, now);
-        s->place->told_at = now;
+        place_tell(s->place, s, now);
     }
 }
 
-/* Whether the rate of own packets has room for one more, which is then counted. */
-static bool has_rate(struct station *s, uint64_t now) {
-    static uint8_t frame[GEOSTATION_FRAME_MAX];
-    const struct geostation_shb_request any = { .port = 0 };
-    size_t length = 0;
-    return geostation_send_shb(s->own, now, &any, NULL, 0, frame, sizeof frame, &length)
-        != GEOSTATION_OVER_RATE;
+/* Gives the station the address that a `restart` has. False: it is wrong. */
+static bool take_address(struct station *s, uint64_t now, uint64_t number, const uint8_t *line,
+                         size_t n, struct held *h) {
+    uint64_t address;
+    enum readdressing found = readdress_read(line, n, &address);
+    if (found == WRONG_ADDRESS) {
+        h->length = answer_put_error(h->answer, h->length, number, "address");
+    } else if (found == NEW_ADDRESS) {
+        readdress(s, now, address);
+    }
+    return found != WRONG_ADDRESS;
 }
 
-/* An answer says `sent` only if the link took the frame. */
-static size_t judge_sending(enum sending result, uint8_t *answer, size_t n) {
-    switch (result) {
-    case LINK_DOWN: return refuse(answer, n, "link down", "the link is down: nothing was sent");
-    case QUEUE_FULL: return refuse(answer, n, "queue full", "the link takes no more frames now");
-    case FRAME_TOO_LONG: return refuse(answer, n, "too long", "the frame is over the link's MTU");
-    default: return n;
+/* Keeps which client opened a port. A port that can't be read here may be anyone's. */
+static void follow_ports(struct station *s, const struct intent *i, const uint8_t *line, size_t n,
+                         const struct held *h) {
+    uint16_t port;
+    bool is_known = line_port(line, n, &port);
+    if (i->restarts) {
+        clients_forget_ports(s->clients);
+    } else if (i->closes && answer_has_result(h->answer, h->length, "closed")) {
+        if (is_known) {
+            clients_forget_port(s->clients, port);
+        } else {
+            clients_forget_ports(s->clients);
+        }
+    } else if (is_known && answer_has_result(h->answer, h->length, "opened")) {
+        (void)ports_add(&h->client->opened, port);
     }
 }
 
-/* Sends the station's own frame, or has it signed: then the answer waits. */
-static void send_own(struct station *s, uint64_t now, size_t frame_length, struct held *h) {
-    if (!has_rate(s, now)) {
-        h->length = refuse(h->answer, h->length, "over rate", "own packets are over their rate");
-    } else if (s->security == NULL) {
-        h->length = judge_sending(link_send(s->link, s->frame, frame_length), h->answer, h->length);
-    } else {
-        h->waits = requests_sign(s->security, s->frame, frame_length, h);
-        h->length = h->waits ? h->length : refuse(h->answer, h->length, "not signed",
-                                                  "too many packets wait for a signature");
+static void send_own(struct station *s, size_t length, struct held *h) {
+    uint16_t port;
+    const struct refusal *why = own_send(s, length, kind_of(s->frame, length, &port), h);
+    if (why != NULL) {
+        h->length = answer_refuse(h->answer, h->length, why);
     }
 }
 
-/* Puts the frame that was sent into an answer, in place of the unsecured one, its last key. */
-static size_t put_frame(uint8_t *answer, size_t n, const uint8_t *frame, size_t length) {
-    static const char key[] = "sent\",\"frame\":\"";
-    size_t end = (size_t)(result_in(answer, n) - answer);
-    memcpy(answer + end, key, sizeof key - 1);
-    end += sizeof key - 1;
-    end += hex_write((char *)answer + end, frame, length);
-    memcpy(answer + end, "\"}", 2);
-    return end + 2;
-}
-
-/* Sends the station's own frame once it is signed, and completes the answer to its request.
- * `length`: 0 if it was not signed; `h`: NULL for a beacon. */
-void station_send_signed(struct station *s, const uint8_t *frame, size_t length, struct held *h) {
-    enum sending result = length != 0 ? link_send(s->link, frame, length) : SENT;
-    if (h == NULL) {
-        return;
-    }
-    if (length == 0) {
-        h->length = refuse(h->answer, h->length, "not signed",
-                           "the security entity did not sign the packet");
-    } else {
-        h->length = put_frame(h->answer, h->length, frame, length);
-        h->length = judge_sending(result, h->answer, h->length);
-    }
-    h->waits = false;
-    h->used = h->client != NULL;
-}
-
-/* Adds the link's counts to the station's. */
-static size_t add_link(const struct station *s, uint8_t *answer, size_t n) {
-    char text[1024];
-    size_t length = counts_print_link(s, text, sizeof text);
-    if (n == 0 || n - 1 + length > GEOSTATION_ANSWER_MAX) {
-        return n;
-    }
-    memcpy(answer + n - 1, text, length);
-    return n - 1 + length;
-}
-
+/* The handle of beacons knows when one is due. */
 static void do_line(struct station *s, uint64_t now, uint64_t number, const uint8_t *line, size_t n,
-                    struct held *h) {
-    size_t frame_length = 0;
-    h->length = serve(s->handle, s, now, number, line, n, h->answer, &frame_length);
-    bool sent = has_result(h->answer, h->length, "sent");
-    if (sent || has_result(h->answer, h->length, "restarted")) {
+                    const struct intent *i, struct held *h) {
+    geostation_handle *asked = i->ticks || i->asks_beacon ? s->beacons : s->handle;
+    size_t length = 0;
+    h->length = serve(asked, s, s->last, number, line, n, h->answer, &length);
+    if (length != 0 && answer_has_result(h->answer, h->length, "sent")) {
+        send_own(s, length, h);
+    } else if (length != 0 && s->security == NULL && i->passes_frame) {
+        forwards_put(s->forwards, s->frame, length);
+    } else if (i->moves) {
+        follow_move(s, now, line, n);
+    } else if (i->restarts) {
+        ignore_status(geostation_restart(s->beacons, s->last, 0));
+    } else if (answer_has_result(h->answer, h->length, "counts")) {
+        h->length = answer_put_counts(s, h->answer, h->length);
+    }
+    if (i->ticks || i->restarts) {
         station_plan_beacon(s);
     }
-    if (frame_length != 0 && sent) {
-        send_own(s, now, frame_length, h);
-    } else if (frame_length != 0 && s->security == NULL
-               && has_result(h->answer, h->length, "accepted")) {
-        forwards_put(s->forwards, s->frame, frame_length);
-    } else if (has_result(h->answer, h->length, "moved")) {
-        follow_move(s, now, line, n);
-    } else if (has_result(h->answer, h->length, "counts")) {
-        h->length = add_link(s, h->answer, h->length);
+    if (i->opens || i->closes || i->restarts) {
+        follow_ports(s, i, line, n, h);
     }
 }
 
 void station_answer(struct station *s, uint64_t now, uint64_t number, const uint8_t *line, size_t n,
                     struct held *h) {
-    h->length = refuse_early(s, now, number, line, n, h->answer);
-    if (h->length == 0) {
-        s->last = now;
-        place_refresh(s->place, s->handle, now);
-        do_line(s, now, number, line, n, h);
+    uint64_t moment = clock_moment_at(now);
+    struct intent i = foresee(s, moment, number, line, n, h);
+    bool allowed = h->client->rights == NULL || has_right(s, moment, h->client, &i, line, n);
+    const struct refusal *why = allowed ? judge(s, now, &i) : &not_allowed;
+    if (why != NULL) {
+        h->length = answer_refuse(h->answer, h->length, why);
+        return;
     }
+    if (i.restarts && !take_address(s, now, number, line, n, h)) {
+        return;
+    }
+    s->last = moment;
+    place_refresh(s->place, s, now);
+    do_line(s, now, number, line, n, &i, h);
+    h->length = subscribe_answer(h->client, moment, line, n, h->answer, h->length);
 }
 
 void station_print_counts(struct station *s, uint64_t now) {
     static const uint8_t line[] = "{\"do\":\"counts\"}";
-    static uint8_t answer[GEOSTATION_ANSWER_MAX];
+    static uint8_t answer[GEOSTATION_ANSWER_MAX + 1];
     size_t none = 0;
-    s->last = now;
-    size_t length = serve(s->handle, s, now, 0, line, sizeof line - 1, answer, &none);
-    length = add_link(s, answer, length);
-    fprintf(stderr, "%.*s\n", (int)length, (const char *)answer);
+    s->last = clock_moment_at(now);
+    size_t length = serve(s->handle, s, s->last, 0, line, sizeof line - 1, answer, &none);
+    length = answer_put_counts(s, answer, length);
+    answer[length] = '\n';
+    (void)put_error((const char *)answer, length + 1);
 }

@@ -4,6 +4,7 @@
 #include <getopt.h>
 #include <stdio.h>
 #include <stdlib.h>
+#include <string.h>
 
 static const char usage[] =
     "geostation-link: one ITS station on a network interface, or on UDP\n"
@@ -35,6 +36,8 @@ static const char usage[] =
     "  --position LAT,LON    Position in degrees, with up to 7 decimals\n"
     "  --gpsd [HOST:PORT]    Take the position from gpsd [default: 127.0.0.1:2947]\n"
     "  --gps-timeout S       Stop sending if the last fix is older, 1 to 3600 s [default: 60]\n"
+    "  --clock-synchronised  Send only while the clock is synchronised\n"
+    "  --clock-follow        Follow steps of the clock after the first own packet too\n"
     "  --address HEX16       GeoNetworking address; required with --udp\n"
     "  --station-type N      Make the address from this type, 0 to 31, and the interface's MAC\n"
     "                        [default: 15]\n"
@@ -47,14 +50,21 @@ static const char usage[] =
     "  --security PATH       Sign and verify packets by the security entity at this UNIX socket\n"
     "  --security-user NAME  The user that may run the entity, besides root and the user of this\n"
     "                        program\n"
-    "  --security-timeout MS Wait for each answer of the entity, 1 to 10000 ms [default: 100]\n"
+    "  --security-timeout MS Wait for each answer of the entity, 1 to 10000 ms, and longer if its\n"
+    "                        answers take long [default: 100]\n"
+    "  --security-workers N  Requests that the entity works on at a time, 1 to 12 [default: 1]\n"
     "\n"
     "Applications and operators:\n"
     "  --listen PATH         Serve applications at a UNIX socket too, up to 16 at a time\n"
+    "  --listen-limited RIGHTS\n"
+    "                        Serve applications with limited rights: a PATH, and then send,\n"
+    "                        listen, port=N (may be repeated) and user=NAME; up to 8 times\n"
     "  --client-timeout S    Close a client that is idle for S seconds if others wait;\n"
     "                        0 turns it off [default: 60]\n"
     "  --metrics PATH        Offer counts for Prometheus: in a file if PATH ends in .prom,\n"
     "                        otherwise at a UNIX socket\n"
+    "  --audit PATH          Write a line for each packet of an application that was sent, to\n"
+    "                        this file; - is standard error\n"
     "  --config FILE         Take options from a file, one per line: NAME = VALUE\n"
     "  --check-config        Check the options, and end\n"
     "  --version             Print the version\n"
@@ -110,6 +120,23 @@ static bool remembers_sources(const struct geostation_config *c) {
             <= (uint64_t)(256 - c->forward_burst) * c->source_rate;
 }
 
+/* Do two of the sockets, or the file of metrics, have one path? */
+static bool shares_path(const struct options *o) {
+    const char *paths[LISTENERS + 2] = { o->listen, o->metrics, o->security };
+    size_t count = 3;
+    for (size_t k = 0; k < o->limited_count; k++) {
+        paths[count++] = o->limited[k].path;
+    }
+    for (size_t k = 0; k < count; k++) {
+        for (size_t i = 0; i < k; i++) {
+            if (paths[k] != NULL && paths[i] != NULL && strcmp(paths[k], paths[i]) == 0) {
+                return true;
+            }
+        }
+    }
+    return false;
+}
+
 /* Which options are required, and which exclude each other. */
 static bool judge(const struct options *o, struct fault *f) {
     if ((o->interface != NULL) == (o->udp != NULL)) {
@@ -127,9 +154,13 @@ static bool judge(const struct options *o, struct fault *f) {
     if (o->udp != NULL && !o->addressed) {
         return set_fault(f, BAD_ARGUMENTS, "--udp needs --address HEX16, as UDP has no MAC");
     }
-    if (o->security == NULL && (o->security_user != NULL || o->timed_security)) {
-        return set_fault(f, BAD_ARGUMENTS, "--security-user and --security-timeout need "
-                         "--security");
+    if (o->security == NULL && (o->security_user != NULL || o->tuned_security)) {
+        return set_fault(f, BAD_ARGUMENTS, "--security-user, --security-timeout and "
+                         "--security-workers need --security");
+    }
+    if (shares_path(o)) {
+        return set_fault(f, BAD_ARGUMENTS, "--listen, --listen-limited, --metrics and --security "
+                         "need a path each");
     }
     if (!remembers_sources(&o->station)) {
         return set_fault(f, BAD_ARGUMENTS, "--source-rate and --source-burst need a lower "
@@ -167,7 +198,7 @@ static bool take_words(struct options *o, int argc, char **argv, struct fault *f
 bool read_arguments(struct options *o, int argc, char **argv, struct fault *f) {
     *o = (struct options){
         .station_type = 15, .forward_spread = 2000, .client_timeout = 60000, .gps_timeout = 60000,
-        .security_timeout = 100,
+        .security_timeout = 100, .security_workers = 1,
     };
     geostation_config_init(&o->station);
     o->station.capacity = 4096;

@@ -13,6 +13,10 @@ size_t client_waiting(const struct client *c) { return c->end - c->begin; }
 struct client *client_new(int in, int out, uint64_t now) {
     struct client *c = malloc(sizeof *c);
     if (c != NULL) {
+        c->by = (struct asker){ "-", getuid(), getppid() };
+        c->rights = NULL;
+        c->opened.count = c->subscribed.count = 0;
+        c->subscribes = false;
         c->in = in;
         c->out = out;
         c->deaf = false;
@@ -56,6 +60,11 @@ void client_tell(struct clients *all, struct client *c, const struct text *t, ui
         c->lost++;
         all->events_lost++;
     }
+}
+
+bool client_wants(const struct client *c, uint16_t port) {
+    return rights_to_listen(c->rights, port)
+        && (!c->subscribes || ports_have(&c->subscribed, port));
 }
 
 static bool is_blank(const struct client *c) {

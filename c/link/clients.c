@@ -15,6 +15,31 @@ void clients_tell(struct clients *c, const struct text *t, uint64_t now) {
     }
 }
 
+void clients_deliver(struct clients *c, const struct text *t, uint16_t port) {
+    uint64_t now = clock_now();
+    for (size_t k = 0; k < CLIENTS; k++) {
+        if (c->all[k] != NULL && client_wants(c->all[k], port)) {
+            client_tell(c, c->all[k], t, now);
+        }
+    }
+}
+
+void clients_forget_port(struct clients *c, uint16_t port) {
+    for (size_t k = 0; k < CLIENTS; k++) {
+        if (c->all[k] != NULL) {
+            ports_remove(&c->all[k]->opened, port);
+        }
+    }
+}
+
+void clients_forget_ports(struct clients *c) {
+    for (size_t k = 0; k < CLIENTS; k++) {
+        if (c->all[k] != NULL) {
+            c->all[k]->opened.count = 0;
+        }
+    }
+}
+
 /* The first line has the station's address. Others follow if the link or the security entity is not
  * there. */
 static bool add(struct clients *c, size_t k, int in, int out) {
@@ -40,11 +65,12 @@ static bool add(struct clients *c, size_t k, int in, int out) {
 
 static int open_spare(void) { return open("/dev/null", O_RDONLY | O_CLOEXEC); }
 
+bool clients_listens(const struct clients *c) { return c->listener_count != 0; }
+
 void clients_start(struct clients *c, const struct options *o) {
-    c->path = o->listen;
     c->timeout = o->client_timeout;
     held_start(&c->held, o->security != NULL);
-    c->listening = c->path != NULL ? listen_at("listen", c->path, CLIENTS) : -1;
+    listeners_start(c, o);
     c->spare = open_spare();
     if (!add(c, 0, STDIN_FILENO, STDOUT_FILENO)) {
         fail(FAILED, "out of memory");
@@ -62,7 +88,7 @@ static void drop(struct clients *c, size_t k) {
 
 /* Did standard input or output end, without a socket for other applications? */
 bool clients_is_ended(const struct clients *c) {
-    return c->all[0] == NULL && c->listening < 0;
+    return c->all[0] == NULL && !clients_listens(c);
 }
 
 size_t clients_count(const struct clients *c) {
@@ -103,20 +129,24 @@ static uint64_t place_at(const struct clients *c) {
 
 /* Returns when clients_poll looks at the socket again, if it does not now. */
 uint64_t clients_due(const struct clients *c, uint64_t now) {
-    uint64_t at = c->listening < 0 ? 0 : place_at(c);
+    uint64_t at = !clients_listens(c) ? 0 : place_at(c);
     return at > now ? at : UINT64_MAX;
 }
 
 void clients_poll(const struct clients *c, struct pollfd *on, uint64_t now) {
+    struct pollfd *next = on + LISTENERS;
     for (size_t k = 0; k < CLIENTS; k++) {
         const struct client *one = c->all[k];
         bool reads = one != NULL && client_may_read(one);
         bool writes = one != NULL && client_is_writing(one);
-        on[1 + 2 * k] = (struct pollfd){ reads ? one->in : -1, POLLIN, 0 };
-        on[2 + 2 * k] = (struct pollfd){ writes ? one->out : -1, POLLOUT, 0 };
+        *next++ = (struct pollfd){ reads ? one->in : -1, POLLIN, 0 };
+        *next++ = (struct pollfd){ writes ? one->out : -1, POLLOUT, 0 };
     }
-    bool place = c->listening >= 0 && place_at(c) <= now;
-    on[0] = (struct pollfd){ place ? c->listening : -1, POLLIN, 0 };
+    bool place = clients_listens(c) && place_at(c) <= now;
+    for (size_t k = 0; k < LISTENERS; k++) {
+        bool accepts = place && k < c->listener_count;
+        on[k] = (struct pollfd){ accepts ? c->listeners[k].fd : -1, POLLIN, 0 };
+    }
 }
 
 /* Closes a client that was idle for too long while another one waits. */
@@ -141,21 +171,43 @@ static void turn_away(struct clients *c, int fd) {
     }
 }
 
-/* Without a free descriptor, the spare one serves to turn a waiting client away. Otherwise the
- * socket would stay readable for ever. */
-static void accept_one(struct clients *c) {
+/* Makes a place, if none is free. */
+static size_t make_place(struct clients *c) {
     size_t k = free_place(c);
     if (k == CLIENTS) {
         k = idlest(c);
         close_idle(c, k);
     }
-    int fd = accept4(c->listening, NULL, NULL, SOCK_NONBLOCK | SOCK_CLOEXEC);
+    return k;
+}
+
+static void take_in(struct clients *c, const struct listener *l, int fd) {
+    struct asker by;
+    if (!listener_lets_in(c, l, fd, &by)) {
+        close(fd);
+        return;
+    }
+    size_t k = make_place(c);
+    if (!add(c, k, fd, fd)) {
+        turn_away(c, fd);
+        return;
+    }
+    c->all[k]->rights = l->rights;
+    c->all[k]->by = by;
+}
+
+/* Without a free descriptor, the spare one serves to turn a waiting client away. Otherwise the
+ * socket would stay readable for ever. */
+static void accept_one(struct clients *c, const struct listener *l) {
+    int fd = accept4(l->fd, NULL, NULL, SOCK_NONBLOCK | SOCK_CLOEXEC);
     if (fd < 0 && (errno == EMFILE || errno == ENFILE) && c->spare >= 0) {
         close(c->spare);
-        turn_away(c, accept4(c->listening, NULL, NULL, SOCK_CLOEXEC));
+        turn_away(c, accept4(l->fd, NULL, NULL, SOCK_CLOEXEC));
         c->spare = open_spare();
-    } else if (fd >= 0 && !add(c, k, fd, fd)) {
-        turn_away(c, fd);
+        return;
+    }
+    if (fd >= 0) {
+        take_in(c, l, fd);
     }
 }
 
@@ -163,7 +215,7 @@ static void accept_one(struct clients *c) {
  * no one reads it any more, it ends at once. */
 static bool is_done(const struct clients *c, size_t k) {
     const struct client *one = c->all[k];
-    bool stays = k == 0 && c->listening >= 0;
+    bool stays = k == 0 && clients_listens(c);
     return (k == 0 && one->deaf) || (client_is_done(one) && !stays);
 }
 
@@ -181,7 +233,7 @@ static void turn(struct clients *c, size_t k, const struct pollfd *reads,
     client_take_lines(c, one);
     if (why != 0 && k == 0) {
         c->output_fault = why;
-        if (c->listening >= 0) {
+        if (clients_listens(c)) {
             note("standard output: %s: the other clients are served", strerror(why));
         }
     }
@@ -191,13 +243,16 @@ static void turn(struct clients *c, size_t k, const struct pollfd *reads,
 }
 
 void clients_turn(struct clients *c, const struct pollfd *on) {
+    const struct pollfd *own = on + LISTENERS;
     for (size_t k = 0; k < CLIENTS; k++) {
         if (c->all[k] != NULL) {
-            turn(c, k, &on[1 + 2 * k], &on[2 + 2 * k]);
+            turn(c, k, &own[2 * k], &own[2 * k + 1]);
         }
     }
-    if (on[0].revents != 0) {
-        accept_one(c);
+    for (size_t k = 0; k < c->listener_count; k++) {
+        if (on[k].revents != 0 && place_at(c) <= clock_now()) {
+            accept_one(c, &c->listeners[k]);
+        }
     }
 }
 
@@ -213,14 +268,14 @@ static bool any_waits(const struct clients *c) {
 
 /* Handles requests that came before the end and writes their answers, for half a second at most. */
 void clients_drain(struct clients *c) {
-    struct pollfd on[2 + 2 * CLIENTS];
-    struct pollfd *entity = &on[1 + 2 * CLIENTS];
+    struct pollfd on[CLIENT_POLLS + 1];
+    struct pollfd *entity = &on[CLIENT_POLLS];
     struct security *security = c->station->security;
     uint64_t start = clock_now();
     for (uint64_t now = start; now < start + DRAIN; now = clock_now()) {
         clients_poll(c, on, now);
         *entity = (struct pollfd){ security_fd(security), POLLIN, 0 };
-        int ready = poll(on, 2 + 2 * CLIENTS, 10);
+        int ready = poll(on, CLIENT_POLLS + 1, 10);
         if (ready <= 0 && !any_waits(c)) {
             return;
         }
@@ -236,7 +291,5 @@ void clients_end(struct clients *c) {
         free(c->all[k]);
     }
     free(c->held.all);
-    if (c->path != NULL) {
-        unlink(c->path);
-    }
+    listeners_end(c);
 }

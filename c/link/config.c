@@ -38,6 +38,9 @@ static bool take_line(struct options *o, char *line, struct setting *s, struct f
     if (s->row->argument == no_argument && s->value != NULL) {
         return refuse_value(s, "this option has no value", f);
     }
+    if (s->value != NULL && (strstr(s->value, " #") != NULL || strstr(s->value, "\t#") != NULL)) {
+        return refuse_value(s, "a comment needs a line of its own", f);
+    }
     return s->row->take(o, s, f);
 }
 

@@ -39,27 +39,63 @@ static void members_of_security(struct page *p, const struct security_counts *c)
     member(p, "strays", c->strays);
 }
 
-/* What follows the last key of an answer: a comma, the key `link`, and the end of the answer. */
-size_t counts_print_link(const struct station *s, char *out, size_t room) {
-    struct page p = { out, room, 0 };
+/* The first key of an object in an answer, and the key of the object. */
+static void object(struct page *p, const char *name, const char *key, uint64_t value) {
+    put(p, ",\"%s\":{\"%s\":%" PRIu64, name, key, value);
+}
+
+/* The keys that the library has too, in its order. */
+static void members_of_station(struct page *p, const struct geostation_counts *c) {
+    member(p, "received", c->received);
+    member(p, "accepted", c->accepted);
+    member(p, "delivered", c->delivered);
+    member(p, "relayed", c->relayed);
+    object(p, "ignored", "not_for_me", c->ignored.not_for_me);
+    member(p, "own_source", c->ignored.own_source);
+    member(p, "sender_mismatch", c->ignored.sender_mismatch);
+    member(p, "duplicate", c->ignored.duplicate);
+    put(p, "}");
+    object(p, "refused", "moment_earlier", c->refused.moment_earlier);
+    member(p, "moment_too_late", c->refused.moment_too_late);
+    member(p, "frame", c->refused.frame);
+    member(p, "table_full", c->refused.table_full);
+    member(p, "no_memory", c->refused.no_memory);
+    member(p, "other", c->refused.other);
+    put(p, "}");
+    object(p, "sent", "beacons", c->sent.beacons);
+    member(p, "single_hop", c->sent.single_hop);
+    member(p, "geobroadcasts", c->sent.geobroadcasts);
+    member(p, "geoanycasts", c->sent.geoanycasts);
+    put(p, "}");
+}
+
+static void members_of_link(struct page *p, const struct station *s,
+                            const struct geostation_counts *c) {
     struct link *l = s->link;
-    struct geostation_counts station, own;
-    geostation_counts(s->handle, &station);
-    geostation_counts(s->own, &own);
-    put(&p, ",\"link\":{\"frames\":%" PRIu64, l->frames);
-    member(&p, "padded", l->padded);
-    member(&p, "tagged", l->tagged);
-    member(&p, "dropped", l->dropped);
-    member(&p, "kernel_dropped", link_kernel_dropped(l));
-    member(&p, "forward_dropped", s->forwards->dropped);
-    member(&p, "suppressed", station.suppressed);
-    member(&p, "repeated", station.repeated);
-    member(&p, "over_rate", own.over_rate);
-    member(&p, "events_lost", s->clients->events_lost);
+    object(p, "link", "frames", l->frames);
+    member(p, "padded", l->padded);
+    member(p, "tagged", l->tagged);
+    member(p, "dropped", l->dropped);
+    member(p, "kernel_dropped", link_kernel_dropped(l));
+    member(p, "forward_dropped", s->forwards->dropped);
+    member(p, "suppressed", c->suppressed);
+    member(p, "repeated", c->repeated);
+    member(p, "over_rate", c->over_rate);
+    member(p, "events_lost", s->clients->events_lost);
     if (s->security != NULL) {
-        members_of_security(&p, &s->security->counts);
+        members_of_security(p, &s->security->counts);
     }
-    put(&p, "}}");
+    put(p, "}");
+}
+
+size_t counts_print(const struct station *s, char *out, size_t room) {
+    struct page p = { out, room, 0 };
+    struct geostation_counts counts;
+    station_counts(s, &counts);
+    put(&p, "counts\"");
+    members_of_station(&p, &counts);
+    members_of_link(&p, s, &counts);
+    put(&p, "}");
     return p.length;
 }
 
@@ -151,7 +187,7 @@ static void put_security(struct page *p, const struct security *x) {
              frames, 6);
     labelled(p, "security_packets_total", "outcome", "Packets of its own", packets, 2);
     counter(p, "security_strays_total", "Answers of the entity to no open request", c->strays);
-    gauge(p, "security_up", "Whether there is a security entity", security_is_up(x));
+    gauge(p, "security_up", "Whether there is a security entity that answers", security_is_up(x));
 }
 
 static void put_clients(struct page *p, const struct clients *c) {
@@ -160,7 +196,14 @@ static void put_clients(struct page *p, const struct clients *c) {
     counter(p, "clients_closed_total", "Idle clients that were closed", c->closed_idle);
     counter(p, "clients_turned_away_total", "Clients turned away: no memory or descriptor",
             c->turned_away);
+    counter(p, "clients_refused_total", "Clients turned away: another user", c->refused_users);
     gauge(p, "clients", "Clients that are connected", (double)clients_count(c));
+}
+
+static void put_clock(struct page *p, const struct steps *w) {
+    gauge(p, "clock_synchronised", "Whether the clock is synchronised", w->synchronised);
+    gauge(p, "clock_offset_seconds", "How far the clock is ahead of the station's time",
+          (double)w->offset / 1000);
 }
 
 /* A fixed position has no age. */
@@ -174,15 +217,20 @@ static void put_position(struct page *p, const struct place *at, uint64_t now) {
 size_t counts_print_metrics(const struct station *s, uint64_t now, char *out, size_t room) {
     struct page p = { out, room, 0 };
     struct geostation_counts counts;
-    geostation_counts(s->handle, &counts);
+    station_counts(s, &counts);
     put_station(&p, &counts);
-    geostation_counts(s->own, &counts);
     counter(&p, "over_rate_total", "Own packets that were over their rate", counts.over_rate);
+    counter(&p, "address_conflicts_total", "Packets of this address that others sent",
+            s->conflict.count);
     put_link(&p, s);
     if (s->security != NULL) {
         put_security(&p, s->security);
     }
     put_clients(&p, s->clients);
+    if (s->audit->path != NULL) {
+        counter(&p, "audit_lost_total", "Lines of --audit that were lost", s->audit->lost);
+    }
     put_position(&p, s->place, now);
+    put_clock(&p, s->steps);
     return p.length;
 }

@@ -17,7 +17,7 @@ size_t datagram_verify(char out[DATAGRAM_MAX], uint64_t id, const uint8_t *frame
     n += (size_t)sprintf(out + n, "\",\"lt\":\"%02x\",\"hops\":%u,\"from\":\"", frame[LIFETIME],
                          frame[HOPS]);
     n += hex_write(out + n, frame + SENDER, 6);
-    return n + (size_t)sprintf(out + n, "\",\"at\":%" PRIu64 "}", at);
+    return n + (size_t)sprintf(out + n, "\",\"at\":%" PRIu64 "}", clock_moment_at(at));
 }
 
 size_t datagram_sign(char out[DATAGRAM_MAX], uint64_t id, const uint8_t *frame, size_t length) {

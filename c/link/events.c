@@ -15,9 +15,13 @@ __attribute__((format(printf, 2, 3))) static void put(struct text *t, const char
     va_end(rest);
 }
 
-static void begin(struct text *t, uint64_t now, const char *event) {
+static void begin_at(struct text *t, uint64_t moment, const char *event) {
     t->length = 0;
-    put(t, "{\"at\":%" PRIu64 ",\"event\":\"%s\",", now, event);
+    put(t, "{\"at\":%" PRIu64 ",\"event\":\"%s\",", moment, event);
+}
+
+static void begin(struct text *t, uint64_t now, const char *event) {
+    begin_at(t, clock_moment_at(now), event);
 }
 
 void event_ready(struct text *t, uint64_t now, uint64_t address) {
@@ -30,10 +34,14 @@ void event_link(struct text *t, uint64_t now, bool up) {
     put(t, "\"up\":%s}\n", up ? "true" : "false");
 }
 
-void event_mac(struct text *t, uint64_t now, const uint8_t mac[6]) {
-    begin(t, now, "mac");
+static void put_mac(struct text *t, const uint8_t mac[6]) {
     put(t, "\"mac\":\"%02x%02x%02x%02x%02x%02x\"}\n", mac[0], mac[1], mac[2], mac[3], mac[4],
         mac[5]);
+}
+
+void event_mac(struct text *t, uint64_t now, const uint8_t mac[6]) {
+    begin(t, now, "mac");
+    put_mac(t, mac);
 }
 
 void event_fix(struct text *t, uint64_t now, enum fix_state state) {
@@ -57,6 +65,22 @@ void event_security(struct text *t, uint64_t now, bool up) {
     put(t, "\"up\":%s}\n", up ? "true" : "false");
 }
 
+void event_conflict(struct text *t, uint64_t now, const uint8_t mac[6]) {
+    begin(t, now, "conflict");
+    put_mac(t, mac);
+}
+
+void event_address(struct text *t, uint64_t now, uint64_t address) {
+    begin(t, now, "address");
+    put(t, "\"address\":\"%016" PRIx64 "\"}\n", address);
+}
+
+void event_clock(struct text *t, uint64_t now, bool synchronised, int64_t step, int64_t offset) {
+    begin(t, now, "clock");
+    put(t, "\"synchronised\":%s,\"step\":%" PRId64 ",\"offset\":%" PRId64 "}\n",
+        synchronised ? "true" : "false", step, offset);
+}
+
 /* What the security entity says about a message. */
 static void put_verified(struct text *t, const struct answer *a) {
     if (a->has_psid) {
@@ -67,9 +91,9 @@ static void put_verified(struct text *t, const struct answer *a) {
     }
 }
 
-void event_delivered(struct text *t, uint64_t at, const struct geostation_reception *r,
+void event_delivered(struct text *t, uint64_t moment, const struct geostation_reception *r,
                      const uint8_t *payload, const struct answer *verified) {
-    begin(t, at, "delivered");
+    begin_at(t, moment, "delivered");
     put(t, "\"source\":\"%016" PRIx64 "\",\"port\":%u,\"info\":%u,\"tc\":%u,\"payload\":\"",
         r->source, r->port, r->info, r->traffic_class);
     t->length += hex_write(t->octets + t->length, payload, r->payload_length);

@@ -5,8 +5,8 @@
 #include <stdlib.h>
 #include <string.h>
 
-enum { ACCURATE_TO = 10 /* metres */, FASTEST = 16383 /* 0.01 m/s */ };
-enum { OLD_AFTER = 5000, AHEAD_AT_MOST = 5000 /* ms */ };
+enum { ACCURATE_TO = 10, JUMP_OVER = 100 /* metres */, FASTEST = 16383 /* 0.01 m/s */ };
+enum { OLD_AFTER = 5000, AHEAD_AT_MOST = 5000, DOUBTED_FOR = 5000 /* ms */ };
 enum { NO_FIX, FIX_2D = 2, FIX_3D = 3 };
 
 /* Reads the digits at `at` as a number; -1 if one of them is not a digit. */
@@ -103,10 +103,34 @@ static bool is_position(const struct fix *f) {
         && (f->latitude != 0 || f->longitude != 0);
 }
 
-/* A missing error estimate counts as accurate. */
+/* A missing error estimate counts as accurate, a missing time does not. */
 static bool is_accurate(const struct fix *f) {
     double error = isfinite(f->eph) ? f->eph : hypot(f->epx, f->epy);
-    return f->mode >= FIX_3D && !(error > ACCURATE_TO);
+    return f->mode >= FIX_3D && f->timed && !(error > ACCURATE_TO);
+}
+
+/* Metres from the last position, on a sphere. */
+static double distance(const struct fix *f, const struct place *p) {
+    const double radian = 3.14159265358979323846 / 180, diameter = 2 * 6371000.0;
+    double from = p->latitude / 1e7 * radian, to = f->latitude * radian;
+    double north = sin((to - from) / 2);
+    double east = sin((f->longitude - p->longitude / 1e7) * radian / 2);
+    return diameter * asin(fmin(1, sqrt(north * north + cos(from) * cos(to) * east * east)));
+}
+
+/* Is it farther from the last position than a station moves in that time, at the fastest that a
+ * packet can say? Then this fix and those of the next seconds aren't accurate. */
+static void look_for_jump(const struct fix *f, struct place *p, uint64_t at, uint64_t now) {
+    double seconds = fabs((double)(int64_t)(at - p->fix_at)) / 1000;
+    double metres = p->known ? distance(f, p) : 0;
+    if (metres <= JUMP_OVER + seconds * FASTEST / 100) {
+        return;
+    }
+    if (now >= p->doubted_until) {
+        note("gpsd: a fix is %.0f m from the last one: it isn't accurate for %d s", metres,
+             DOUBTED_FOR / 1000);
+    }
+    p->doubted_until = now + DOUBTED_FOR;
 }
 
 static void take_motion(struct place *p, const struct fix *f) {
@@ -118,15 +142,15 @@ static void take_motion(struct place *p, const struct fix *f) {
 
 /* Is the time of the report credible? A time far in the future is not: other stations would treat
  * all later packets of this station as older ones. */
-static bool is_credible(const struct fix *f, const struct place *p, uint64_t now) {
+static bool is_credible(const struct fix *f, const struct place *p, uint64_t moment) {
     return !f->timed
-        || (f->moment <= now + AHEAD_AT_MOST && now < f->moment + p->fix_timeout);
+        || (f->moment <= moment + AHEAD_AT_MOST && moment < f->moment + p->fix_timeout);
 }
 
 /* Reports it once, until a report is credible again. */
-static void report_time(const struct fix *f, struct place *p, uint64_t now) {
-    bool ahead = f->moment > now;
-    uint64_t off = ahead ? f->moment - now : now - f->moment;
+static void report_time(const struct fix *f, struct place *p, uint64_t moment) {
+    bool ahead = f->moment > moment;
+    uint64_t off = ahead ? f->moment - moment : moment - f->moment;
     if (!p->time_reported) {
         note("gpsd: the time of a report is %llu s %s the clock: it is ignored",
              (unsigned long long)(off / 1000), ahead ? "ahead of" : "behind");
@@ -136,22 +160,24 @@ static void report_time(const struct fix *f, struct place *p, uint64_t now) {
 
 /* If a report has no position or no credible time, the old position is no longer accurate. */
 bool fix_take(const struct fix *f, struct place *p, uint64_t now) {
-    bool credible = is_credible(f, p, now);
+    uint64_t moment = clock_moment_at(now);
+    bool credible = is_credible(f, p, moment);
     if (!credible) {
-        report_time(f, p, now);
+        report_time(f, p, moment);
     }
     if (!is_position(f) || !credible) {
         bool changed = p->known && p->accurate;
         p->accurate = 0;
         return changed;
     }
-    uint64_t moment = f->timed ? f->moment : now;
+    uint64_t age = f->timed && f->moment < moment ? moment - f->moment : 0;
+    look_for_jump(f, p, now - age, now);
     p->time_reported = false;
     p->known = true;
-    p->fix_at = moment < now ? moment : now;
+    p->fix_at = now - age;
     p->fix = now - p->fix_at < OLD_AFTER ? FIX_CURRENT : FIX_OLD;
-    p->timestamp = (uint32_t)moment;
-    p->accurate = p->fix == FIX_CURRENT && is_accurate(f);
+    p->timestamp = (uint32_t)(f->timed ? f->moment : moment);
+    p->accurate = p->fix == FIX_CURRENT && is_accurate(f) && now >= p->doubted_until;
     p->latitude = (int32_t)lround(f->latitude * 1e7);
     p->longitude = (int32_t)lround(f->longitude * 1e7);
     take_motion(p, f);

@@ -13,20 +13,19 @@ uint32_t kept_hash(const uint8_t *message, size_t n) {
 }
 
 /* The oldest answer makes way. */
-void kept_put(struct kept *all, size_t *next, const uint8_t *message, size_t n,
+void kept_put(struct kept *all, size_t *next, uint32_t hash, const uint8_t *message, size_t n,
               const struct answer *a, uint64_t now) {
     struct kept *k = &all[*next];
     *next = (*next + 1) % KEPT;
     k->until = now + KEPT_FOR;
-    k->hash = kept_hash(message, n);
+    k->hash = hash;
     k->length = n;
     memcpy(k->message, message, n);
     k->answer = *a;
 }
 
-const struct answer *kept_find(const struct kept *all, const uint8_t *message, size_t n,
-                               uint64_t now) {
-    uint32_t hash = kept_hash(message, n);
+const struct answer *kept_find(const struct kept *all, uint32_t hash, const uint8_t *message,
+                               size_t n, uint64_t now) {
     for (const struct kept *k = all; k < all + KEPT; k++) {
         if (now < k->until && k->hash == hash && k->length == n
             && memcmp(k->message, message, n) == 0) {

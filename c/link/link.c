@@ -97,6 +97,13 @@ static enum sending send_to_peers(struct link *l, const uint8_t *frame, size_t l
     return taken ? SENT : result;
 }
 
+enum sending link_refuses(struct link *l, size_t length) {
+    enum sending result = !l->up ? LINK_DOWN
+        : l->longest != 0 && length > l->longest ? FRAME_TOO_LONG : SENT;
+    l->dropped += result != SENT && length != 0;
+    return result;
+}
+
 /* SENT: the socket accepted the frame; on UDP, for at least one peer. */
 enum sending link_send(struct link *l, const uint8_t *frame, size_t length) {
     if (l->wanted == NULL) {
@@ -123,9 +130,9 @@ static uint64_t time_of(struct msghdr *about, const struct link *l, const struct
             age = now->realtime - ((int64_t)t.tv_sec * 1000 + t.tv_nsec / 1000000);
         }
     }
-    uint64_t longest = now->moment > l->empty_at ? now->moment - l->empty_at : 0;
+    uint64_t longest = now->now > l->empty_at ? now->now - l->empty_at : 0;
     uint64_t waited = age <= 0 ? 0 : (uint64_t)age < longest ? (uint64_t)age : longest;
-    return now->moment - waited;
+    return now->now - waited;
 }
 
 /* Receives the waiting frames, up to a batch. */
@@ -159,7 +166,7 @@ static bool has_frame(const struct link *l) {
  * latter are counted. */
 enum waiting link_receive(struct link *l, const struct instant *now, struct received **r) {
     if (!has_frame(l)) {
-        l->empty_at = now->moment;
+        l->empty_at = now->now;
         return NONE_WAITS;
     }
     size_t k = batch.next++;
@@ -177,6 +184,13 @@ enum waiting link_receive(struct link *l, const struct instant *now, struct rece
     got->at = time_of(&batch.about[k].msg_hdr, l, now);
     *r = got;
     return RECEIVED;
+}
+
+void link_change_address(struct link *l, uint64_t address) {
+    if (l->wanted != NULL) {
+        packet_change_address(l, address);
+    }
+    l->address = address;
 }
 
 unsigned link_look(struct link *l) {

@@ -10,7 +10,7 @@
 
 enum {
     SIGNALS, LINK, WATCH, GPS, ENTITY, METRICS, FIRST_CLIENT,
-    ALL = FIRST_CLIENT + 1 + 2 * CLIENTS
+    ALL = FIRST_CLIENT + CLIENT_POLLS
 };
 /* A turn handles the frames of whole batches (link.c). */
 enum { FRAMES_A_TURN = 64, LONGEST_WAIT = 60000 /* ms */ };
@@ -96,8 +96,7 @@ static void follow_gpsd(struct program *p, bool ready) {
     }
     if (place_age(&p->place, now) || changed) {
         if (p->place.known) {
-            p->station.last = now;
-            place_tell(&p->place, p->station.handle, now);
+            place_tell(&p->place, &p->station, now);
         }
     }
     if (p->place.fix != was) {
@@ -109,7 +108,8 @@ static uint64_t least(uint64_t a, uint64_t b) { return a < b ? a : b; }
 
 /* The time of the next thing to do, in ms. */
 static uint64_t due_of(const struct program *p, uint64_t now) {
-    uint64_t due = station_may_send(&p->station) ? p->station.beacon_at : UINT64_MAX;
+    uint64_t beacon = station_may_send(&p->station) ? p->station.beacon_at : UINT64_MAX;
+    uint64_t due = least(clock_now_at(beacon), p->steps.look_at);
     due = least(due, p->gpsd.fd < 0 ? p->gpsd.try_at : UINT64_MAX);
     due = least(due, place_ages_at(&p->place));
     due = least(due, p->station.security != NULL ? security_due(&p->security) : UINT64_MAX);
@@ -158,6 +158,7 @@ static void turn(struct program *p, const struct pollfd *on) {
     if (on[LINK].revents != 0) {
         read_frames(&p->station);
     }
+    steps_turn(&p->steps, &p->station, clock_now());
     follow_gpsd(p, on[GPS].revents != 0);
     if (p->station.security != NULL) {
         security_turn(&p->security, on[ENTITY].revents != 0);

@@ -15,7 +15,7 @@ static void start_place(struct place *p, const struct options *o) {
     p->accurate = 1;
     p->latitude = o->station.latitude;
     p->longitude = o->station.longitude;
-    p->timestamp = (uint32_t)clock_now();
+    p->timestamp = (uint32_t)clock_moment();
     p->fix_at = clock_now();
     p->fix_timeout = o->gps_timeout;
 }
@@ -52,15 +52,31 @@ static void start(struct program *p) {
     p->station.forwards = &p->forwards;
     p->station.place = &p->place;
     p->station.clients = &p->clients;
-    station_open(&p->station, &p->options, clock_now());
+    p->station.steps = &p->steps;
+    steps_start(&p->steps, &p->options);
+    station_open(&p->station, &p->options);
     if (p->options.security != NULL) {
         p->station.security = &p->security;
         security_start(&p->security, &p->station, &p->options);
     }
     gpsd_start(&p->gpsd, &p->options);
+    audit_start(&p->audit, p->options.audit);
+    p->station.audit = &p->audit;
     p->clients.station = &p->station;
     clients_start(&p->clients, &p->options);
     metrics_start(&p->metrics, p->options.metrics);
+}
+
+/* What the start looks up: hosts and users. */
+static void check(struct options *o) {
+    uid_t user;
+    resolve_addresses(o);
+    if (o->security_user != NULL && !user_named(o->security_user, &user)) {
+        fail(BAD_ARGUMENTS, "--security-user %s: there is no such user", o->security_user);
+    }
+    for (size_t k = 0; k < o->limited_count; k++) {
+        (void)rights_user(&o->limited[k]);
+    }
 }
 
 int main(int argc, char **argv) {
@@ -77,6 +93,7 @@ int main(int argc, char **argv) {
         fail(f.status, "%s", f.text);
     }
     if (p->options.check) {
+        check(&p->options);
         return 0;
     }
     start(p);
@@ -85,8 +102,8 @@ int main(int argc, char **argv) {
     clients_end(&p->clients);
     metrics_end(&p->metrics);
     security_end(&p->security);
-    station_close(&p->station);
-    if (p->clients.output_fault != 0 && p->clients.listening < 0) {
+    handles_free(&p->station);
+    if (p->clients.output_fault != 0 && !clients_listens(&p->clients)) {
         fail(FAILED, "standard output: %s", strerror(p->clients.output_fault));
     }
     return 0;

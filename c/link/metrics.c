@@ -14,9 +14,10 @@ enum { WRITE_EACH = 10000 /* ms */, TEXT_ROOM = 16384, WAITING = 4 };
 
 static char text[TEXT_ROOM];
 
-static bool is_file(const char *path) {
+/* The name of the new file is four octets longer. */
+bool metrics_is_file(const char *path) {
     size_t length = strlen(path);
-    return length > 5 && strcmp(path + length - 5, ".prom") == 0;
+    return length > 5 && length <= PATH_MAX - 8 && strcmp(path + length - 5, ".prom") == 0;
 }
 
 void metrics_start(struct metrics *m, const char *path) {
@@ -24,12 +25,10 @@ void metrics_start(struct metrics *m, const char *path) {
     if (path == NULL) {
         return;
     }
-    if (!is_file(path)) {
-        m->listening = listen_at("metrics", path, WAITING);
-    } else if (strlen(path) > PATH_MAX - 8) {
-        fail(BAD_ARGUMENTS, "--metrics %s: the path is too long", path);
-    } else {
+    if (metrics_is_file(path)) {
         m->write_at = 0;
+    } else {
+        m->listening = listen_at("metrics", path, WAITING, false);
     }
 }
 

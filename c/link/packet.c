@@ -14,7 +14,7 @@
 #include <sys/ioctl.h>
 #include <unistd.h>
 
-enum { ETHERTYPE = 0x8947, LOOK_EACH = 250 /* ms */ };
+enum { ETHERTYPE = 0x8947, HEADER = 14 /* octets */, LOOK_EACH = 250 /* ms */ };
 
 /* Returns false if the interface disappeared meanwhile. */
 static bool ask(const struct link *l, unsigned long what, struct ifreq *about) {
@@ -49,14 +49,28 @@ void packet_wait(struct link *l) {
     close(news.fd);
 }
 
-/* Makes the interface receive frames to the station's MID too, if that isn't its MAC. */
-static void take_address(const struct link *l) {
+static struct packet_mreq frames_to(const struct link *l, uint64_t address) {
     struct packet_mreq more = { .mr_ifindex = (int)l->index, .mr_type = PACKET_MR_UNICAST,
                                 .mr_alen = 6 };
-    link_address(l->address, more.mr_address);
+    link_address(address, more.mr_address);
+    return more;
+}
+
+/* Makes the interface receive frames to the station's MID too, if that isn't its MAC. */
+static void take_address(const struct link *l) {
+    struct packet_mreq more = frames_to(l, l->address);
     if (l->address != 0 && memcmp(more.mr_address, l->mac, 6) != 0
         && setsockopt(l->fd, SOL_PACKET, PACKET_ADD_MEMBERSHIP, &more, sizeof more) != 0) {
         note("%s: cannot add a MAC address: frames to this station alone may be lost", l->name);
+    }
+}
+
+void packet_change_address(struct link *l, uint64_t address) {
+    struct packet_mreq old = frames_to(l, l->address);
+    l->address = address;
+    if (l->fd >= 0) {
+        (void)setsockopt(l->fd, SOL_PACKET, PACKET_DROP_MEMBERSHIP, &old, sizeof old);
+        take_address(l);
     }
 }
 
@@ -72,11 +86,14 @@ static void read_mac(struct link *l) {
     memcpy(l->mac, about.ifr_hwaddr.sa_data, sizeof l->mac);
 }
 
+/* The MTU is without the header of 14 octets. */
 static void read_state(struct link *l) {
     struct ifreq about;
     bool known = ask(l, SIOCGIFFLAGS, &about);
     unsigned flags = known ? (unsigned)(unsigned short)about.ifr_flags : 0;
     l->up = (flags & IFF_UP) != 0 && (flags & IFF_RUNNING) != 0;
+    known = ask(l, SIOCGIFMTU, &about) && about.ifr_mtu > 0;
+    l->longest = known ? (size_t)about.ifr_mtu + HEADER : 0;
 }
 
 static void open_socket(struct link *l) {

@@ -9,16 +9,22 @@ enum { TOLD_EACH = 1000 /* ms, at most */, OLD_AFTER = 5000 /* ms */ };
 /* May the station send? */
 bool place_is_usable(const struct place *p) { return p->known && p->fix != FIX_LOST; }
 
-void place_tell(struct place *p, geostation_handle *s, uint64_t now) {
+static void tell(const struct place *p, geostation_handle *h, uint64_t moment) {
+    ignore_status(geostation_move_at(h, moment, p->timestamp, p->latitude, p->longitude,
+                                     p->accurate, p->speed, p->heading));
+}
+
+void place_tell(struct place *p, struct station *s, uint64_t now) {
     p->told_at = now;
-    ignore_status(geostation_move_at(s, now, p->timestamp, p->latitude, p->longitude, p->accurate,
-                                     p->speed, p->heading));
+    s->last = clock_moment_at(now);
+    tell(p, s->handle, s->last);
+    tell(p, s->beacons, s->last);
 }
 
 /* To be called before each packet of the station's own. */
-void place_refresh(struct place *p, geostation_handle *s, uint64_t now) {
+void place_refresh(struct place *p, struct station *s, uint64_t now) {
     if (p->fixed && p->known && now - p->told_at >= TOLD_EACH) {
-        p->timestamp = (uint32_t)now;
+        p->timestamp = (uint32_t)clock_moment_at(now);
         place_tell(p, s, now);
     }
 }

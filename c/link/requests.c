@@ -1,9 +1,12 @@
 /* Own packets that wait for a signature, and received frames that wait for a verification. The
- * entity gets own packets first, and they have places of their own. If too many received frames
- * wait, the oldest is dropped. */
+ * entity gets few requests at a time (pace.c). Own packets have places of their own and don't wait
+ * for received frames. If too many received frames wait, or one waits for too long, it is dropped
+ * (waiting.c). */
 #include "parts.h"
 #include <stdlib.h>
 #include <string.h>
+
+enum { SENDER = 6 /* offset of its link address */ };
 
 static void put(struct request_list *l, struct request *r) { l->all[l->count++] = r; }
 
@@ -15,9 +18,11 @@ static struct request *take(struct request_list *l, size_t k) {
 }
 
 /* The lists have places for all requests that may be in them, so there is a spare one. */
-static struct request *make(struct security *x, bool signs, const uint8_t *frame, size_t length) {
+static struct request *make(struct security *x, enum request_kind kind, const uint8_t *frame,
+                            size_t length) {
     struct request *r = take(&x->spare, x->spare.count - 1);
-    r->signs = signs;
+    r->kind = kind;
+    r->late = false;
     r->id = 0;
     r->held = NULL;
     r->length = length;
@@ -61,18 +66,24 @@ static void end_sign(struct security *x, const struct request *r, const struct a
     station_send_signed(x->station, sealed, n, r->held);
 }
 
-static void end_request(struct security *x, struct request *r, const struct answer *a) {
-    if (r->signs) {
+/* The outcome of a late request was decided before. */
+static void decide(struct security *x, const struct request *r, const struct answer *a) {
+    if (r->late) {
+        x->counts.strays += a != NULL;
+    } else if (r->kind == SIGN) {
         end_sign(x, r, a);
-    } else {
+    } else if (r->kind == VERIFY) {
         end_verify(x, r, a);
     }
+}
+
+static void end_request(struct security *x, struct request *r, const struct answer *a) {
+    decide(x, r, a);
     put(&x->spare, r);
 }
 
-/* Ends a received frame, and then the copies of its message that arrived meanwhile. */
-static void end_copies(struct security *x, struct request *r, const struct answer *a) {
-    end_verify(x, r, a);
+/* An answer counts for the copies of its message that arrived meanwhile too. */
+static void end_copies(struct security *x, const struct request *r, const struct answer *a) {
     for (size_t k = 0; k < x->verifies.count;) {
         if (is_same_message(x->verifies.all[k], r)) {
             end_request(x, take(&x->verifies, k), a);
@@ -80,54 +91,87 @@ static void end_copies(struct security *x, struct request *r, const struct answe
             k++;
         }
     }
-    put(&x->spare, r);
 }
 
 /* ---- questions */
 
-static bool is_asked(const struct security *x, const struct request *r) {
+static size_t count_asked(const struct security *x, enum request_kind kind) {
+    size_t count = 0;
     for (size_t k = 0; k < x->asked.count; k++) {
-        if (!x->asked.all[k]->signs && is_same_message(x->asked.all[k], r)) {
+        count += x->asked.all[k]->kind == kind;
+    }
+    return count;
+}
+
+bool requests_are_asked(const struct security *x, const struct request *r) {
+    for (size_t k = 0; k < x->asked.count; k++) {
+        if (x->asked.all[k]->kind == VERIFY && is_same_message(x->asked.all[k], r)) {
             return true;
         }
     }
     return false;
 }
 
-/* The request that goes to the entity next, or NULL. A copy of a message that is with it waits. */
-static struct request *next_of(struct security *x) {
-    if (x->asked.count == ASKED) {
-        return NULL;
-    }
-    if (x->signs.count != 0) {
-        return take(&x->signs, 0);
-    }
-    if (x->verifies_asked == VERIFIES_ASKED) {
-        return NULL;
-    }
-    for (size_t k = 0; k < x->verifies.count; k++) {
-        if (!is_asked(x, x->verifies.all[k])) {
-            return take(&x->verifies, k);
-        }
-    }
-    return NULL;
+/* Whether the entity may have one more own packet, however many received frames it has. */
+static bool may_sign(const struct security *x) {
+    return x->asked.count - count_asked(x, PROBE) < ASKED
+        && count_asked(x, SIGN) < x->pace.window;
 }
 
-static void ask(struct security *x, struct request *r) {
+static bool may_verify(const struct security *x) {
+    return x->asked.count - count_asked(x, PROBE) < x->pace.window;
+}
+
+/* The request that goes to the entity next, or NULL. A copy of a message that is with it waits. */
+static struct request *next_of(struct security *x, uint64_t now) {
+    if (x->signs.count != 0 && may_sign(x)) {
+        return take(&x->signs, 0);
+    }
+    if (x->verifies.count == 0 || !may_verify(x)) {
+        return NULL;
+    }
+    size_t k = waiting_next(x, now);
+    if (k == x->verifies.count) {
+        return NULL;
+    }
+    senders_ask(x->senders, x->verifies.all[k]->frame + SENDER, ++x->turns, now);
+    return take(&x->verifies, k);
+}
+
+static void ask(struct security *x, struct request *r, uint64_t now) {
     static char text[DATAGRAM_MAX];
+    if (x->asked.count == 0) {
+        x->heard_at = now;
+        x->probed = false;
+    }
     r->id = ++x->last_id;
-    r->until = clock_now() + x->timeout;
-    size_t n = r->signs ? datagram_sign(text, r->id, r->frame, r->length)
-                        : datagram_verify(text, r->id, r->frame, r->length, r->at);
-    x->verifies_asked += !r->signs;
+    r->asked_at = now;
+    r->asked_micros = clock_micros();
+    r->window = x->pace.window;
+    r->until = now + pace_timeout(&x->pace);
+    size_t n = r->kind == SIGN ? datagram_sign(text, r->id, r->frame, r->length)
+                               : datagram_verify(text, r->id, r->frame, r->length, r->at);
     put(&x->asked, r);
     entity_send(&x->entity, text, n);
 }
 
 void requests_ask(struct security *x) {
-    for (struct request *r; security_is_up(x) && (r = next_of(x)) != NULL;) {
-        ask(x, r);
+    uint64_t now = clock_now();
+    for (struct request *r; security_is_up(x) && (r = next_of(x, now)) != NULL;) {
+        ask(x, r, now);
     }
+}
+
+/* Asks about a message that no entity accepts. Whatever it answers, it lives. */
+void requests_probe(struct security *x) {
+    static const uint8_t frame[BASIC_END + 1] = { [12] = 0x89, 0x47, 0x12, [17] = 1 };
+    uint64_t now = clock_now();
+    if (count_asked(x, PROBE) < PROBES) {
+        struct request *r = make(x, PROBE, frame, sizeof frame);
+        r->at = now;
+        ask(x, r, now);
+    }
+    x->probed = true;
 }
 
 /* The station's own packet. False: there is no place for it, or no entity. */
@@ -136,28 +180,34 @@ bool requests_sign(struct security *x, const uint8_t *frame, size_t length, stru
         x->counts.unsigned_packets++;
         return false;
     }
-    struct request *r = make(x, true, frame, length);
+    struct request *r = make(x, SIGN, frame, length);
     r->held = h;
     put(&x->signs, r);
     requests_ask(x);
     return true;
 }
 
+static void drop(struct security *x, size_t k) {
+    put(&x->spare, take(&x->verifies, k));
+    x->counts.overrun++;
+}
+
 void requests_verify(struct security *x, const struct received *got) {
-    if (x->verifies.count == VERIFIES) {
-        put(&x->spare, take(&x->verifies, 0));
-        x->counts.overrun++;
-    }
-    struct request *r = make(x, false, got->octets, got->length);
+    uint64_t now = clock_now();
+    struct request *r = make(x, VERIFY, got->octets, got->length);
     r->at = got->at;
     r->hash = kept_hash(part_of(r), part_length(r));
-    const struct answer *a = kept_find(x->kept, part_of(r), part_length(r), clock_now());
+    const struct answer *a = kept_find(x->kept, r->hash, part_of(r), part_length(r), now);
     if (a != NULL) {
         end_request(x, r, a);
-    } else {
-        put(&x->verifies, r);
-        requests_ask(x);
+        return;
     }
+    waiting_judge(x, r, now);
+    put(&x->verifies, r);
+    if (x->verifies.count > VERIFIES) {
+        drop(x, waiting_worst(x));
+    }
+    requests_ask(x);
 }
 
 /* ---- answers */
@@ -171,7 +221,7 @@ static bool agrees(const uint8_t *message, size_t n, const uint8_t *plain, size_
 
 /* An answer to another question than that of the request is an error. */
 static void judge(const struct request *r, struct answer *a) {
-    bool good = r->signs
+    bool good = r->kind == SIGN
         ? a->kind == MESSAGE && agrees(a->octets, a->length, part_of(r), part_length(r))
         : a->kind == PLAIN_PART && agrees(part_of(r), part_length(r), a->octets, a->length);
     if (!good) {
@@ -187,6 +237,31 @@ static size_t place_of(const struct security *x, uint64_t id) {
     return k;
 }
 
+/* The entity answered a request that it got at this time. Those that were late by then are lost. */
+static void give_up_lost(struct security *x, uint64_t asked_at) {
+    for (size_t k = 0; k < x->asked.count;) {
+        const struct request *r = x->asked.all[k];
+        if (r->until <= asked_at && (r->late || r->kind == PROBE)) {
+            end_request(x, take(&x->asked, k), NULL);
+        } else {
+            k++;
+        }
+    }
+}
+
+static void end_asked(struct security *x, struct request *r, struct answer *a) {
+    judge(r, a);
+    if (r->kind == VERIFY) {
+        senders_note(x->senders, r->frame + SENDER, a->kind == PLAIN_PART, clock_now());
+        kept_put(x->kept, &x->next_kept, r->hash, part_of(r), part_length(r), a, clock_now());
+    }
+    decide(x, r, a);
+    if (r->kind == VERIFY) {
+        end_copies(x, r, a);
+    }
+    put(&x->spare, r);
+}
+
 void requests_take_answer(struct security *x, struct answer *a) {
     size_t k = place_of(x, a->id);
     if (k == x->asked.count) {
@@ -194,44 +269,50 @@ void requests_take_answer(struct security *x, struct answer *a) {
         return;
     }
     struct request *r = take(&x->asked, k);
-    judge(r, a);
-    if (r->signs) {
-        end_request(x, r, a);
-        return;
-    }
-    x->verifies_asked--;
-    kept_put(x->kept, &x->next_kept, part_of(r), part_length(r), a, clock_now());
-    end_copies(x, r, a);
+    bool more_wait = x->verifies.count != 0 || x->signs.count != 0;
+    x->heard_at = clock_now();
+    x->probed = x->silent = false;
+    pace_answer(&x->pace, clock_micros() - r->asked_micros, r->window, more_wait);
+    give_up_lost(x, r->asked_at);
+    end_asked(x, r, a);
 }
 
 /* ---- the end of requests */
 
-/* Requests are asked in the order of their timeouts. */
 void requests_expire(struct security *x, uint64_t now) {
-    while (x->asked.count != 0 && x->asked.all[0]->until <= now) {
-        struct request *r = take(&x->asked, 0);
-        x->verifies_asked -= !r->signs;
-        end_request(x, r, NULL);
+    for (size_t k = 0; k < x->asked.count; k++) {
+        struct request *r = x->asked.all[k];
+        if (!r->late && r->kind != PROBE && r->until <= now) {
+            decide(x, r, NULL);
+            r->late = true;
+        }
+    }
+    while (x->verifies.count != 0 && now > x->verifies.all[0]->at + VERIFIES_FOR) {
+        drop(x, 0);
     }
 }
 
-static void end_all(struct security *x, struct request_list *l) {
+static void end_list(struct security *x, struct request_list *l) {
     while (l->count != 0) {
         end_request(x, take(l, 0), NULL);
     }
 }
 
+void requests_end_waiting(struct security *x) {
+    end_list(x, &x->signs);
+    end_list(x, &x->verifies);
+}
+
 void requests_end_all(struct security *x) {
-    end_all(x, &x->asked);
-    end_all(x, &x->signs);
-    end_all(x, &x->verifies);
-    x->verifies_asked = 0;
+    end_list(x, &x->asked);
+    requests_end_waiting(x);
 }
 
 void requests_start(struct security *x) {
     x->requests = calloc(REQUESTS, sizeof *x->requests);
     x->kept = calloc(KEPT, sizeof *x->kept);
-    if (x->requests == NULL || x->kept == NULL) {
+    x->senders = calloc(SENDERS, sizeof *x->senders);
+    if (x->requests == NULL || x->kept == NULL || x->senders == NULL) {
         fail(FAILED, "out of memory");
     }
     for (size_t k = 0; k < REQUESTS; k++) {
@@ -240,10 +321,16 @@ void requests_start(struct security *x) {
 }
 
 uint64_t requests_due(const struct security *x) {
-    return x->asked.count != 0 ? x->asked.all[0]->until : UINT64_MAX;
+    uint64_t due = x->verifies.count != 0 ? x->verifies.all[0]->at + VERIFIES_FOR + 1 : UINT64_MAX;
+    for (size_t k = 0; k < x->asked.count; k++) {
+        const struct request *r = x->asked.all[k];
+        due = !r->late && r->kind != PROBE && r->until < due ? r->until : due;
+    }
+    return due;
 }
 
 void requests_free(struct security *x) {
     free(x->requests);
     free(x->kept);
+    free(x->senders);
 }

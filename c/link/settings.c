@@ -21,13 +21,29 @@ static bool take_text(struct options *o, const struct setting *s, struct fault *
     return true;
 }
 
-static bool take_host_port(struct options *o, const struct setting *s, struct fault *f) {
-    return take_text(o, s, f) && host_port_of(s, f);
+static bool take_name(struct options *o, const struct setting *s, struct fault *f) {
+    return take_text(o, s, f) && (*s->value != 0 || refuse_value(s, "the value is empty", f));
+}
+
+static bool take_interface(struct options *o, const struct setting *s, struct fault *f) {
+    return take_text(o, s, f) && interface_of(s, f);
+}
+
+static bool take_socket(struct options *o, const struct setting *s, struct fault *f) {
+    return take_text(o, s, f) && socket_path_of(s, f);
+}
+
+static bool take_metrics(struct options *o, const struct setting *s, struct fault *f) {
+    return take_text(o, s, f) && (metrics_is_file(s->value) || socket_path_of(s, f));
+}
+
+static bool take_udp(struct options *o, const struct setting *s, struct fault *f) {
+    return take_text(o, s, f) && host_port_of(s, 0, f);
 }
 
 static bool take_gpsd(struct options *o, const struct setting *s, struct fault *f) {
     o->gpsd = s->value != NULL ? s->value : "127.0.0.1:2947";
-    return s->value == NULL || host_port_of(s, f);
+    return s->value == NULL || host_port_of(s, 1, f);
 }
 
 static bool take_peer(struct options *o, const struct setting *s, struct fault *f) {
@@ -35,7 +51,7 @@ static bool take_peer(struct options *o, const struct setting *s, struct fault *
         return refuse_value(s, "more than 16 peers", f);
     }
     o->to[o->peer_count++] = s->value;
-    return host_port_of(s, f);
+    return host_port_of(s, 1, f);
 }
 
 static bool read_number(const struct setting *s, uint64_t *number, struct fault *f) {
@@ -61,24 +77,27 @@ static bool take_type(struct options *o, const struct setting *s, struct fault *
     return take_number(o, s, f);
 }
 
-static bool take_security_timeout(struct options *o, const struct setting *s, struct fault *f) {
-    o->timed_security = true;
+static bool take_security_number(struct options *o, const struct setting *s, struct fault *f) {
+    o->tuned_security = true;
     return take_number(o, s, f);
 }
 
 static bool take_port(struct options *o, const struct setting *s, struct fault *f) {
     uint64_t number;
-    if (o->port_count == PORTS) {
-        return refuse_value(s, "more than 64 ports", f);
-    }
     if (!read_number(s, &number, f)) {
         return false;
     }
-    if (has_port(o, (uint16_t)number)) {
+    if (ports_have(&o->ports, (uint16_t)number)) {
         return refuse_value(s, "the port is already listed", f);
     }
-    o->ports[o->port_count++] = (uint16_t)number;
-    return true;
+    return ports_add(&o->ports, (uint16_t)number) || refuse_value(s, "more than 64 ports", f);
+}
+
+static bool take_limited(struct options *o, const struct setting *s, struct fault *f) {
+    if (o->limited_count == LISTENERS - 1) {
+        return refuse_value(s, "more than 8 such sockets", f);
+    }
+    return rights_read(&o->limited[o->limited_count++], s, f);
 }
 
 static bool take_position(struct options *o, const struct setting *s, struct fault *f) {
@@ -91,14 +110,6 @@ static bool take_address(struct options *o, const struct setting *s, struct faul
     return address_of(s, &o->station.address, f);
 }
 
-bool has_port(const struct options *o, uint16_t port) {
-    size_t k = 0;
-    while (k < o->port_count && o->ports[k] != port) {
-        k++;
-    }
-    return k < o->port_count;
-}
-
 #define FIELD(name) offsetof(struct options, name)
 #define FLAG(name, field) { name, no_argument, take_flag, field, 0, 0, 0 }
 #define TEXT(name, take, field) { name, required_argument, take, field, 0, 0, 0 }
@@ -107,9 +118,9 @@ bool has_port(const struct options *o, uint16_t port) {
 #define LIMIT(name, field) NUMBER(name, take_number, field, 0, GEOSTATION_RATE_MAX, 1)
 
 static const struct row rows[] = {
-    TEXT("interface", take_text, FIELD(interface)),
+    TEXT("interface", take_interface, FIELD(interface)),
     FLAG("wait-interface", FIELD(wait_interface)),
-    TEXT("udp", take_host_port, FIELD(udp)),
+    TEXT("udp", take_udp, FIELD(udp)),
     TEXT("to", take_peer, 0),
     NUMBER("forward-spread", take_number, FIELD(forward_spread), 0, 1000, 1000),
     LIMIT("forward-rate", FIELD(station.forward_rate)),
@@ -123,18 +134,23 @@ static const struct row rows[] = {
     TEXT("position", take_position, 0),
     { "gpsd", optional_argument, take_gpsd, 0, 0, 0, 0 },
     NUMBER("gps-timeout", take_number, FIELD(gps_timeout), 1, 3600, 1000),
+    FLAG("clock-synchronised", FIELD(clock_synchronised)),
+    FLAG("clock-follow", FIELD(clock_follow)),
     TEXT("address", take_address, 0),
     NUMBER("station-type", take_type, FIELD(station_type), 0, 31, 1),
     FLAG("stationary", FIELD(stationary)),
     NUMBER("capacity", take_short, FIELD(station.capacity), 1, 4096, 1),
     NUMBER("remember", take_short, FIELD(station.remember), 1, 64, 1),
     NUMBER("port", take_port, 0, 0, 65535, 1),
-    TEXT("security", take_text, FIELD(security)),
-    TEXT("security-user", take_text, FIELD(security_user)),
-    NUMBER("security-timeout", take_security_timeout, FIELD(security_timeout), 1, 10000, 1),
-    TEXT("listen", take_text, FIELD(listen)),
+    TEXT("security", take_socket, FIELD(security)),
+    TEXT("security-user", take_name, FIELD(security_user)),
+    NUMBER("security-timeout", take_security_number, FIELD(security_timeout), 1, 10000, 1),
+    NUMBER("security-workers", take_security_number, FIELD(security_workers), 1, VERIFIES_ASKED, 1),
+    TEXT("listen", take_socket, FIELD(listen)),
+    TEXT("listen-limited", take_limited, 0),
     NUMBER("client-timeout", take_number, FIELD(client_timeout), 0, 86400, 1000),
-    TEXT("metrics", take_text, FIELD(metrics)),
+    TEXT("metrics", take_metrics, FIELD(metrics)),
+    TEXT("audit", take_name, FIELD(audit)),
 };
 
 _Static_assert(sizeof rows / sizeof *rows == SETTINGS, "the number of settings");

@@ -1,4 +1,4 @@
-/* UNIX sockets at a path. One that listens gives access to its group. */
+/* UNIX sockets at a path. */
 #define _GNU_SOURCE
 #include "parts.h"
 #include <errno.h>
@@ -17,7 +17,7 @@ struct sockaddr_un unix_address(const char *option, const char *path) {
     return at;
 }
 
-int listen_at(const char *option, const char *path, int waiting) {
+int listen_at(const char *option, const char *path, int waiting, bool everyone) {
     struct sockaddr_un at = unix_address(option, path);
     struct stat old;
     int fd = socket(AF_UNIX, SOCK_STREAM | SOCK_NONBLOCK | SOCK_CLOEXEC, 0);
@@ -27,7 +27,7 @@ int listen_at(const char *option, const char *path, int waiting) {
     if (errno == ECONNREFUSED && lstat(path, &old) == 0 && S_ISSOCK(old.st_mode)) {
         unlink(path);
     }
-    mode_t mask = umask(0117);
+    mode_t mask = umask(everyone ? 0111 : 0117);
     if (fd < 0 || bind(fd, (struct sockaddr *)&at, sizeof at) != 0 || listen(fd, waiting) != 0) {
         fail(FAILED, "%s: %m", path);
     }

@@ -1,77 +1,72 @@
 /* The proved station: received frames, and its beacons. */
 #define _GNU_SOURCE
 #include "parts.h"
-#include <inttypes.h>
 
-enum { SHORTEST = 60 /* octets: Ethernet pads shorter frames with zeros */ };
+enum {
+    SHORTEST = 60, /* octets: Ethernet pads shorter frames with zeros */
+    MAC_AT = 6,    /* of a frame's sender */
+};
 
 static uint16_t draw_jitter(void) { return (uint16_t)draw_below(GEOSTATION_JITTER_MAX + 1); }
 
 /* Call it only after the station's own packets and restarts. */
 void station_plan_beacon(struct station *s) {
-    s->beacon_at = geostation_beacon_at(s->handle, s->jitter);
+    s->beacon_at = geostation_beacon_at(s->beacons, s->jitter);
 }
 
-static geostation_handle *make(const struct geostation_config *c) {
-    geostation_handle *handle;
-    int status = geostation_new_from_config(&handle, c);
-    if (status == GEOSTATION_BAD_ARGUMENT) {
-        fail(BAD_ARGUMENTS, "--address %016" PRIx64 ": %s", c->address,
-             geostation_status_text(status));
-    }
-    if (status != GEOSTATION_OK) {
-        fail(FAILED, "out of memory: --capacity %u and --remember %u need %u kB of the limit "
-             "(ulimit -v, MemoryMax=)", c->capacity, c->remember,
-             (31432 + c->capacity * (58 + 2u * c->remember)) / 1000 + 1);
-    }
-    return handle;
-}
-
-/* The library limits no line, so own packets have a handle of their own. */
-static void make_handles(struct station *s, const struct geostation_config *wanted) {
-    struct geostation_config c = *wanted;
-    c.own_rate = 0;
-    s->handle = make(&c);
-    c.capacity = c.remember = 1;
-    c.forward_rate = c.source_rate = c.hop_cap = c.deliver_once = 0;
-    s->probe = make(&c);
-    c.own_rate = wanted->own_rate;
-    s->own = make(&c);
-}
-
-void station_open(struct station *s, const struct options *o, uint64_t now) {
-    make_handles(s, &o->station);
-    s->address = o->station.address;
-    s->last = now;
+void station_open(struct station *s, const struct options *o) {
+    uint64_t moment = clock_moment();
+    s->config = o->station;
     /* The first sequence number is random: others would ignore numbers that they remember. */
-    ignore_status(geostation_restart(s->handle, now, draw()));
-    for (size_t k = 0; k < o->port_count; k++) {
-        int status = geostation_open_port(s->handle, now, o->ports[k]);
+    handles_make(s, moment, draw());
+    s->address = o->station.address;
+    s->last = moment;
+    conflict_start(&s->conflict);
+    for (size_t k = 0; k < o->ports.count; k++) {
+        uint16_t port = o->ports.all[k];
+        int status = geostation_open_port(s->handle, moment, port);
         if (status != GEOSTATION_OK) {
-            fail(BAD_ARGUMENTS, "--port %u: %s", o->ports[k], geostation_status_text(status));
+            fail(BAD_ARGUMENTS, "--port %u: %s", port, geostation_status_text(status));
         }
     }
     if (s->place->known) {
-        place_tell(s->place, s->handle, now);
+        place_tell(s->place, s, clock_now());
     }
     s->jitter = draw_jitter();
     station_plan_beacon(s);
 }
 
+/* A handle accepts no moment that is earlier than its last one. */
+void station_follow_step(struct station *s, uint64_t now) {
+    uint64_t moment = clock_moment_at(now);
+    if (moment < s->last) {
+        handles_renew(s, moment);
+    }
+    s->last = moment;
+    conflict_start(&s->conflict);
+    if (s->place->fixed) {
+        s->place->timestamp = (uint32_t)moment;
+    }
+    if (s->place->known) {
+        place_tell(s->place, s, now);
+    }
+    station_plan_beacon(s);
+}
+
 /* Ports that applications opened or closed meanwhile stay as they are. */
-void station_change_ports(struct station *s, const struct options *old, const struct options *new) {
-    uint64_t now = clock_now();
-    for (size_t k = 0; k < old->port_count; k++) {
-        if (!has_port(new, old->ports[k])) {
-            ignore_status(geostation_close_port(s->handle, now, old->ports[k]));
+void station_change_ports(struct station *s, const struct ports *old, const struct ports *new) {
+    s->last = clock_moment();
+    for (size_t k = 0; k < old->count; k++) {
+        if (!ports_have(new, old->all[k])) {
+            ignore_status(geostation_close_port(s->handle, s->last, old->all[k]));
+            clients_forget_port(s->clients, old->all[k]);
         }
     }
-    for (size_t k = 0; k < new->port_count; k++) {
-        if (!has_port(old, new->ports[k])) {
-            ignore_status(geostation_open_port(s->handle, now, new->ports[k]));
+    for (size_t k = 0; k < new->count; k++) {
+        if (!ports_have(old, new->all[k])) {
+            ignore_status(geostation_open_port(s->handle, s->last, new->all[k]));
         }
     }
-    s->last = now;
 }
 
 static void count_padded(struct station *s, const struct received *r) {
@@ -91,19 +86,29 @@ static void forward(struct station *s, size_t length) {
     }
 }
 
+static void look_for_conflict(struct station *s, const struct received *r,
+                              const struct geostation_reception *got) {
+    if (got->ignored == GEOSTATION_OWN_SOURCE) {
+        size_t n = geostation_frame_length(r->octets, r->length);
+        conflict_look(s, got, r->octets + MAC_AT, r->octets + BASIC_END, n - BASIC_END);
+    }
+}
+
 /* The station's times never go back. So a frame that waited is processed at the time of the last
  * call, but its event has the time at which the kernel received it. */
 static void take_unsecured(struct station *s, const struct received *r) {
     struct geostation_reception got;
-    s->last = r->at > s->last ? r->at : s->last;
+    uint64_t moment = clock_moment_at(r->at);
+    s->last = moment > s->last ? moment : s->last;
     ignore_status(geostation_receive(s->handle, s->last, r->octets, r->length, &got, s->frame,
                                      sizeof s->frame));
     forward(s, got.relay_length);
+    look_for_conflict(s, r, &got);
     count_padded(s, r);
     if (got.delivered) {
         struct text t;
-        event_delivered(&t, r->at, &got, r->octets + got.payload_start, NULL);
-        clients_tell(s->clients, &t, s->last);
+        event_delivered(&t, moment, &got, r->octets + got.payload_start, NULL);
+        clients_deliver(s->clients, &t, got.port);
     }
 }
 
@@ -111,14 +116,15 @@ static void take_unsecured(struct station *s, const struct received *r) {
 void station_take_verified(struct station *s, const uint8_t *frame, size_t length,
                            const struct answer *a) {
     struct geostation_reception got;
-    s->last = clock_now();
+    s->last = clock_moment();
     ignore_status(geostation_receive_verified(s->handle, s->last, frame, length, a->octets,
                                               a->length, &got, s->frame, sizeof s->frame));
     forward(s, got.relay_length);
+    conflict_look(s, &got, frame + MAC_AT, a->octets, a->length);
     if (got.delivered) {
         struct text t;
         event_delivered(&t, s->last, &got, a->octets + got.payload_start, a);
-        clients_tell(s->clients, &t, s->last);
+        clients_deliver(s->clients, &t, got.port);
     }
 }
 
@@ -135,37 +141,27 @@ void station_hear(struct station *s, const struct received *r) {
 
 /* With security, nothing is sent without the entity. */
 bool station_may_send(const struct station *s) {
-    return place_is_usable(s->place) && (s->security == NULL || security_is_up(s->security));
-}
-
-static void send_beacon(struct station *s, size_t n) {
-    if (s->security != NULL) {
-        (void)requests_sign(s->security, s->frame, n, NULL);
-    } else {
-        (void)link_send(s->link, s->frame, n);
-    }
+    return s->link->up && place_is_usable(s->place) && steps_refusal(s->steps) == NULL
+        && (s->security == NULL || security_is_up(s->security));
 }
 
 void station_beacon(struct station *s, uint64_t now) {
     size_t n = 0;
-    if (!station_may_send(s) || now < s->beacon_at) {
+    uint64_t moment = clock_moment_at(now);
+    if (!station_may_send(s) || moment < s->beacon_at) {
         return;
     }
-    s->last = now;
-    place_refresh(s->place, s->handle, now);
-    ignore_status(geostation_tick(s->handle, now, s->jitter, s->frame, sizeof s->frame, &n));
+    s->last = moment;
+    place_refresh(s->place, s, now);
+    ignore_status(geostation_tick(s->beacons, moment, s->jitter, s->frame, sizeof s->frame, &n));
     if (n != 0) {
-        send_beacon(s, n);
         s->jitter = draw_jitter();
     }
     station_plan_beacon(s);
-    if (s->beacon_at <= now) {
-        s->beacon_at = now + 1; /* no memory: try again a bit later */
+    if (s->beacon_at <= moment) {
+        s->beacon_at = moment + 1; /* no memory: try again a bit later */
     }
-}
-
-void station_close(struct station *s) {
-    geostation_free(s->own);
-    geostation_free(s->probe);
-    geostation_free(s->handle);
+    if (n != 0) {
+        (void)own_send(s, n, GEOSTATION_BEACON, NULL); /* if it fails, it is tried again */
+    }
 }

@@ -2,7 +2,9 @@
 #define _GNU_SOURCE
 #include "parts.h"
 #include <errno.h>
+#include <net/if.h>
 #include <netdb.h>
+#include <pwd.h>
 #include <stdio.h>
 #include <stdlib.h>
 #include <string.h>
@@ -32,12 +34,37 @@ bool number_of(const struct setting *s, uint64_t least, uint64_t most, uint64_t 
     return refuse_value(s, why, f);
 }
 
+/* The lowest bit of a MAC's first octet says that it is a group's. */
 bool address_of(const struct setting *s, uint64_t *out, struct fault *f) {
     if (strlen(s->value) != 16 || strspn(s->value, "0123456789abcdefABCDEF") != 16) {
         return refuse_value(s, "not 16 hexadecimal digits", f);
     }
     *out = strtoull(s->value, NULL, 16);
+    return (*out >> 40 & 1) == 0
+        || refuse_value(s, "its last 48 bits are a MAC address of a group", f);
+}
+
+/* Is it a name that the kernel allows? */
+bool interface_of(const struct setting *s, struct fault *f) {
+    size_t length = strlen(s->value);
+    if (length == 0 || length >= IFNAMSIZ || strcspn(s->value, "/: \t\n\v\f\r") != length
+        || strcmp(s->value, ".") == 0 || strcmp(s->value, "..") == 0) {
+        return refuse_value(s, "not a name of an interface: 1 to 15 bytes without blanks, / and :",
+                            f);
+    }
     return true;
+}
+
+bool socket_path_of(const struct setting *s, struct fault *f) {
+    size_t length = strlen(s->value);
+    return (length != 0 && length < sizeof((struct sockaddr_un *)0)->sun_path)
+        || refuse_value(s, "not a path of 1 to 107 bytes", f);
+}
+
+bool user_named(const char *name, uid_t *user) {
+    const struct passwd *found = getpwnam(name);
+    *user = found != NULL ? found->pw_uid : (uid_t)-1;
+    return found != NULL;
 }
 
 /* Reads degrees with up to 7 decimals exactly, in 0.1 microdegree, and moves *text behind them. */
@@ -85,8 +112,8 @@ static bool split(const char *text, char *host, const char **port) {
     return true;
 }
 
-/* Is it HOST:PORT? The host is looked up later, by resolve_addresses. */
-bool host_port_of(const struct setting *s, struct fault *f) {
+/* Is it HOST:PORT, with a port from `least`? The host is looked up later, by resolve_addresses. */
+bool host_port_of(const struct setting *s, uint64_t least, struct fault *f) {
     char host[256];
     const char *port;
     uint64_t number;
@@ -94,35 +121,41 @@ bool host_port_of(const struct setting *s, struct fault *f) {
         return refuse_value(s, "not HOST:PORT; an IPv6 address is written [ADDRESS]:PORT", f);
     }
     struct setting of_port = { s->file, s->line, s->name, port, NULL };
-    return number_of(&of_port, 0, 65535, &number, f);
+    return number_of(&of_port, least, 65535, &number, f);
 }
 
-static void resolve(const char *option, const char *text, int family, int type,
-                    struct address *out) {
+static int look_up(const char *text, int family, int type, struct address *out) {
     char host[256] = "";
     const char *port = "";
     struct addrinfo hints = { .ai_family = family, .ai_socktype = type,
                               .ai_flags = AI_NUMERICSERV }, *found;
     (void)split(text, host, &port);
     int why = getaddrinfo(host, port, &hints, &found);
-    if (why != 0) {
-        fail(why == EAI_NONAME ? BAD_ARGUMENTS : FAILED, "--%s %s: %s", option, text,
-             gai_strerror(why));
+    if (why == 0) {
+        memcpy(&out->at, found->ai_addr, found->ai_addrlen);
+        out->length = found->ai_addrlen;
+        freeaddrinfo(found);
     }
-    memcpy(&out->at, found->ai_addr, found->ai_addrlen);
-    out->length = found->ai_addrlen;
-    freeaddrinfo(found);
+    return why;
+}
+
+/* Fails if a look-up did. A check of the options ignores what may be different later. */
+static void judge(const struct options *o, const char *option, const char *text, int why) {
+    bool later = why == EAI_AGAIN || why == EAI_FAIL || why == EAI_MEMORY || why == EAI_SYSTEM;
+    if (why != 0 && !(later && o->check)) {
+        fail(later ? FAILED : BAD_ARGUMENTS, "--%s %s: %s", option, text, gai_strerror(why));
+    }
 }
 
 /* The link and its multicast groups use IPv4; gpsd may use IPv4 or IPv6. */
 void resolve_addresses(struct options *o) {
     if (o->udp != NULL) {
-        resolve("udp", o->udp, AF_INET, SOCK_DGRAM, &o->local);
+        judge(o, "udp", o->udp, look_up(o->udp, AF_INET, SOCK_DGRAM, &o->local));
     }
     for (size_t k = 0; k < o->peer_count; k++) {
-        resolve("to", o->to[k], AF_INET, SOCK_DGRAM, &o->peers[k]);
+        judge(o, "to", o->to[k], look_up(o->to[k], AF_INET, SOCK_DGRAM, &o->peers[k]));
     }
     if (o->gpsd != NULL) {
-        resolve("gpsd", o->gpsd, AF_UNSPEC, SOCK_STREAM, &o->gpsd_at);
+        judge(o, "gpsd", o->gpsd, look_up(o->gpsd, AF_UNSPEC, SOCK_STREAM, &o->gpsd_at));
     }
 }

@@ -120,10 +120,10 @@ def check_rust_structs(sources):
     groups = {it.name: it.type for it in structs_of(sources)["counts"] if isinstance(it.type, list)}
     path = f"{RUST}/station.rs"
     named = re.findall(r"let \[([\w, ]+)\] = \w+\.(\w+);", sources.text(path))
-    told = {group: row.split(", ") for row, group in named}
+    listed = {group: row.split(", ") for row, group in named}
     for group, fields in groups.items():
-        if told.get(group) != (wanted := [it.name for it in fields]):
-            wrong.append(f"{path}: {group} is {told.get(group)}, but {wanted} in {HEADER}")
+        if listed.get(group) != (wanted := [it.name for it in fields]):
+            wrong.append(f"{path}: {group} is {listed.get(group)}, but {wanted} in {HEADER}")
     return wrong
 
 

@@ -1,4 +1,5 @@
-"""Follows the links of README, CONTRIBUTING and docs/ to files and headings of this repository.
+"""Follows the links of README, CONTRIBUTING, SECURITY and docs/ to files and headings of this
+repository.
 
 A link to another site is ignored: nothing is fetched. In docs/proof and in docs/ARCHITECTURE.md
 each name in backquotes that has an underscore is a function or a definition. It has to occur in a
@@ -16,7 +17,8 @@ SOURCES = ("*.rt", "*.antt")
 
 def kept_pages():
     """The pages of the repository."""
-    return [TOP / "README.md", TOP / "CONTRIBUTING.md", *sorted((TOP / "docs").rglob("*.md"))]
+    top = [TOP / f"{name}.md" for name in ("README", "CONTRIBUTING", "SECURITY")]
+    return [*top, *sorted((TOP / "docs").rglob("*.md"))]
 
 
 def anchors(page):

@@ -52,10 +52,10 @@ PARTS = {
 }
 # The constants that the body of each accessor names.
 ACCESSORS = {
-    "lifetime": {"LIFETIME"},
+    "basic_in": {"LIFETIME", "HOPS_LEFT"},
     "class": {"CLASS"},
     "mobile": {"FLAGS"},
-    "hops": {"HOPS_LEFT", "MAX_HOPS"},
+    "hops": {"MAX_HOPS"},
     "kind": {"TYPE"},
     "shape": {"TYPE"},
     "number": {"NUMBER"},
@@ -68,7 +68,7 @@ ACCESSORS = {
 FUNCTION = re.compile(r"^ *(?:pub(?:\(crate\))? )?fn (\w+).*?^ *\{\n(.*?)^ *\}$", re.M | re.S)
 # The octets of what reads or writes a field by its constant.
 CALLS = re.compile(
-    r"\b(?:(octet_at)|(?:u|write_u)(16|32|64)(?:_at|_in)?|(?:pass_number|check_octets)"
+    r"\b(?:(octet_(?:at|in))|(?:u|write_u)(16|32|64)(?:_at|_in)?|(?:pass_number|check_octets)"
     r"(?=\(\w+, (?:at \+ )?[A-Z_]+, (\d+)\)))\(&?[\w.]+, (?:at \+ )?([A-Z_]+)\b"
 )
 # A step of a format: what it reads, and the names that it gives to that.
@@ -188,7 +188,7 @@ def check_accessors(sources):
     for path in find(CODE):
         for name, body in FUNCTION.findall(sources.text(path)):
             read = names.intersection(re.findall(r"\b[A-Z_]+\b", body))
-            if re.search(r"octets(?:\.plain)?\[\d", body):
+            if re.search(r"\boctets\[\d", body):
                 wrong.append(f"{path}: {name} names an octet by its number")
             if name in ACCESSORS and read:
                 seen.add(name)

@@ -11,6 +11,8 @@ import subprocess
 import tempfile
 from pathlib import Path
 
+from cut_rows import SHAPES
+from file_rows import classic
 from octets_table import TYPES
 from packet_rows import LINK
 
@@ -36,32 +38,31 @@ KEYS = {
     "port": "port",
     "info": "info",
 }
-SHAPES = ["circle", "rectangle", "ellipse"]
 
 
-def of_line(told):
+def of_line(line):
     """The values of a line of JSON."""
-    values = {key: int(told[word]) for word, key in KEYS.items() if word in told}
-    if "address" in told:
-        values["address"] = int(told["address"], 16)
-    if "shape" in told:
-        values["sub_type"] = SHAPES.index(told["shape"])
-    if "payload" in told:
-        values["payload"] = bytes.fromhex(told["payload"])
+    values = {key: int(line[word]) for word, key in KEYS.items() if word in line}
+    if "address" in line:
+        values["address"] = int(line["address"], 16)
+    if "shape" in line:
+        values["sub_type"] = SHAPES.index(line["shape"])
+    if "payload" in line:
+        values["payload"] = bytes.fromhex(line["payload"])
     return values
 
 
 def line_of(kind, values):
     """The line of JSON of a packet's values, as far as it says them."""
-    told = {"from": LINK[6:12].hex(), "to": LINK[:6].hex(), "kind": kind}
-    told["address"] = f"{values['address']:016x}"
-    told |= {word: values[key] for word, key in KEYS.items() if key in values}
-    told |= {word: bool(told[word]) for word in ("pai", "mobile")}
+    line = {"from": LINK[6:12].hex(), "to": LINK[:6].hex(), "kind": kind}
+    line["address"] = f"{values['address']:016x}"
+    line |= {word: values[key] for word, key in KEYS.items() if key in values}
+    line |= {word: bool(line[word]) for word in ("pai", "mobile")}
     if kind in ("gbc", "gac"):
-        told["shape"] = SHAPES[values["sub_type"]]
+        line["shape"] = SHAPES[values["sub_type"]]
     if kind != "beacon":
-        told["payload"] = values["payload"].hex()
-    return told
+        line["payload"] = values["payload"].hex()
+    return line
 
 
 def compare(where, table, packets, read, left_out=()):
@@ -213,9 +214,9 @@ def check_link_frames(table, sources, packets):
     made = []
     for kind, values, octets in packets:
         frame = LINK + octets
-        told = module.vector_of(frame)
+        vector = module.vector_of(frame)
         for word, key in words.items():
-            if told[word] != values[key]:
+            if vector[word] != values[key]:
                 wrong.append(f"{path}: {key} of a {kind} is another")
         if (module.kind_of(frame), module.mobile_of(frame)) != (kind, values["mobile"]):
             wrong.append(f"{path}: type or mobile of a {kind} is another")
@@ -484,11 +485,12 @@ def check_twin(table, sources, packets):
     """The second program of bench/: its reader and its writer of packets."""
     path = "bench/twin/packets.rs"
     try:
-        told = run_twin(sources, "".join((LINK + octets).hex() + "\n" for _, _, octets in packets))
+        typed = "".join((LINK + octets).hex() + "\n" for _, _, octets in packets)
+        printed = run_twin(sources, typed)
     except RuntimeError as why:
         return [f"{path}: {why}"]
     found, wrong = {}, []
-    for (kind, _, octets), it in zip(packets, told):
+    for (kind, _, octets), it in zip(packets, printed):
         if not it:
             return [f"{path}: a {kind} is refused"]
         if "area" in it:
@@ -508,12 +510,9 @@ def check_twin(table, sources, packets):
 @functools.lru_cache(maxsize=None)
 def wireshark(octets):
     """What tshark reads in frames of packets, as JSON."""
-    header = bytes.fromhex("d4c3b2a1" "0200" "0400" "00000000" "00000000" "ffff0000" "01000000")
-    record = b"".join(
-        bytes(8) + 2 * len(LINK + packet).to_bytes(4, "little") + LINK + packet for packet in octets
-    )
+    capture = classic(False, *((0, 0, LINK + packet) for packet in octets))
     words = ["tshark", "-r", "-", "-T", "json", "-x"]
-    run = subprocess.run(words, input=header + record, capture_output=True)
+    run = subprocess.run(words, input=capture, capture_output=True)
     return json.loads(run.stdout) if run.stdout else []
 
 

@@ -3,7 +3,7 @@
     python3 checks/lib/station_memory.py LINES
 
 LINES are those of c/memory.c. The figures are read from the page, and the daemon's message
-(c/link/station.c) has to have the same formula. Prints what was compared, or what differs.
+(c/link/handles.c) has to have the same formula. Prints what was compared, or what differs.
 """
 
 import re
@@ -23,7 +23,9 @@ FORMULA = re.compile(
 EXAMPLES = re.compile(
     r"With the defaults that is (\d+) bytes; with capacity (\d+) and `remember` (\d+) it is (\d+)\."
 )
-BLOCKS = re.compile(r"The limit of sources takes (\d+) bytes of it, and `deliver_once` (\d+)\.")
+BLOCKS = re.compile(
+    r"The limit of sources takes twice (\d+) bytes of it, and `deliver_once` (\d+)\."
+)
 OF_THE_DAEMON = re.compile(r"\((\d+) \+ c->capacity \* \((\d+) \+ (\d+)u \* c->remember\)\)")
 
 
@@ -38,8 +40,8 @@ def compare(rows):
     """Yields what differs in the rows: capacity, remember, bytes, and the size of each block."""
     *figures, word = found(FORMULA, "docs/C.md")
     base, each, number = map(int, figures)
-    if found(OF_THE_DAEMON, "c/link/station.c") != tuple(figures):
-        yield "docs/C.md and c/link/station.c have other formulas"
+    if found(OF_THE_DAEMON, "c/link/handles.c") != tuple(figures):
+        yield "docs/C.md and c/link/handles.c have other formulas"
     for capacity, remember, total, *blocks in rows:
         wanted = base + capacity * (each + number * remember)
         if (total, len(blocks)) != (wanted, NUMBERS.index(word)):
@@ -52,6 +54,9 @@ def compare(rows):
     for size in map(int, found(BLOCKS, "docs/C.md")):
         if any(size not in blocks for _, _, _, *blocks in rows):
             yield f"docs/C.md speaks of {size} bytes, and no block has them: {rows[0][3:]}"
+    sources, _ = map(int, found(BLOCKS, "docs/C.md"))
+    if any(blocks.count(sources) != 2 for _, _, _, *blocks in rows):
+        yield f"docs/C.md speaks of two blocks of {sources} bytes: {rows[0][3:]}"
 
 
 def main(path):

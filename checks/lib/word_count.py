@@ -14,13 +14,13 @@ FENCE = re.compile(r"\s*(```|~~~)")
 
 
 def prose(text):
-    """The lines of a page that are not in a block of code."""
+    """The lines of a page that are not in a block of code, with their numbers."""
     inside = False
-    for line in text.splitlines():
+    for number, line in enumerate(text.splitlines(), 1):
         if FENCE.match(line):
             inside = not inside
         elif not inside:
-            yield line
+            yield number, line
 
 
 def by_hand():
@@ -31,5 +31,6 @@ def by_hand():
     )  # fmt: skip
     paths = [TOP / name for name in listed.stdout.split() if not name.startswith("cases/")]
     pages = [path for path in paths if path.exists() and not is_written(path)]
-    words = (word for path in pages for line in prose(path.read_text()) for word in line.split())
+    lines = (line for path in pages for _, line in prose(path.read_text()))
+    words = (word for line in lines for word in line.split())
     return sum(1 for word in words if re.search(r"\w", word))

@@ -4,6 +4,7 @@ import socket
 import subprocess
 import sys
 import time
+from pathlib import Path
 
 import frames
 from net import NO_LIMITS, PATIENCE, Daemon
@@ -51,8 +52,8 @@ def udp_command(number, port, *to, place=PLACE):
             f"3c0002000000000{number}", *place, "--port", "2002", *NO_LIMITS]
 
 
-def udp(number, port, *to, place=PLACE):
-    return Daemon(udp_command(number, port, *to, place=place))
+def udp(number, port, *to, place=PLACE, more=()):
+    return Daemon([*udp_command(number, port, *to, place=place), *more])
 
 
 def run(*arguments, **keys):
@@ -66,6 +67,11 @@ def until(test, why):
         assert time.monotonic() < limit, why
         time.sleep(0.02)
     return found
+
+
+def write(path, text):
+    Path(path).write_text(text)
+    return path
 
 
 def gbc(k, payload=b"x"):

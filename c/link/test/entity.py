@@ -12,6 +12,7 @@ from net import PATIENCE
 
 SECURED = b"\x12"
 PLAIN_AT = 18
+PROBE = "00"  # the message by which a daemon asks whether its entity lives
 
 
 def message_of(plain):
@@ -44,18 +45,39 @@ class Entity:
         return json.loads(datagram)
 
     def request(self):
-        """The next request. Beacons are signed meanwhile."""
+        """The next request. Beacons are signed meanwhile, and probes are answered."""
         limit = time.monotonic() + PATIENCE
-        while (request := self.any_request()).get("kind") == "beacon":
-            assert time.monotonic() < limit, "no request but for beacons"
-            self.sign(request)
+        while self.serve_by_itself(request := self.any_request()):
+            assert time.monotonic() < limit, "no request but for beacons and probes"
         return request
+
+    def serve_by_itself(self, request):
+        """Whether it is a request that comes by itself, and is answered here."""
+        if request.get("kind") == "beacon":
+            self.sign(request)
+        elif request.get("message") == PROBE:
+            self.say(id=request["id"], error="no message")
+        else:
+            return False
+        return True
 
     def requests(self, count):
         return [self.request() for _ in range(count)]
 
+    def burst(self, length=0.3):
+        """The requests until none comes for so many seconds."""
+        found = []
+        self.one.settimeout(length)
+        try:
+            while True:
+                found.append(self.request())
+        except TimeoutError:
+            return found
+        finally:
+            self.one.settimeout(PATIENCE)
+
     def is_quiet(self, length=0.3):
-        """Whether no request comes for so many seconds, but for beacons."""
+        """Whether no request comes for so many seconds, but for beacons and probes."""
         self.one.settimeout(length)
         try:
             self.request()

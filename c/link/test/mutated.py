@@ -4,6 +4,7 @@ with the sanitizers.
 Each line that isn't blank has one answer, and the program ends with status 0.
 """
 
+import itertools
 import json
 import random
 import socket
@@ -23,6 +24,8 @@ RULES = [
     {"do": "receive", "frame": frames.beacon(0x1400020000000009, 5).hex()},
     {"do": "tick", "jitter": 1, "id": "a\"result\":\"sent"}, {"do": "restart", "number": 5},
     {"do": "next_beacon", "jitter": 1}, {"do": "neighbours"}, {"do": "read_frame", "frame": "00"},
+    {"do": "subscribe", "port": 5, "id": 3}, {"do": "unsubscribe", "port": 5},
+    {"do": "close", "port": 5}, {"do": "restart", "number": 5, "address": "3c00020000000001"},
 ]
 SPECIAL = [
     b"", b" \t\r", b"{}", b"[]", b"x" * 70000, b"{" * 3000, b'{"do":1}', b"\xff\xfe", b"\0",
@@ -48,15 +51,20 @@ def mutated_frame():
     return bytes(frame[:draws.randrange(len(frame) + 1)]) if draws.random() < 0.2 else bytes(frame)
 
 
-def run(place, change=bytes):
-    """Runs it with these options; `change` is made to frames of which enough is there."""
+def run(place, change=bytes, enough=lambda: True):
+    """Runs it with these options; `change` is made to frames of which enough is there. Frames are
+    sent until `enough`."""
     command = [sys.argv[1], "--udp", "127.0.0.1:47701", "--to", "127.0.0.1:47702", "--address",
                "3c00020000000001", "--port", "2002", *place]
     pipe = subprocess.PIPE
     p = subprocess.Popen(command, stdin=pipe, stdout=pipe, stderr=pipe)
     p.stdout.readline()
     link = socket.socket(socket.AF_INET, socket.SOCK_DGRAM)
-    for k in range(5000):
+    limit = time.monotonic() + 300
+    for k in itertools.count():
+        if k >= 5000 and enough():
+            break
+        assert time.monotonic() < limit, "never enough"
         frame = mutated_frame()
         if change is secured and k % 8 == 0:
             time.sleep(0.002)  # so the entity is asked about most of them
@@ -111,13 +119,41 @@ def run_signed():
         entity, count = Entity(f"{room}/security"), [0]
         threading.Thread(target=answer_all, args=(entity, count), daemon=True).start()
         found = run(("--position", "51.47765,-0.001", "--security", entity.path,
-                     "--security-timeout", "20"), secured)
+                     "--security-timeout", "20", "--security-workers", "4"), secured,
+                    lambda: count[0] > 500)
         entity.end()
         return (*found, count[0])
 
 
-total = [run(("--position", "51.47765,-0.001")), run(("--gpsd", "127.0.0.1:1"))]
+def run_limited():
+    """The same lines by a client with limited rights, and an audit of what it sends."""
+    with tempfile.TemporaryDirectory() as room, socket.socket(socket.AF_UNIX) as s:
+        command = [sys.argv[1], "--udp", "127.0.0.1:47701", "--to", "127.0.0.1:47702", "--address",
+                   "3c00020000000001", "--position", "51.47765,-0.001", "--audit", f"{room}/audit",
+                   "--listen-limited", f"{room}/s send listen port=5 port=1 port=2002"]
+        pipe = subprocess.PIPE
+        p = subprocess.Popen(command, stdin=pipe, stdout=pipe, stderr=pipe)
+        p.stdout.readline()
+        s.connect(f"{room}/s")
+        lines = SPECIAL + [mutated_line() for _ in range(5000)]
+        threading.Thread(target=lambda: (s.sendall(b"\n".join(lines)), s.shutdown(1))).start()
+        with s.makefile("rb") as got:
+            answers = [a for a in map(json.loads, got) if "event" not in a]
+        p.terminate()
+        _, err = p.communicate(timeout=600)
+        assert p.returncode == 0, (p.returncode, err[-3000:])
+        wanted = sum(line.strip(b" \t\r") != b"" for line in lines)
+        assert len(answers) == wanted, (len(answers), wanted)
+        assert sum(a.get("code") == "not allowed" for a in answers) > 500
+        with open(f"{room}/audit", encoding="utf-8") as audit:
+            sent = sum(a.get("result") == "sent" for a in answers)
+            assert len([json.loads(line) for line in audit]) == sent > 50, sent
+        return wanted, 0
+
+
+total = [run(("--position", "51.47765,-0.001")), run(("--gpsd", "127.0.0.1:1")),
+         run_limited()]
 *signed, asked = run_signed()
 lines, read = (sum(column) for column in zip(*total, signed))
-assert asked > 200, asked
+assert asked > 500, asked
 print(f"{lines} lines, {read} frames and {asked} questions to an entity under the sanitizers")

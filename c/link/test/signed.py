@@ -40,7 +40,8 @@ class Trio:
         for name in NAMES:
             subprocess.run([sys.executable, ENTITY, "--new", f"{room}/{name}"], check=True)
         self.entities = [self.entity(name) for name in NAMES]
-        self.stations = [net.station(k, "--port", 2002, "--security", f"{room}/{name}.sock")
+        self.stations = [net.station(k, "--port", 2002, "--security", f"{room}/{name}.sock",
+                                     "--security-timeout", 2000)  # other work may run here
                          for k, name in enumerate(NAMES)]
 
     def entity(self, name):
@@ -213,8 +214,12 @@ def run_floods(program, seconds):
     """Prints a row for each kind of junk. The warnings still arrive."""
     with Net(PROGRAM, 3) as net, tempfile.TemporaryDirectory() as room:
         trio = Trio(net, room)
-        frame = warn(trio, b"ice")
-        for name, changes in (("none", ""), ("random messages", "m"), ("wrong signatures", "g")):
+        of_west = warn(trio, b"ice")
+        other = of_west[:6] + bytes.fromhex("02aa00000001") + of_west[12:]
+        for name, changes, frame in (
+                ("none", "", other), ("random messages", "m", other),
+                ("wrong signatures", "g", other),
+                ("wrong signatures under the address of west", "g", of_west)):
             count, took, sends, shares = flood_once(trio, program, seconds, changes, frame)
             print(f"flood of {name}: {count / seconds:.0f} frames a second; {len(took)} of "
                   f"{seconds} warnings arrived, median {milliseconds(took)}; own packets "

@@ -256,6 +256,71 @@ def test_full_output():
         assert b"standard output: Broken pipe" in d.process.stderr.read()
 
 
+def test_full_standard_error():
+    """A standard error that nobody reads holds up nothing: no signal, no request, no end."""
+    with Net(PROGRAM, 1) as net:
+        d = net.station(0)
+        for k in range(400):  # some 250 lines fill the pipe
+            d.process.send_signal(signal.SIGUSR1)
+            has({"id": k, "result": "counts"}, d.ask(id=k, do="counts"))
+        d.process.send_signal(signal.SIGTERM)
+        assert d.process.wait(PATIENCE) == 0
+        said = d.process.stderr.read()
+        assert said.count(b"\n") < 400 and said.endswith(b"\n"), len(said)
+        for line in said.splitlines():
+            assert line.startswith(b"geostation-link: ") or json.loads(line)["link"], line
+
+
+def test_address_conflict():
+    """Packets of the station's address count if it didn't send them, and none that comes back."""
+    with Net(PROGRAM, 1) as net, tempfile.TemporaryDirectory() as room:
+        d, (end,) = net.station(0, "--metrics", f"{room}/m"), net.ends()
+
+        def conflicts():
+            s, lines = connect(f"{room}/m")
+            found = read_metrics(lines.read().decode())
+            s.close()
+            return found["geostation_address_conflicts_total"]
+
+        own = int(d.ready["address"], 16)
+        sent = bytes.fromhex(d.ask(**GBC, payload="00")["frame"])
+        number = int.from_bytes(sent[26:28], "big")
+        shb = bytes.fromhex(d.ask(do="shb", port=1, info=0, tc=0, payload="")["frame"])
+        other = bytes.fromhex("0200000000ee")
+        echo = sent[:6] + other + sent[12:17] + b"\x09" + sent[18:]
+        earlier = frames.gbc(own, stamp() - 60000, number + 7, b"x")
+        for frame in (echo, shb, shb.ljust(60, b"\0"), earlier):
+            end.send(frame)
+        d.until(lambda n: n["ignored"]["own_source"] == 4)
+        assert conflicts() == 0
+        foreign = (frames.gbc(own, stamp(), number + 1, b"x"), frames.beacon(own, stamp()),
+                   frames.shb(own, stamp(), 1, b"x"))
+        for k, frame in enumerate(foreign, 1):
+            end.send(frame[:6] + other + frame[12:])
+            d.until(lambda n, k=k: n["ignored"]["own_source"] == 4 + k)
+            assert conflicts() == k
+        events = [e for e in d.seen() if e["event"] == "conflict"]
+        assert [list(e) for e in events] == [["at", "event", "mac"]], events
+        has({"mac": other.hex()}, events[0])
+        status, _, said = d.end()
+        assert status == 0 and said.count(b"another station uses the address") == 1, said
+
+
+def test_own_packets_over_multicast():
+    """Over UDP a station may get its own packets back: that is no conflict."""
+    ip("route", "add", "239.1.0.0/16", "dev", "lo")
+    with tempfile.TemporaryDirectory() as room:
+        d = udp(3, 48948, "239.1.122.97:48948", more=("--metrics", f"{room}/m"))
+        for k in range(20):
+            has({"result": "sent"}, d.ask(do="shb", port=1, info=0, tc=0, payload=f"{k:02x}"))
+            has({"result": "sent"}, d.ask(**GBC, payload=f"{k:02x}"))
+        d.until(lambda n: n["ignored"]["own_source"] >= 40)
+        s, lines = connect(f"{room}/m")
+        has({"geostation_address_conflicts_total": 0}, read_metrics(lines.read().decode()))
+        s.close()
+        assert d.end()[0] == 0
+
+
 def test_limits():
     """A limit that is too low is named, with what is needed."""
     place = ("--interface", "lo", "--position", "0,0")

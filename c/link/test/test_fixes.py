@@ -9,9 +9,9 @@ import time
 from datetime import datetime, timedelta, timezone
 
 import frames
-from common import OTHER, PROGRAM, has, notes, now_ms, run, stamp, udp
+from common import OTHER, PROGRAM, has, notes, now_ms, stamp, udp, udp_command
 from frames import GBC
-from net import PATIENCE, Net
+from net import PATIENCE, Daemon, Net
 
 
 def test_no_place():
@@ -68,14 +68,15 @@ def until_sent(d, **wanted):
 class Gpsd:
     """A gpsd that sends what the test has it send, and a station that asks it."""
 
-    def __init__(self, number, *more, host="127.0.0.1"):
+    def __init__(self, number, *more, host="127.0.0.1", environment=None):
         family = socket.AF_INET6 if ":" in host else socket.AF_INET
         self.server = socket.create_server((host, 0), family=family)
         self.server.settimeout(PATIENCE)
         port = self.server.getsockname()[1]
         at = f"[{host}]:{port}" if ":" in host else f"{host}:{port}"
-        self.station = udp(number, 47600 + 2 * number, f"127.0.0.1:{47601 + 2 * number}",
-                           place=("--gpsd", at, *more))
+        command = udp_command(number, 47600 + 2 * number, f"127.0.0.1:{47601 + 2 * number}",
+                              place=("--gpsd", at, *more))
+        self.station = Daemon(command, env=environment)
         self.accept()
 
     def accept(self):
@@ -102,12 +103,13 @@ def test_fixes():
     send(report(time=text)[40:])
     until_sent(d, **first)
     assert d.event("fix")["state"] == "current"
-    send(report(eph=10.1, lat=1))
-    until_sent(d, lat=10000000, pai=0)
+    near = PLACED["lat"] + 5000  # 56 m
+    send(report(eph=10.1, lat=near / 1e7))
+    until_sent(d, lat=near, pai=0)
     send(report())
     until_sent(d, **PLACED, pai=1)
-    send(report(mode=2, lat=2))
-    until_sent(d, lat=20000000, pai=0)
+    send(report(mode=2, lat=near / 1e7))
+    until_sent(d, lat=near, pai=0)
     text, moment = utc()
     send(report(time=text))
     until_sent(d, **{**first, "stamp": moment % (1 << 32)})
@@ -116,8 +118,8 @@ def test_fixes():
     gpsd.link.close()
     gpsd.accept()
     send = gpsd.link.sendall
-    send(report(lat=91) + report(lat=3, track=90.04))
-    until_sent(d, lat=30000000, heading=900, pai=1)
+    send(report(lat=91) + report(lat=near / 1e7, track=90.04))
+    until_sent(d, lat=near, heading=900, pai=1)
     status, _, said = gpsd.end()
     assert status == 0 and b"gpsd: the connection ended" in said, said
 
@@ -126,10 +128,12 @@ def test_reports_that_are_no_fix():
     """What is not JSON, has no position, or has a time that can't be, changes no position."""
     gpsd = Gpsd(2)
     d = gpsd.station
-    nested = b'{"class":"TPV","a":' + b"[" * 15 + b"]" * 15 + b"," + report(lat=5)[15:]
-    for good, lat in ((report(), PLACED["lat"]), (nested, 50000000),
-                      (b' { "x" : {"lat":9,"y":[1,-2.5e3,null]} , ' + report(lat=6)[1:], 60000000),
-                      (report(lat=7, note="a\u00e9\\\"").strip(), None)):
+    lats = [PLACED["lat"] + k * 1000 for k in range(4)]  # 11 m each
+    one, two = (report(lat=lat / 1e7) for lat in lats[1:3])
+    nested = b'{"class":"TPV","a":' + b"[" * 15 + b"]" * 15 + b"," + one[15:]
+    for good, lat in ((report(), lats[0]), (nested, lats[1]),
+                      (b' { "x" : {"lat":9,"y":[1,-2.5e3,null]} , ' + two[1:], lats[2]),
+                      (report(lat=lats[3] / 1e7, note="a\u00e9\\\"").strip(), None)):
         gpsd.link.sendall(good)
         if lat is not None:
             until_sent(d, lat=lat, pai=1)
@@ -154,6 +158,32 @@ def test_reports_that_are_no_fix():
     assert status == 0 and b"ahead of the clock" in said and b"behind the clock" in said, said
 
 
+def test_fixes_that_are_not_accurate():
+    """A report without a time, and one that is farther off than a station moves."""
+    gpsd = Gpsd(6)
+    d = gpsd.station
+    gpsd.link.sendall(report())
+    until_sent(d, **PLACED, pai=1)
+    near = PLACED["lat"] + 1000
+    for wrong in ({"time": None}, {"time": "now"}, {"time": 5}):
+        bad = report(lat=near / 1e7, **wrong)
+        gpsd.link.sendall(bad if wrong["time"] else bad.replace(b'"time":null,', b""))
+        until_sent(d, lat=near, pai=0)
+        gpsd.link.sendall(report())
+        until_sent(d, **PLACED, pai=1)
+    gpsd.link.sendall(report(lon=-179.9999999))
+    gpsd.link.sendall(report(lon=179.9999999))  # 2 cm from there, and 2700 km from the last one
+    until_sent(d, lon=1799999999, pai=0)
+    jumped = time.monotonic()
+    while frames.vector_of(bytes.fromhex(d.ask(**GBC, payload="00")["frame"]))["pai"] == 0:
+        assert time.monotonic() < jumped + PATIENCE, "it stays in doubt"
+        gpsd.link.sendall(report(lon=179.9999999))
+        time.sleep(0.2)
+    assert time.monotonic() - jumped > 4
+    status, _, said = gpsd.end()
+    assert status == 0 and said.count(b"m from the last one") == 1, said
+
+
 def test_junk():
     """A stream of junk: the station answers meanwhile, memory stays, and the next fix is taken."""
     gpsd = Gpsd(3)
@@ -169,8 +199,8 @@ def test_junk():
             gpsd.link.sendall(piece)
             total += len(piece)
         has({"result": "counts"}, d.ask(do="counts"))
-    gpsd.link.sendall(b"\n" + report(lat=8))
-    until_sent(d, lat=80000000, pai=1)
+    gpsd.link.sendall(b"\n" + report(lat=PLACED["lat"] / 1e7 + 0.0001))
+    until_sent(d, lat=PLACED["lat"] + 1000, pai=1)
     assert d.memory() == before, (before, d.memory())
     assert gpsd.end()[0] == 0
     notes.append(f"{total >> 20} MiB of junk in place of reports")

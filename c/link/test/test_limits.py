@@ -39,7 +39,8 @@ def test_storm():
         relayed = [n["relayed"] for n in counts]
         most = min(bound(SOURCE, seconds), bound(FORWARD, seconds))
         assert all(n <= most for n in relayed), (relayed, most)
-        assert sum(relayed) >= 2 * SOURCE[0], relayed
+        # A fifth of the burst of all passes at once at each of two stations. Then the source has a share.
+        assert sum(relayed) >= 2 * FORWARD[0] // 5, relayed
         suppressed = sum(n["link"]["suppressed"] for n in counts)
         assert suppressed >= 2 * (WARNINGS - most), counts
         notes.append(f"a storm of {WARNINGS} packets with 255 hops ended after {sum(relayed)} "
@@ -62,16 +63,17 @@ def test_echo():
     """A packet that the station has forgotten is not delivered or forwarded a second time."""
     with Net(PROGRAM, 1) as net:
         (end,) = net.ends()
+        first, second = gbc(1), gbc(2)
         d = net.station(0, "--port", 2002, "--remember", 1, limits=True)
-        for k in (1, 2, 1):
-            end.send(gbc(k))
+        for frame in (first, second, first):
+            end.send(frame)
         counts = d.until(lambda n: n["received"] == 3)
         assert (counts["accepted"], counts["delivered"], counts["relayed"]) == (3, 2, 2), counts
         has({"suppressed": 1, "repeated": 1, "over_rate": 0}, counts["link"])
         d.end()
         d = net.station(0, "--port", 2002, "--remember", 1, "--deliver-once", 0, limits=True)
-        for k in (1, 2, 1):
-            end.send(gbc(k))
+        for frame in (first, second, first):
+            end.send(frame)
         counts = d.until(lambda n: n["received"] == 3)
         assert (counts["accepted"], counts["delivered"], counts["relayed"]) == (3, 3, 3), counts
         has({"suppressed": 0, "repeated": 0}, counts["link"])

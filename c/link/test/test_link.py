@@ -15,9 +15,12 @@ import traceback
 from pathlib import Path
 
 import frames
+import test_client_rights
+import test_clock
 import test_faults
 import test_fixes
 import test_limits
+import test_own
 import test_security
 import test_service
 from air import Air
@@ -418,8 +421,8 @@ def test_arguments():
 
 def main():
     tests = {}
-    for module in (sys.modules[__name__], test_fixes, test_faults, test_limits,
-                   test_security, test_service):
+    for module in (sys.modules[__name__], test_client_rights, test_clock, test_faults, test_fixes,
+                   test_limits, test_own, test_security, test_service):
         named = ((k, v) for k, v in vars(module).items() if k.startswith("test_"))
         found = {k: v for k, v in named if callable(v)}
         assert not tests.keys() & found.keys(), tests.keys() & found.keys()

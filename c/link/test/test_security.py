@@ -15,7 +15,7 @@ from pathlib import Path
 
 import frames
 from common import OTHER, PROGRAM, connect, gbc, has, notes, now_ms, run, udp_command, until
-from entity import PLAIN_AT, Entity, message_of, secured
+from entity import PLAIN_AT, PROBE, Entity, message_of, secured
 from frames import GBC
 from net import PATIENCE, Daemon, Net
 
@@ -36,6 +36,7 @@ class Bench(ExitStack):
 
     def __init__(self, *more, entity=True):
         super().__init__()
+        self.started = time.monotonic()
         room = self.enter_context(tempfile.TemporaryDirectory())
         self.path = f"{room}/security"
         self.entity = Entity(self.path) if entity else None
@@ -73,13 +74,26 @@ class Bench(ExitStack):
 
     def counts(self, **wanted):
         """Waits for these counts of signed packets; all others have to be 0. Beacons are signed, or
-        not, besides."""
+        not, besides. One that is not is tried again after a second."""
         def is_there(n):
-            more = {"signed": n["sent"]["beacons"], "unsigned": n["sent"]["beacons"]}
+            tries = 1 + int(time.monotonic() - self.started)
+            more = {"signed": n["sent"]["beacons"], "unsigned": tries}
             return all(wanted.get(k, 0) <= n["link"][k] <= wanted.get(k, 0) + more.get(k, 0)
                        for k in COUNTS)
 
         return self.daemon.until(is_there)
+
+    def let_read(self):
+        """Lets the daemon read what clients sent: it does that between two signals."""
+        self.daemon.counts()
+        self.daemon.counts()
+
+    def put_off_beacons(self):
+        """Sends a packet, so that no beacon comes in the next 3 s."""
+        self.daemon.put(**GBC, payload="00")
+        self.entity.sign(self.next_of("sign"))
+        has({"result": "sent"}, self.daemon.answer())
+        self.received()
 
     def next_of(self, kind):
         """The next request, which has to be of this kind."""
@@ -90,7 +104,7 @@ class Bench(ExitStack):
 
 def test_signed_packets():
     """What the entity is asked for each kind, what is sent then, and what the answer says."""
-    with Bench() as b:
+    with Bench(*LONG) as b:
         requests = [("shb", {**SHB}), ("gbc", {**GBC}), ("gac", {**GBC, "do": "gac", "port": 2001})]
         for kind, keys in requests:
             b.daemon.put(id="x", **keys, payload="abcd")
@@ -117,7 +131,7 @@ def test_signed_packets():
 
 def test_verified_frames():
     """What the entity is asked, what is delivered then, and what is forwarded."""
-    with Bench() as b:
+    with Bench(*LONG) as b:
         frame = gbc(1, b"ice")
         b.send(secured(frame))
         asked = b.next_of("verify")
@@ -144,7 +158,7 @@ def test_verified_frames():
 
 def test_order_of_signatures():
     """Packets are sent in the order of their signatures, and answers come in that of requests."""
-    with Bench(*LONG) as b:
+    with Bench(*LONG, "--security-workers", "4") as b:
         for k in range(4):
             b.daemon.put(id=k, **GBC, payload=f"0{k}")
         b.daemon.put(id=4, do="counts")
@@ -186,7 +200,7 @@ def test_not_signed():
 
 def test_without_entity():
     """At the start, and after an entity died: nothing is sent or received; then it comes back."""
-    with Bench(entity=False) as b:
+    with Bench(*LONG, "--security-workers", "2", entity=False) as b:
         d = b.daemon
         assert d.event("security")["up"] is False
         has({"event": "ready"}, json.loads(connect(b.listen)[1].readline()))
@@ -227,7 +241,7 @@ def test_without_entity():
 
 
 def test_no_beacon_without_entity():
-    with Bench(entity=False) as b:
+    with Bench(*LONG, entity=False) as b:
         assert b.is_quiet(4.5), "a beacon without a signature"
         assert b.daemon.counts()["sent"]["beacons"] == 0
         b.entity = Entity(b.path).accept()
@@ -259,7 +273,7 @@ def test_receive_lines():
 
 def test_frames_that_need_no_entity():
     """Unsecured frames, octets that are not a secured frame, and frames for others."""
-    with Bench() as b:
+    with Bench(*LONG) as b:
         good = secured(gbc(1))
         unsecured = [gbc(1), frames.beacon(OTHER, 5), gbc(1)[:15]]
         wrong = [b"", good[:13], good[:12] + b"\x08\0" + good[14:], good.ljust(2311, b"\0"),
@@ -274,7 +288,8 @@ def test_frames_that_need_no_entity():
             b.send(frame)
             asked = b.next_of("verify")
             assert asked["message"] == frame[PLAIN_AT:].hex()
-        counts = b.counts(unsecured=len(unsecured), dropped_early=len(wrong), unanswered=2)
+            b.entity.say(id=asked["id"], error="no")
+        counts = b.counts(unsecured=len(unsecured), dropped_early=len(wrong), rejected=2)
         assert counts["received"] == 0, counts
 
 
@@ -285,7 +300,7 @@ def readable(plain):
 
 def test_wrong_verdicts():
     """No answer of these brings a frame to the station."""
-    with Bench(*LONG) as b:
+    with Bench(*LONG, "--security-workers", "2") as b:
         wrong = [{"error": "no"}, {"message": "00"}, {"plain": "0"}, {"plain": "zz"}, {},
                  {"plain": None}, {"plain": ["00"]}, {"plain": "00" * 2293},
                  {"plain": gbc(1)[PLAIN_AT:].hex(), "error": "but"},
@@ -391,7 +406,7 @@ def copies_of(frame, count):
 
 def test_copies():
     """Copies of a message cost one question, whether they come before its answer or after it."""
-    with Bench("--security-timeout", "2000") as b:
+    with Bench(*LONG) as b:
         frame = secured(gbc(1, b"ice"))
         b.send(frame)
         for copy in copies_of(frame, 3):
@@ -419,17 +434,99 @@ def test_copies():
         b.counts(verified=6, rejected=3)
 
 
-def test_copy_after_a_timeout():
-    """If a question is not answered, a copy that waited is a new question."""
+def test_late_answer():
+    """An answer that is late counts for a copy that waited, and for one that comes later."""
     with Bench("--security-timeout", "200") as b:
+        b.put_off_beacons()
         frame = secured(gbc(1, b"ice"))
         b.send(frame)
+        asked = b.entity.any_request()
+        b.counts(unanswered=1, signed=1)
+        first, second = copies_of(frame, 2)
+        b.send(first)
+        b.daemon.until(lambda n: n["link"]["frames"] == 2)
+        b.entity.verify(asked)
+        b.daemon.event("delivered")
+        b.send(second)
+        counts = b.counts(unanswered=1, verified=2, strays=1, signed=1)
+        assert counts["delivered"] == 1, counts
+        b.entity.serve_by_itself(b.entity.any_request())
+        assert b.entity.is_quiet(0.3)
+
+
+def test_lost_question():
+    """If a question is lost, the entity is asked whether it lives, and a copy is a new question."""
+    with Bench("--security-timeout", "300") as b:
+        b.put_off_beacons()
+        frame = secured(gbc(1, b"ice"))
+        b.send(frame)
+        first = b.entity.any_request()
+        time.sleep(0.15)
         b.send(next(copies_of(frame, 1)))
-        first, second = b.next_of("verify"), b.next_of("verify")
+        probe = b.entity.any_request()
+        assert list(probe) == list(first), (probe, first)
+        has({"do": "verify", "message": PROBE, "lt": "00", "hops": 1, "from": "000000000000"},
+            probe)
+        b.entity.say(id=probe["id"], error="no message")
+        second = b.next_of("verify")
         assert first["message"] == second["message"] and first["id"] < second["id"]
         b.entity.verify(second)
         b.daemon.event("delivered")
-        b.counts(verified=1, unanswered=1)
+        b.counts(verified=1, unanswered=1, signed=1)
+        assert not [e for e in b.daemon.events if e["event"] == "security"], b.daemon.events
+
+
+def test_hanging_entity():
+    """One that does not answer: an event, a note, a metric, and the same when it answers again."""
+    with Bench("--security-timeout", "200", "--metrics", "/run/geostation-metrics") as b:
+        def is_up():
+            s = socket.socket(socket.AF_UNIX)
+            s.connect("/run/geostation-metrics")
+            return "\ngeostation_security_up 1.000\n" in s.makefile().read()
+
+        b.put_off_beacons()
+        assert is_up()
+        b.send(secured(gbc(1)))
+        b.daemon.put(id=1, **GBC, payload="01")
+        waiting = [b.entity.any_request() for _ in range(2)]
+        has({"id": 1, "code": "not signed"}, b.daemon.answer())
+        assert b.daemon.event("security")["up"] is False
+        assert not is_up()
+        has({"id": 2, "code": "no security"}, b.daemon.ask(id=2, **GBC, payload="02"))
+        b.send(secured(gbc(2)))
+        b.counts(unanswered=2, signed=1, unsigned=1)
+        for request in waiting:
+            b.entity.serve(request)
+        assert b.daemon.event("security")["up"] is True
+        assert is_up()
+        b.counts(unanswered=2, signed=1, unsigned=1, strays=2)
+        b.daemon.put(id=3, **GBC, payload="03")
+        b.entity.sign(b.next_of("sign"))
+        has({"id": 3, "result": "sent"}, b.daemon.answer())
+        said = b.daemon.end()[2]
+        assert b"has not answered for" in said and b"answers again" in said, said
+
+
+def test_stopped_entity():
+    """A process that is stopped and goes on, as a machine that is overloaded."""
+    with tempfile.TemporaryDirectory() as room:
+        path = f"{room}/security"
+        other = subprocess.Popen([sys.executable, Path(__file__).with_name("pace.py"), PROGRAM,
+                                  "entity", path])
+        until(lambda: os.path.exists(path), "no socket")
+        d = Daemon([*udp_command(1, OWN_PORT, f"127.0.0.1:{TEST_PORT}"), "--security", path])
+        until(lambda: d.ask(**GBC, payload="00")["result"] == "sent", "it is not signed")
+        d.seen()
+        other.send_signal(signal.SIGSTOP)
+        d.ask(**GBC, payload="01")
+        assert d.event("security")["up"] is False
+        has({"code": "no security"}, d.ask(**GBC, payload="02"))
+        other.send_signal(signal.SIGCONT)
+        assert d.event("security")["up"] is True
+        until(lambda: d.ask(**GBC, payload="03")["result"] == "sent", "it is not signed")
+        d.end()
+        other.kill()
+        other.wait()
 
 
 def test_answers_are_kept_for_256():
@@ -445,52 +542,56 @@ def test_answers_are_kept_for_256():
 
 
 def test_places():
-    """12 of received frames are with the entity, 64 wait, and the oldest of these gives way. Own
-    packets have 4 places with the entity, and 16 to wait in; they go first."""
+    """Two requests are with the entity at a time, or one if it was slow, and no frame waits for
+    long. Own packets have as many places of their own, and 16 to wait in."""
     with Bench(*LONG) as b:
+        b.put_off_beacons()
         for k in range(100):
             b.send(fixed(k))
-        b.counts(overrun=24)
-        asked = b.entity.requests(12)
-        assert [r["message"] for r in asked] == [fixed(k)[PLAIN_AT:].hex() for k in range(12)]
-        assert b.entity.is_quiet(0.1)
+        asked = b.entity.burst()
+        messages = [fixed(k)[PLAIN_AT:].hex() for k in range(2)]
+        assert asked and [r["message"] for r in asked] == messages[: len(asked)], asked
+        dropped = 100 - len(asked)
+        b.counts(overrun=dropped, signed=1)
         clients = [connect(b.listen) for _ in range(3)]
         for number, (s, lines) in enumerate(clients):
             lines.readline()
             for k in range(7):
                 s.sendall(json.dumps({"id": k, **SHB, "payload": f"{number:02x}{k:02x}"}).encode()
                           + b"\n")
-            # (the next client's come after these)
-            until(lambda: b.daemon.counts()["sent"]["single_hop"] >= 7 * (number + 1), "no sends")
-        signs = b.entity.requests(4)
-        assert all(r["do"] == "sign" for r in signs), signs
-        assert b.entity.is_quiet(0.1)
-        b.counts(overrun=24, unsigned=1)
-        b.entity.verify(asked[0])  # its place goes to an own packet
-        more = [b.next_of("sign")]
+            b.let_read()  # the next client's come after these
+        signs = b.entity.burst()
+        assert 1 <= len(signs) <= 2 and all(r["do"] == "sign" for r in signs), signs
+        count = 16 + len(signs)
+        b.counts(overrun=dropped, unsigned=21 - count, signed=1)
         for request in signs:
             b.entity.sign(request)
-            more.append(b.next_of("sign"))
-        assert [r["plain"][-4:] for r in more] == ["0004", "0005", "0006", "0100", "0101"], more
-        for request in more:
-            b.entity.sign(request)
-        while (request := b.entity.request())["do"] == "sign":
-            b.entity.sign(request)
-        assert request["message"] == fixed(36)[PLAIN_AT:].hex(), request
+        while len(signs) < count:
+            signs.append(b.next_of("sign"))
+            b.entity.sign(signs[-1])
+        wanted = [f"{n:02x}{k:02x}" for n in range(3) for k in range(7)][:count]
+        assert [r["plain"][-4:] for r in signs] == wanted, signs
+        for request in asked:
+            b.entity.verify(request)
+        b.counts(overrun=dropped, unsigned=21 - count, signed=1 + count, verified=len(asked))
 
 
 def test_entity_dies_while_all_wait():
     """Each request has its outcome at once, and each place is free again for the next entity."""
     with Bench(*LONG) as b:
+        asked = 0
         for turn in range(1, 4):
+            b.put_off_beacons()
             for k in range(100):
                 b.send(fixed(100 * turn + k))
-            b.counts(overrun=24 * turn, unanswered=76 * (turn - 1), unsigned=20 * (turn - 1))
+            before, asked = asked, asked + len(b.entity.burst())
+            b.counts(overrun=100 * turn - asked, unanswered=before, unsigned=20 * (turn - 1),
+                     signed=turn)
             clients = [connect(b.listen) for _ in range(4)]
             for s, lines in clients:
                 lines.readline()
                 s.sendall((json.dumps({**SHB, "payload": ""}).encode() + b"\n") * 5)
-            until(lambda: b.daemon.counts()["sent"]["single_hop"] == 20 * turn, "no sends")
+            b.let_read()
             b.entity.end()
             for s, lines in clients:
                 found = [json.loads(lines.readline()) for _ in range(6)]
@@ -498,7 +599,7 @@ def test_entity_dies_while_all_wait():
                 assert [a["code"] for a in answers] == ["not signed"] * 5, found
                 lines.close()
                 s.close()
-            b.counts(overrun=24 * turn, unanswered=76 * turn, unsigned=20 * turn)
+            b.counts(overrun=100 * turn - asked, unanswered=asked, unsigned=20 * turn, signed=turn)
             b.entity = Entity(b.path).accept()
             assert b.daemon.event("security")["up"] is False
             assert b.daemon.event("security")["up"] is True
@@ -529,10 +630,12 @@ def test_waiting_clients_leave_places():
             lines.readline()
             s.sendall(json.dumps({**GBC, "payload": "00"}).encode() + b"\n"
                       + b'{"do":"counts"}\n' * 20)
-        asked = b.entity.requests(16)
+        asked = b.entity.burst()
         has({"result": "counts"}, b.daemon.ask(do="counts"))
         for request in asked:
             b.entity.sign(request)
+        for _ in range(16 - len(asked)):
+            b.entity.sign(b.next_of("sign"))
         for _, lines in clients:
             found = [json.loads(lines.readline())["result"] for _ in range(21)]
             assert found == ["sent"] + ["counts"] * 20, found
@@ -589,22 +692,6 @@ def test_longer_than_the_mtu():
         entity.end()
 
 
-def test_silent_entity():
-    """One that reads nothing for a while costs each request its timeout, and nothing else."""
-    with Bench("--security-timeout", "50") as b:
-        sent = time.monotonic()
-        for k in range(200):
-            b.send(secured(frames.gbc(OTHER, 5, k, b"x" * 1300)))
-        has({"code": "not signed"}, b.daemon.ask(**GBC, payload="00"))
-        assert time.monotonic() - sent < 60
-        b.daemon.until(lambda n: n["link"]["unanswered"] + n["link"]["overrun"] == 200)
-        while not b.entity.is_quiet(0.2):
-            pass
-        b.send(secured(gbc(1000)))
-        b.entity.verify(b.next_of("verify"))
-        b.daemon.event("delivered")
-
-
 AS_OTHER = """
 import os, socket, sys
 os.setgid(65534)
@@ -645,11 +732,38 @@ def test_other_user():
             assert (b"run by user 65534" in d.end()[2]) == (not more)
 
 
+def test_entity_in_c():
+    """Two stations with the example of an entity in C: a warning of one arrives at the other."""
+    example = Path(__file__).resolve().parent.parent.parent.parent / "examples/security"
+    sources = [example / name for name in ("entity.c", "rules.c", "hsm.c")]
+    with ExitStack() as stack:
+        room = stack.enter_context(tempfile.TemporaryDirectory())
+        subprocess.run(["cc", "-std=c11", "-O2", "-o", f"{room}/entity", *sources], check=True)
+        names = {1: "3c00020000000001", 2: "3c00020000000002"}
+        Path(f"{room}/keys").write_text("".join(f"{a} {k:064x}\n" for k, a in names.items()))
+        stations = {}
+        for k, address in names.items():
+            path = f"{room}/{k}"
+            entity = subprocess.Popen([f"{room}/entity", f"{room}/keys", address, path])
+            stack.callback(entity.wait)
+            stack.callback(entity.kill)
+            until(lambda: os.path.exists(path), "no socket")
+            peer = f"127.0.0.1:{OWN_PORT + 2 - k}"
+            stations[k] = Daemon([*udp_command(k, OWN_PORT + k - 1, peer), "--security", path,
+                                  "--security-timeout", "2000"])
+            stack.callback(stations[k].end)
+        until(lambda: stations[1].ask(**GBC, payload="696365")["result"] == "sent", "not signed")
+        has({"source": names[1], "payload": "696365", "psid": 37},
+            stations[2].event("delivered"))
+
+
 def test_options():
     """Which options belong together, and their ranges."""
     place = ("--udp", "127.0.0.1:0", "--to", "127.0.0.1:9", "--address", "3c00020000000001",
              "--position", "0,0")
     for more in (("--security-user", "root"), ("--security-timeout", "5"),
+                 ("--security-workers", "2"), ("--security", "/x", "--security-workers", "0"),
+                 ("--security", "/x", "--security-workers", "13"),
                  ("--security", "/x", "--security-user", "nobody here"),
                  ("--security", "/x", "--security-timeout", "0"),
                  ("--security", "/x", "--security-timeout", "10001"),

@@ -7,10 +7,9 @@ import socket
 import subprocess
 import tempfile
 import time
-from pathlib import Path
 
 import frames
-from common import PLACE, PROGRAM, connect, has, run, udp_command, until
+from common import PLACE, PROGRAM, connect, has, run, udp_command, until, write
 from frames import GBC
 from net import PATIENCE, Daemon, Net, ip, wait_for_link
 
@@ -83,11 +82,6 @@ def test_wait_for_interface():
     assert p.returncode == 3 and "nosuch0: there is no such interface" in p.stderr, p
 
 
-def write(path, text):
-    Path(path).write_text(text)
-    return path
-
-
 def test_config():
     """A file says what the command line may say, and what is wrong in it is said by line."""
     with tempfile.TemporaryDirectory() as room:
@@ -127,6 +121,43 @@ port = 2002
                           (write(f"{room}/empty", ""), "is needed")):
             p = run("--config", bad, "--check-config")
             assert p.returncode == 2 and said in p.stderr, (bad, p)
+
+
+def test_check_config():
+    """It refuses what the start refuses, with the same status and the same sentence."""
+    long, path, letters = "/run/" + "x" * 103, "/run/geostation-test", "x" * 30
+    udp = "udp = 127.0.0.1:47831\nto = 127.0.0.1:47832\n"
+    station = "address = 3c00020000000001\n"
+    wrong = [
+        (f"{udp}address = 3c00010000000001", ":3: address 3c00010000000001: its last 48 bits"),
+        (f"interface = {letters}", f":1: interface {letters}: not a name"),
+        ("interface = eth0 # radio", ":1: interface eth0 # radio: a comment needs a line"),
+        ("interface = a b", ":1: interface a b: not a name"),
+        ("interface =", ":1: interface : not a name"),
+        ("interface = a/b", ":1: interface a/b: not a name"),
+        *((f"{udp}{station}{key} = {long}", f":4: {key} {long}: not a path of 1 to 107 bytes")
+          for key in ("listen", "metrics", "security")),
+        *((f"{udp}{station}{key} =", f":4: {key} : not a path") for key in ("listen", "security")),
+        (f"{udp}{station}security = {path}\nsecurity-user = no-such-user",
+         "--security-user no-such-user: there is no such user"),
+        (f"{udp}{station}security = {path}\nsecurity-user =", ":5: security-user : the value is"),
+        (f"{udp}{station}listen = {path}\nmetrics = {path}", "need a path each"),
+        (f"{udp}{station}listen = {path}\nsecurity = {path}", "need a path each"),
+        (f"udp = 127.0.0.1:47831\nto = 127.0.0.1:0\n{station}", ":2: to 0: not a number from 1"),
+        (f"udp = 127.0.0.1:47831\nto = [::1]:47832\n{station}", "--to [::1]:47832: "),
+    ]
+    with tempfile.TemporaryDirectory() as room:
+        for text, said in wrong:
+            bad = write(f"{room}/bad.conf", f"{text}\nposition = 1,2\n")
+            checked, started = run("--config", bad, "--check-config"), run("--config", bad)
+            assert checked.returncode == started.returncode == 2, (text, checked, started)
+            assert said in checked.stderr and started.stderr.endswith(checked.stderr), (
+                checked, started)
+        limit = "/run/" + "x" * 102
+        good = write(f"{room}/good.conf", f"interface = fifteen-letters\nposition = 1,2\n"
+                     f"listen = {limit}\nmetrics = {limit}y.prom\n")
+        p = run("--config", good, "--check-config")
+        assert (p.returncode, p.stderr) == (0, ""), p
 
 
 def test_reload():

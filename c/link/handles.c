@@ -1,0 +1,91 @@
+/* The handles of the library that make up the station: see struct station. */
+#define _GNU_SOURCE
+#include "parts.h"
+#include <inttypes.h>
+#include <string.h>
+
+static geostation_handle *make(const struct geostation_config *c) {
+    geostation_handle *handle;
+    int status = geostation_new_from_config(&handle, c);
+    if (status == GEOSTATION_BAD_ARGUMENT) {
+        fail(BAD_ARGUMENTS, "--address %016" PRIx64 ": %s", c->address,
+             geostation_status_text(status));
+    }
+    if (status != GEOSTATION_OK) {
+        fail(FAILED, "out of memory: --capacity %u and --remember %u need %u kB of the limit "
+             "(ulimit -v, MemoryMax=)", c->capacity, c->remember,
+             (37624 + c->capacity * (58 + 2u * c->remember)) / 1000 + 1);
+    }
+    return handle;
+}
+
+/* The library limits no line, so own packets have a handle of their own. The first beacon is due a
+ * jitter after a restart. */
+void handles_make(struct station *s, uint64_t moment, uint16_t number) {
+    struct geostation_config c = s->config;
+    c.own_rate = 0;
+    s->handle = make(&c);
+    c.capacity = c.remember = 1;
+    c.forward_rate = c.source_rate = c.hop_cap = c.deliver_once = 0;
+    s->probe = make(&c);
+    s->beacons = make(&c);
+    c.own_rate = s->config.own_rate;
+    s->own = make(&c);
+    ignore_status(geostation_restart(s->handle, moment, number));
+    ignore_status(geostation_restart(s->beacons, moment, 0));
+}
+
+void handles_free(struct station *s) {
+    geostation_free(s->own);
+    geostation_free(s->beacons);
+    geostation_free(s->probe);
+    geostation_free(s->handle);
+}
+
+/* ---- counts */
+
+/* Adds what a handle counted, but for what it took for sent. */
+static void add(struct geostation_counts *to, const geostation_handle *h) {
+    struct geostation_counts more;
+    _Static_assert(sizeof more % sizeof(uint64_t) == 0, "counts");
+    geostation_counts(h, &more);
+    memset(&more.sent, 0, sizeof more.sent);
+    uint64_t *sums = (uint64_t *)to;
+    const uint64_t *terms = (const uint64_t *)&more;
+    for (size_t k = 0; k < sizeof more / sizeof *terms; k++) {
+        sums[k] += terms[k];
+    }
+}
+
+void station_counts(const struct station *s, struct geostation_counts *out) {
+    *out = s->counts;
+    add(out, s->handle);
+    add(out, s->beacons);
+    add(out, s->own);
+}
+
+/* ---- an earlier moment */
+
+/* Only a port that is open can be closed. Returns how many were. */
+static size_t close_ports(const struct station *s, uint16_t ports[PORTS]) {
+    size_t count = 0;
+    for (uint32_t port = 0; port <= UINT16_MAX && count < PORTS; port++) {
+        if (geostation_close_port(s->handle, s->last, (uint16_t)port) == GEOSTATION_OK) {
+            ports[count++] = (uint16_t)port;
+        }
+    }
+    return count;
+}
+
+/* Numbers and counts go on, and ports stay open. */
+void handles_renew(struct station *s, uint64_t moment) {
+    uint16_t ports[PORTS];
+    uint16_t number = geostation_next_number(s->handle);
+    station_counts(s, &s->counts);
+    size_t count = close_ports(s, ports);
+    handles_free(s);
+    handles_make(s, moment, number);
+    for (size_t k = 0; k < count; k++) {
+        ignore_status(geostation_open_port(s->handle, moment, ports[k]));
+    }
+}
