@@ -168,7 +168,7 @@ static void do_line(struct station *s, uint64_t now, uint64_t number, const uint
     if (length != 0 && answer_has_result(h->answer, h->length, "sent")) {
         send_own(s, length, h);
     } else if (length != 0 && s->security == NULL && i->passes_frame) {
-        forwards_put(s->forwards, s->frame, length);
+        forwards_put(s->forwards, s->frame, length, now);
     } else if (i->moves) {
         follow_move(s, now, line, n);
     } else if (i->restarts) {

@@ -36,12 +36,17 @@ static const char usage[] =
     "  --position LAT,LON    Position in degrees, with up to 7 decimals\n"
     "  --gpsd [HOST:PORT]    Take the position from gpsd [default: 127.0.0.1:2947]\n"
     "  --gps-timeout S       Stop sending if the last fix is older, 1 to 3600 s [default: 60]\n"
+    "  --pai-metres N        Set PAI if the error of the fix is at most N metres, 1 to 1000\n"
+    "                        [default: 10]\n"
     "  --clock-synchronised  Send only while the clock is synchronised\n"
     "  --clock-follow        Follow steps of the clock after the first own packet too\n"
     "  --address HEX16       GeoNetworking address; required with --udp\n"
     "  --station-type N      Make the address from this type, 0 to 31, and the interface's MAC\n"
     "                        [default: 15]\n"
-    "  --stationary          Mark packets as those of a station that does not move\n"
+    "  --stationary          Mark packets as those of a station that does not move; default of\n"
+    "                        station type 15, a road-side unit\n"
+    "  --mobile              Mark packets as those of a station that moves; default of all others\n"
+    "  --first-number N      Sequence number of the first packet, 0 to 65535 [default: random]\n"
     "  --capacity N          Size of the location table, 1 to 4096 [default: 4096]\n"
     "  --remember N          Length of the duplicate packet lists, 1 to 64 [default: 64]\n"
     "  --port N              Open a port (BTP-B) at the start; may be repeated, up to 64 times\n"
@@ -151,6 +156,9 @@ static bool judge(const struct options *o, struct fault *f) {
     if (o->addressed && o->typed) {
         return set_fault(f, BAD_ARGUMENTS, "--address and --station-type cannot be given together");
     }
+    if (o->stationary && o->mobile) {
+        return set_fault(f, BAD_ARGUMENTS, "--stationary and --mobile cannot be given together");
+    }
     if (o->udp != NULL && !o->addressed) {
         return set_fault(f, BAD_ARGUMENTS, "--udp needs --address HEX16, as UDP has no MAC");
     }
@@ -167,6 +175,12 @@ static bool judge(const struct options *o, struct fault *f) {
                          "--forward-rate and --forward-burst, or both 0");
     }
     return true;
+}
+
+/* By the station type in the address. */
+static bool is_road_side_unit(const struct options *o) {
+    uint64_t type = o->addressed ? o->station.address >> 58 & 31 : o->station_type;
+    return type == ROAD_SIDE_UNIT;
 }
 
 /* An optional value may be the next word. */
@@ -197,13 +211,13 @@ static bool take_words(struct options *o, int argc, char **argv, struct fault *f
 
 bool read_arguments(struct options *o, int argc, char **argv, struct fault *f) {
     *o = (struct options){
-        .station_type = 15, .forward_spread = 2000, .client_timeout = 60000, .gps_timeout = 60000,
-        .security_timeout = 100, .security_workers = 1,
+        .station_type = ROAD_SIDE_UNIT, .forward_spread = 2000, .client_timeout = 60000,
+        .gps_timeout = 60000, .pai_metres = 10, .security_timeout = 100, .security_workers = 1,
     };
     geostation_config_init(&o->station);
     o->station.capacity = 4096;
     o->station.remember = 64;
     bool good = take_words(o, argc, argv, f) && judge(o, f);
-    o->station.mobile = !o->stationary;
+    o->station.mobile = !o->stationary && (o->mobile || !is_road_side_unit(o));
     return good;
 }

@@ -76,6 +76,7 @@ static void members_of_link(struct page *p, const struct station *s,
     member(p, "padded", l->padded);
     member(p, "tagged", l->tagged);
     member(p, "dropped", l->dropped);
+    member(p, "expired", l->expired);
     member(p, "kernel_dropped", link_kernel_dropped(l));
     member(p, "forward_dropped", s->forwards->dropped);
     member(p, "suppressed", c->suppressed);
@@ -167,6 +168,8 @@ static void put_link(struct page *p, const struct station *s) {
     counter(p, "link_kernel_dropped_total", "Frames that arrived at a full receive buffer",
             link_kernel_dropped(l));
     counter(p, "link_dropped_total", "Frames that the link did not accept", l->dropped);
+    counter(p, "link_expired_total", "Frames whose lifetime passed while they waited",
+            l->expired);
     counter(p, "forward_dropped_total", "Frames not forwarded because 256 others waited",
             s->forwards->dropped);
     gauge(p, "link_up", "Whether the link is up", l->up);

@@ -5,7 +5,7 @@
 #include <stdlib.h>
 #include <string.h>
 
-enum { ACCURATE_TO = 10, JUMP_OVER = 100 /* metres */, FASTEST = 16383 /* 0.01 m/s */ };
+enum { JUMP_OVER = 100 /* metres */, FASTEST = 16383 /* 0.01 m/s */ };
 enum { OLD_AFTER = 5000, AHEAD_AT_MOST = 5000, DOUBTED_FOR = 5000 /* ms */ };
 enum { NO_FIX, FIX_2D = 2, FIX_3D = 3 };
 
@@ -104,9 +104,9 @@ static bool is_position(const struct fix *f) {
 }
 
 /* A missing error estimate counts as accurate, a missing time does not. */
-static bool is_accurate(const struct fix *f) {
+static bool is_accurate(const struct fix *f, const struct place *p) {
     double error = isfinite(f->eph) ? f->eph : hypot(f->epx, f->epy);
-    return f->mode >= FIX_3D && f->timed && !(error > ACCURATE_TO);
+    return f->mode >= FIX_3D && f->timed && !(error > p->pai_metres);
 }
 
 /* Metres from the last position, on a sphere. */
@@ -177,7 +177,7 @@ bool fix_take(const struct fix *f, struct place *p, uint64_t now) {
     p->fix_at = now - age;
     p->fix = now - p->fix_at < OLD_AFTER ? FIX_CURRENT : FIX_OLD;
     p->timestamp = (uint32_t)(f->timed ? f->moment : moment);
-    p->accurate = p->fix == FIX_CURRENT && is_accurate(f) && now >= p->doubted_until;
+    p->accurate = p->fix == FIX_CURRENT && is_accurate(f, p) && now >= p->doubted_until;
     p->latitude = (int32_t)lround(f->latitude * 1e7);
     p->longitude = (int32_t)lround(f->longitude * 1e7);
     take_motion(p, f);

@@ -1,6 +1,7 @@
 /* Frames that the station forwards. All stations that received a broadcast frame would forward it
  * at the same time and collide, so each waits for a random time. A frame to one station is
- * forwarded by one only, so it is sent at once. The station's own frames never wait. */
+ * forwarded by one only, so it is sent at once. The station's own frames never wait. A frame whose
+ * lifetime has passed since it was received is not sent. */
 #define _GNU_SOURCE
 #include "parts.h"
 #include <string.h>
@@ -16,9 +17,9 @@ void forwards_start(struct forwards *w, struct link *l, uint32_t spread) {
 
 static bool is_broadcast(const uint8_t *frame) { return (frame[0] & 1) != 0; }
 
-void forwards_put(struct forwards *w, const uint8_t *frame, size_t length) {
+void forwards_put(struct forwards *w, const uint8_t *frame, size_t length, uint64_t since) {
     if (w->spread == 0 || !is_broadcast(frame)) {
-        (void)link_send(w->link, frame, length);
+        (void)link_send_in_time(w->link, frame, length, since);
         return;
     }
     if (w->count == FORWARDS) {
@@ -27,6 +28,7 @@ void forwards_put(struct forwards *w, const uint8_t *frame, size_t length) {
     }
     uint16_t at = w->order[w->count++];
     w->due[at] = clock_micros() + draw_below(w->spread);
+    w->since[at] = since;
     w->lengths[at] = (uint16_t)length;
     memcpy(w->frames[at], frame, length);
 }
@@ -53,7 +55,7 @@ void forwards_send(struct forwards *w, uint64_t until) {
         if (w->due[at] > until) {
             return;
         }
-        (void)link_send(w->link, w->frames[at], w->lengths[at]);
+        (void)link_send_in_time(w->link, w->frames[at], w->lengths[at], w->since[at]);
         w->order[k] = w->order[--w->count];
         w->order[w->count] = at;
     }

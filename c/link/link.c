@@ -9,7 +9,7 @@
 #include <time.h>
 #include <unistd.h>
 
-enum { BATCH = 16 }; /* frames that one system call receives */
+enum { BATCH = 16 /* frames that one system call receives */, LIFETIME_AT = 16 /* octets */ };
 
 static struct {
     size_t count, next; /* number of frames in the batch; index of the next one */
@@ -117,6 +117,21 @@ enum sending link_send(struct link *l, const uint8_t *frame, size_t length) {
     }
     l->dropped += result != SENT;
     return result;
+}
+
+/* The lifetime in the Basic Header of a frame, in ms: a multiplier, and which unit it counts. */
+static uint64_t lifetime_of(const uint8_t *frame) {
+    static const uint64_t units[] = { 50, 1000, 10000, 100000 };
+    return (frame[LIFETIME_AT] >> 2) * units[frame[LIFETIME_AT] & 3];
+}
+
+enum sending link_send_in_time(struct link *l, const uint8_t *frame, size_t length,
+                               uint64_t since) {
+    if (clock_now() > since + lifetime_of(frame)) {
+        l->expired++;
+        return LIFETIME_OVER;
+    }
+    return link_send(l, frame, length);
 }
 
 /* The time at which the kernel received a frame. A jump of the clock does not matter: the time is

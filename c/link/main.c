@@ -18,6 +18,7 @@ static void start_place(struct place *p, const struct options *o) {
     p->timestamp = (uint32_t)clock_moment();
     p->fix_at = clock_now();
     p->fix_timeout = o->gps_timeout;
+    p->pai_metres = o->pai_metres;
 }
 
 /* Keeps sockets from getting the number of a closed standard input, output or error. */
@@ -39,6 +40,13 @@ static void look_at_limits(void) {
     }
 }
 
+static void tell_default_of_mobility(const struct options *o) {
+    if (!o->station.mobile && !o->stationary) {
+        note("station type %d is a road-side unit: packets say that it does not move "
+             "(--stationary, or --mobile if it moves)", ROAD_SIDE_UNIT);
+    }
+}
+
 static void start(struct program *p) {
     signal(SIGHUP, SIG_IGN); /* until the options can be read again */
     look_at_limits();
@@ -54,6 +62,7 @@ static void start(struct program *p) {
     p->station.clients = &p->clients;
     p->station.steps = &p->steps;
     steps_start(&p->steps, &p->options);
+    tell_default_of_mobility(&p->options);
     station_open(&p->station, &p->options);
     if (p->options.security != NULL) {
         p->station.security = &p->security;

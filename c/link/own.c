@@ -8,6 +8,8 @@ enum { AGAIN_AFTER = 1000 /* ms: a beacon that wasn't sent */ };
 static const struct refusal link_down = { "link down", "the link is down: nothing was sent" };
 static const struct refusal queue_full = { "queue full", "the link takes no more frames now" };
 static const struct refusal too_long = { "too long", "the frame is over the link's MTU" };
+static const struct refusal lifetime_over = { "lifetime over",
+                                              "the packet's lifetime passed before it was signed" };
 static const struct refusal over_rate = { "over rate", "own packets are over their rate" };
 static const struct refusal no_fix = { "no place", "the station has no position yet" };
 static const struct refusal old_fix = { "no place", "the last fix is too old" };
@@ -25,6 +27,7 @@ static const struct refusal *refusal_of(enum sending result) {
     case LINK_DOWN: return &link_down;
     case QUEUE_FULL: return &queue_full;
     case FRAME_TOO_LONG: return &too_long;
+    case LIFETIME_OVER: return &lifetime_over;
     default: return NULL;
     }
 }
@@ -88,9 +91,7 @@ static void was_not_sent(struct station *s, uint32_t kind) {
     }
 }
 
-static const struct refusal *hand_over(struct station *s, const uint8_t *frame, size_t length,
-                                       uint32_t kind) {
-    enum sending result = link_send(s->link, frame, length);
+static const struct refusal *take_result(struct station *s, enum sending result, uint32_t kind) {
     if (result == SENT) {
         was_sent(s, kind);
     } else {
@@ -117,7 +118,7 @@ const struct refusal *own_send(struct station *s, size_t length, uint32_t kind, 
         h->by = h->client->by;
     }
     if (s->security == NULL) {
-        const struct refusal *why = hand_over(s, s->frame, length, kind);
+        const struct refusal *why = take_result(s, link_send(s->link, s->frame, length), kind);
         if (why == NULL && h != NULL) {
             audit(s, h);
         }
@@ -133,12 +134,13 @@ const struct refusal *own_send(struct station *s, size_t length, uint32_t kind, 
     return &too_many;
 }
 
-void station_send_signed(struct station *s, const uint8_t *frame, size_t length, struct held *h) {
+void station_send_signed(struct station *s, const uint8_t *frame, size_t length, struct held *h,
+                         uint64_t since) {
     uint32_t kind = h != NULL ? h->kind : GEOSTATION_BEACON;
     const struct refusal *why = &no_signature;
     s->last = clock_moment();
     if (length != 0) {
-        why = hand_over(s, frame, length, kind);
+        why = take_result(s, link_send_in_time(s->link, frame, length, since), kind);
     } else {
         was_not_sent(s, kind);
     }

@@ -15,7 +15,8 @@
 enum {
     BAD_ARGUMENTS = 2,
     FAILED = 3, /* the system refused something */
-    SETTINGS = 33,
+    ROAD_SIDE_UNIT = 15, /* a station type of EN 302 636-4-1 */
+    SETTINGS = 36,
     PEERS = 16,
     PORTS = 64,
     CLIENTS = 17,             /* the first one is standard input and output */
@@ -80,13 +81,15 @@ struct options {
     struct geostation_config station;
     const char *interface, *listen, *metrics, *udp, *gpsd, *to[PEERS], *security, *security_user;
     const char *audit;
-    bool placed, addressed, typed, stationary, wait_interface, check, tuned_security;
-    bool clock_synchronised, clock_follow;
+    bool placed, addressed, typed, stationary, mobile, wait_interface, check, tuned_security;
+    bool clock_synchronised, clock_follow, numbered;
     struct address local, peers[PEERS], gpsd_at; /* filled by resolve_addresses */
     size_t peer_count, limited_count;
     struct ports ports;
     struct rights limited[LISTENERS - 1]; /* sockets with limited rights */
     uint32_t station_type;
+    uint32_t first_number;   /* if numbered */
+    uint32_t pai_metres;
     uint32_t forward_spread; /* microseconds */
     uint32_t client_timeout, gps_timeout, security_timeout; /* milliseconds */
     uint32_t security_workers;
@@ -158,18 +161,20 @@ struct link {
     const struct address *peers;
     size_t peer_count;
     uint64_t empty_at; /* the last time at which no frame waited */
-    uint64_t frames, padded, tagged, dropped, kernel_dropped;
+    uint64_t frames, padded, tagged, dropped, expired, kernel_dropped;
 };
 struct received {
     size_t length;
     uint64_t at; /* when the kernel received it */
     uint8_t octets[FRAME_ROOM];
 };
-enum sending { SENT, LINK_DOWN, QUEUE_FULL, FRAME_TOO_LONG };
+enum sending { SENT, LINK_DOWN, QUEUE_FULL, FRAME_TOO_LONG, LIFETIME_OVER };
 enum news { NO_NEWS = 0, NEWS_UP = 1, NEWS_MAC = 2 };
 void link_open(struct link *l, struct options *o);
 void link_address(uint64_t address, uint8_t mac[6]); /* that of a station with this GN address */
 enum sending link_send(struct link *l, const uint8_t *frame, size_t length);
+/* Sends a frame that has waited since that time, unless the lifetime in it has passed. */
+enum sending link_send_in_time(struct link *l, const uint8_t *frame, size_t length, uint64_t since);
 /* What link_send would return for a frame, as far as that is known. A refusal is counted. Length 0:
  * no frame is at hand. */
 enum sending link_refuses(struct link *l, size_t length);
@@ -195,11 +200,11 @@ struct forwards {
     size_t count;    /* of frames that wait */
     uint64_t dropped; /* frames for which there was no free place */
     uint16_t order[FORWARDS], lengths[FORWARDS]; /* the first `count` places of order are used */
-    uint64_t due[FORWARDS];
+    uint64_t due[FORWARDS], since[FORWARDS]; /* since: when the frame was received, in ms */
     uint8_t frames[FORWARDS][GEOSTATION_SECURED_FRAME_MAX];
 };
 void forwards_start(struct forwards *w, struct link *l, uint32_t spread);
-void forwards_put(struct forwards *w, const uint8_t *frame, size_t length);
+void forwards_put(struct forwards *w, const uint8_t *frame, size_t length, uint64_t since);
 void forwards_send(struct forwards *w, uint64_t until); /* those that are due by then */
 uint64_t forwards_due(const struct forwards *w);        /* microseconds; UINT64_MAX: none waits */
 
@@ -211,6 +216,7 @@ struct place {
     enum fix_state fix;
     uint64_t fix_at;     /* when the last fix was, or the start */
     uint32_t fix_timeout;
+    uint32_t pai_metres; /* a fix with a greater error is not accurate */
     uint64_t doubted_until; /* after a jump no fix is accurate for a while */
     bool time_reported; /* that the time of fixes is not credible */
     uint64_t told_at;
@@ -330,7 +336,7 @@ void station_follow_step(struct station *s, uint64_t now); /* of the clock */
 bool station_may_send(const struct station *s);
 void station_hear(struct station *s, const struct received *r);
 void station_take_verified(struct station *s, const uint8_t *frame, size_t length,
-                           const struct answer *a);
+                           const struct answer *a, uint64_t since);
 void station_beacon(struct station *s, uint64_t now);
 void station_plan_beacon(struct station *s);
 void station_change_ports(struct station *s, const struct ports *old, const struct ports *new);
@@ -392,8 +398,9 @@ const struct refusal *own_place_refusal(const struct station *s);
  * it wasn't sent, or NULL. */
 const struct refusal *own_send(struct station *s, size_t length, uint32_t kind, struct held *h);
 /* Sends a packet once it is signed, and completes the answer to its request. `length`: 0 if it was
- * not signed. */
-void station_send_signed(struct station *s, const uint8_t *frame, size_t length, struct held *h);
+ * not signed. `since`: when it was requested. */
+void station_send_signed(struct station *s, const uint8_t *frame, size_t length, struct held *h,
+                         uint64_t since);
 
 /* answer.c: the text of an answer. A function that changes it returns its new length. */
 bool answer_has_result(const uint8_t *answer, size_t n, const char *word);

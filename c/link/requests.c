@@ -46,7 +46,7 @@ static void end_verify(struct security *x, const struct request *r, const struct
         x->counts.unanswered++;
     } else if (a->kind == PLAIN_PART) {
         x->counts.verified++;
-        station_take_verified(x->station, r->frame, r->length, a);
+        station_take_verified(x->station, r->frame, r->length, a, r->at);
     } else {
         x->counts.rejected++;
     }
@@ -63,7 +63,7 @@ static void end_sign(struct security *x, const struct request *r, const struct a
     } else {
         x->counts.unsigned_packets++;
     }
-    station_send_signed(x->station, sealed, n, r->held);
+    station_send_signed(x->station, sealed, n, r->held, r->at);
 }
 
 /* The outcome of a late request was decided before. */
@@ -182,6 +182,7 @@ bool requests_sign(struct security *x, const uint8_t *frame, size_t length, stru
     }
     struct request *r = make(x, SIGN, frame, length);
     r->held = h;
+    r->at = clock_now();
     put(&x->signs, r);
     requests_ask(x);
     return true;

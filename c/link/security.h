@@ -122,7 +122,7 @@ struct request {
     uint64_t asked_at;    /* ms */
     uint64_t asked_micros;
     uint32_t window;      /* that of the pace when it was asked */
-    uint64_t at;          /* when the kernel received the frame that is to be verified */
+    uint64_t at;          /* when the kernel received the frame, or the packet was requested */
     uint32_t hash;        /* of its message */
     uint32_t sender;      /* a hash too */
     enum standing standing; /* of its sender, when frames were compared last */

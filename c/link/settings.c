@@ -77,6 +77,11 @@ static bool take_type(struct options *o, const struct setting *s, struct fault *
     return take_number(o, s, f);
 }
 
+static bool take_first_number(struct options *o, const struct setting *s, struct fault *f) {
+    o->numbered = true;
+    return take_number(o, s, f);
+}
+
 static bool take_security_number(struct options *o, const struct setting *s, struct fault *f) {
     o->tuned_security = true;
     return take_number(o, s, f);
@@ -134,11 +139,14 @@ static const struct row rows[] = {
     TEXT("position", take_position, 0),
     { "gpsd", optional_argument, take_gpsd, 0, 0, 0, 0 },
     NUMBER("gps-timeout", take_number, FIELD(gps_timeout), 1, 3600, 1000),
+    NUMBER("pai-metres", take_number, FIELD(pai_metres), 1, 1000, 1),
     FLAG("clock-synchronised", FIELD(clock_synchronised)),
     FLAG("clock-follow", FIELD(clock_follow)),
     TEXT("address", take_address, 0),
     NUMBER("station-type", take_type, FIELD(station_type), 0, 31, 1),
     FLAG("stationary", FIELD(stationary)),
+    FLAG("mobile", FIELD(mobile)),
+    NUMBER("first-number", take_first_number, FIELD(first_number), 0, 65535, 1),
     NUMBER("capacity", take_short, FIELD(station.capacity), 1, 4096, 1),
     NUMBER("remember", take_short, FIELD(station.remember), 1, 64, 1),
     NUMBER("port", take_port, 0, 0, 65535, 1),

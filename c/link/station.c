@@ -17,8 +17,8 @@ void station_plan_beacon(struct station *s) {
 void station_open(struct station *s, const struct options *o) {
     uint64_t moment = clock_moment();
     s->config = o->station;
-    /* The first sequence number is random: others would ignore numbers that they remember. */
-    handles_make(s, moment, draw());
+    /* A random first sequence number: others would ignore numbers that they remember. */
+    handles_make(s, moment, o->numbered ? (uint16_t)o->first_number : draw());
     s->address = o->station.address;
     s->last = moment;
     conflict_start(&s->conflict);
@@ -78,9 +78,9 @@ static void count_padded(struct station *s, const struct received *r) {
 }
 
 /* While the position is lost, the station receives but forwards nothing. */
-static void forward(struct station *s, size_t length) {
+static void forward(struct station *s, size_t length, uint64_t since) {
     if (length != 0 && place_is_usable(s->place)) {
-        forwards_put(s->forwards, s->frame, length);
+        forwards_put(s->forwards, s->frame, length, since);
     } else {
         s->link->dropped += length != 0;
     }
@@ -102,7 +102,7 @@ static void take_unsecured(struct station *s, const struct received *r) {
     s->last = moment > s->last ? moment : s->last;
     ignore_status(geostation_receive(s->handle, s->last, r->octets, r->length, &got, s->frame,
                                      sizeof s->frame));
-    forward(s, got.relay_length);
+    forward(s, got.relay_length, r->at);
     look_for_conflict(s, r, &got);
     count_padded(s, r);
     if (got.delivered) {
@@ -112,14 +112,14 @@ static void take_unsecured(struct station *s, const struct received *r) {
     }
 }
 
-/* A frame whose message was verified. Its time is now. */
+/* A frame that was received at `since`, and whose message was verified. Its time is now. */
 void station_take_verified(struct station *s, const uint8_t *frame, size_t length,
-                           const struct answer *a) {
+                           const struct answer *a, uint64_t since) {
     struct geostation_reception got;
     s->last = clock_moment();
     ignore_status(geostation_receive_verified(s->handle, s->last, frame, length, a->octets,
                                               a->length, &got, s->frame, sizeof s->frame));
-    forward(s, got.relay_length);
+    forward(s, got.relay_length, since);
     conflict_look(s, &got, frame + MAC_AT, a->octets, a->length);
     if (got.delivered) {
         struct text t;

@@ -170,13 +170,12 @@ class Daemon:
     def counts(self):
         """The line that SIGUSR1 makes."""
         self.process.send_signal(signal.SIGUSR1)
-        while b"\n" not in self.said or b'"link"' not in self.said:
+        while not (counts := [x for x in self.said.split(b"\n")[:-1] if x.startswith(b"{")]):
             assert select.select([self.process.stderr], [], [], PATIENCE)[0], "no counts"
             self.said += os.read(self.process.stderr.fileno(), 65536)
-        *notes, last = self.said.splitlines()
-        self.said = b""
-        self.noted += notes
-        return json.loads(last)
+        *lines, self.said = self.said.split(b"\n")
+        self.noted += [line for line in lines if line != counts[-1]]
+        return json.loads(counts[-1])
 
     def until(self, test):
         """Asks for the counts until they are as wanted."""
@@ -198,4 +197,4 @@ class Daemon:
             out, err = self.process.communicate(timeout=PATIENCE)
         except ValueError:
             out, err = b"", b""
-        return self.process.returncode, out, b"\n".join([*self.noted, err])
+        return self.process.returncode, out, b"\n".join([*self.noted, self.said + err])

@@ -151,16 +151,20 @@ bool envelope_read(const uint8_t *message, size_t n, size_t *start, size_t *leng
 static uint64_t delivered[1 << 16];
 static size_t delivered_count, sent, unsent, events, notes_said;
 static uint64_t oldest; /* microseconds: the greatest age at delivery */
+static uint64_t since_received, since_requested; /* of the last outcome */
 static bool told_up;
 void station_take_verified(struct station *s, const uint8_t *frame, size_t length,
-                           const struct answer *a) {
+                           const struct answer *a, uint64_t since) {
     (void)s, (void)length, (void)a;
+    since_received = since;
     uint64_t tag = tag_of(frame), age = micros - tag;
     oldest = age > oldest ? age : oldest;
     delivered[delivered_count++ % (1 << 16)] = tag;
 }
-void station_send_signed(struct station *s, const uint8_t *frame, size_t length, struct held *h) {
+void station_send_signed(struct station *s, const uint8_t *frame, size_t length, struct held *h,
+                         uint64_t since) {
     (void)s, (void)frame, (void)h;
+    since_requested = since;
     sent += length != 0;
     unsent += length == 0;
 }
@@ -362,6 +366,19 @@ static void test_lost_requests(void) {
     CHECK(events == 0 && told_up == false && security_is_up(&x));
 }
 
+/* The station learns since when a frame, or a packet of its own, has waited for the entity. */
+static void test_since(void) {
+    start(300000, 1, 1000);
+    uint64_t at = clock_now();
+    hear();
+    run(500);
+    CHECK(delivered_count == 1 && since_received == at && clock_now() > at + 300);
+    at = clock_now();
+    CHECK(own());
+    run(500);
+    CHECK(sent == 1 && since_requested == at && clock_now() > at + 300);
+}
+
 /* ---- the order */
 
 /* In their order while the entity keeps up. Once it is behind, the newest first. */
@@ -554,6 +571,7 @@ int main(void) {
     test_junk();
     test_good_flood();
     test_lost_requests();
+    test_since();
     test_order();
     test_places();
     test_own_packets();

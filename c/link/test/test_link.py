@@ -23,6 +23,7 @@ import test_limits
 import test_own
 import test_security
 import test_service
+import test_standard
 from air import Air
 from common import (OTHER, PROGRAM, connect, connect_once_it_listens, has, notes, stamp,
                     udp)
@@ -106,8 +107,9 @@ def test_padded():
             end.send(frame)
         counts = d.until(lambda n: n["link"]["frames"] == 4)
         assert counts["link"] == {"frames": 4, "padded": 1, "tagged": 0, "dropped": 0,
-                                  "kernel_dropped": 0, "forward_dropped": 0, "suppressed": 0,
-                                  "repeated": 0, "over_rate": 0, "events_lost": 0}, counts
+                                  "expired": 0, "kernel_dropped": 0, "forward_dropped": 0,
+                                  "suppressed": 0, "repeated": 0, "over_rate": 0,
+                                  "events_lost": 0}, counts
         assert (counts["accepted"], counts["refused"]["frame"]) == (2, 2), counts
 
 
@@ -335,7 +337,7 @@ def test_start_again():
 
 def test_clock_and_flags():
     """TST is TAI since 2004, PAI set; a fixed station tells a new TST; the flag of a mobile one."""
-    for flag, mobile in (((), 1), (("--stationary",), 0)):
+    for flag, mobile in ((("--mobile",), 1), (("--stationary",), 0)):
         with Net(PROGRAM, 1) as net:
             d, (end,) = net.station(0, *flag), net.ends()
             sent = bytes.fromhex(d.ask(**GBC, payload="")["frame"])
@@ -397,6 +399,7 @@ def test_arguments():
             "--station-type 32", "--capacity 4097", "--capacity 0", "--remember 65",
             "--port 65536", "--forward-spread 1001", "--gps-timeout 0", "--client-timeout 86401",
             "--forward-rate 1000001", "--source-burst -1", "--hop-cap 256", "--deliver-once 2",
+            "--first-number 65536", "--pai-metres 0", "--pai-metres 1001", "--stationary --mobile",
             "--config /nosuch", "--address 3c00030000000000", "--address 3c0002000000000")),
         *(["--interface", "lo", "--position", p] for p in
           ("91,0", "x", "1,2x", "1", "0,180.0000001", "1.12345678,0", "1.,0", "+1,0", "-,0")),
@@ -422,7 +425,7 @@ def test_arguments():
 def main():
     tests = {}
     for module in (sys.modules[__name__], test_client_rights, test_clock, test_faults, test_fixes,
-                   test_limits, test_own, test_security, test_service):
+                   test_limits, test_own, test_security, test_service, test_standard):
         named = ((k, v) for k, v in vars(module).items() if k.startswith("test_"))
         found = {k: v for k, v in named if callable(v)}
         assert not tests.keys() & found.keys(), tests.keys() & found.keys()

@@ -1,0 +1,128 @@
+"""What the daemon does by itself, against EN 302 636-4-1: the mobile bit of a road-side unit, the
+first sequence number, PAI, and the lifetime of frames that wait."""
+
+import tempfile
+import time
+
+import frames
+from common import PROGRAM, gbc, has, run, udp_command, until, write
+from entity import secured
+from frames import GBC
+from net import Daemon, Net
+from test_fixes import Gpsd, report, until_sent
+from test_security import LONG, Bench
+
+LIFETIME_AT = 16
+SHORT, MINUTE = 0x04, 0x1A  # 50 ms and 60 s
+WAITING = 64
+IMPLIED = b"is a road-side unit"
+
+
+def living(frame, lifetime):
+    return frame[:LIFETIME_AT] + bytes([lifetime]) + frame[LIFETIME_AT + 1 :]
+
+
+def sent_by(d):
+    return bytes.fromhex(d.ask(**GBC, payload="00")["frame"])
+
+
+def test_mobile_bit():
+    """A road-side unit does not move unless it says so, and the start says what was implied."""
+    with Net(PROGRAM, 1) as net:
+        for options, mobile, is_implied in (
+            ((), 0, True),
+            (("--station-type", 15), 0, True),
+            (("--stationary",), 0, False),
+            (("--mobile",), 1, False),
+            (("--station-type", 15, "--mobile"), 1, False),
+            (("--station-type", 5), 1, False),
+            (("--station-type", 5, "--stationary"), 0, False),
+            (("--station-type", 5, "--mobile"), 1, False),
+            (("--address", "3c00020000000100"), 0, True),
+            (("--address", "1400020000000100"), 1, False),
+        ):
+            d = net.station(0, *options)
+            found = frames.mobile_of(sent_by(d))
+            said = d.end()[2]
+            assert (found, said.count(IMPLIED)) == (mobile, is_implied), (options, found, said)
+
+
+def test_first_number():
+    """The first packet has this number, also after the next start."""
+    for number, wanted in (("0", [0, 1]), ("0", [0, 1]), ("65535", [65535, 0])):
+        d = Daemon([*udp_command(1, 47951, "127.0.0.1:47952"), "--first-number", number])
+        found = [int.from_bytes(sent_by(d)[26:28], "big") for _ in wanted]
+        assert found == wanted, (number, found)
+        assert d.end()[0] == 0
+
+
+def test_pai_metres():
+    """PAI is set up to this error of a fix: here the standard's 40 m."""
+    gpsd = Gpsd(8, "--pai-metres", "40")
+    for k, (error, pai) in enumerate(((10.1, 1), (40, 1), (40.1, 0), (5, 1), (99, 0))):
+        lat = 514776500 + k * 1000
+        gpsd.link.sendall(report(eph=error, lat=lat / 1e7, lon=-0.001))
+        until_sent(gpsd.station, lat=lat, pai=pai)
+    assert gpsd.end()[0] == 0
+
+
+def test_options_of_the_standard():
+    """They have a place in a configuration file too, and the two flags exclude each other."""
+    with tempfile.TemporaryDirectory() as room:
+        good = "interface = lo\nposition = 0,0\nmobile\nfirst-number = 0\npai-metres = 40\n"
+        path = write(f"{room}/good", good)
+        p = run("--config", path, "--check-config")
+        assert (p.returncode, p.stderr) == (0, ""), p
+        for more, said in (("stationary", "--stationary and --mobile"),
+                           ("pai-metres = 0", "not a number from 1 to 1000"),
+                           ("first-number = 65536", "not a number from 0 to 65535")):
+            p = run("--config", write(f"{room}/bad", good + more + "\n"), "--check-config")
+            assert p.returncode == 2 and said in p.stderr, (more, p)
+
+
+def test_lifetime_of_forwarded_frames():
+    """Of frames that wait up to a second, most with 50 ms to live are not sent; all others are."""
+    for lifetime, least in ((MINUTE, 0), (SHORT, WAITING // 2)):
+        with Net(PROGRAM, 1) as net:
+            d, (end,) = net.station(0, "--forward-spread", 1000), net.ends()
+            for k in range(WAITING):
+                end.send(living(gbc(k), lifetime))
+            d.until(lambda n: n["relayed"] == WAITING)
+            forwarded = set()
+            end.settimeout(1.5)
+            try:
+                while True:
+                    frame = end.recv(2048)
+                    if frames.kind_of(frame) == "gbc":
+                        forwarded.add(frame)
+            except TimeoutError:
+                pass
+            counts = d.counts()["link"]
+            assert len(forwarded) + counts["expired"] == WAITING, (len(forwarded), counts)
+            assert (counts["expired"] == 0) == (least == 0) and counts["expired"] >= least, counts
+
+
+def test_lifetime_at_the_entity():
+    """What the entity answers after its lifetime is delivered, and not sent."""
+    with Bench(*LONG) as b:
+        for number, lifetime in ((1, SHORT), (2, MINUTE)):
+            b.send(secured(living(gbc(number, b"ice"), lifetime)))
+            asked = b.next_of("verify")
+            time.sleep(0.2)
+            b.entity.verify(asked)
+            assert b.daemon.event("delivered")["payload"] == b"ice".hex()
+            if lifetime == SHORT:
+                assert b.is_quiet(), "it was forwarded after its lifetime"
+        assert b.received()[LIFETIME_AT] == MINUTE
+        has({"expired": 1}, b.daemon.counts()["link"])
+        for lifetime, wanted in ((SHORT, {"result": "refused", "code": "lifetime over"}),
+                                 (MINUTE, {"result": "sent"})):
+            b.daemon.put(**{**GBC, "lt": lifetime}, payload="00")
+            asked = b.next_of("sign")
+            time.sleep(0.2)
+            b.entity.sign(asked)
+            has(wanted, b.daemon.answer())
+        assert b.received()[LIFETIME_AT] == MINUTE
+        counts = until(lambda: b.daemon.counts(), "no counts")
+        has({"expired": 2}, counts["link"])
+        has({"geobroadcasts": 1}, counts["sent"])
