@@ -1,8 +1,10 @@
 """What the daemon does by itself, against EN 302 636-4-1: the mobile bit of a road-side unit, the
 first sequence number, PAI, and the lifetime of frames that wait."""
 
+import shlex
 import tempfile
 import time
+from pathlib import Path
 
 import frames
 from common import PROGRAM, gbc, has, run, udp_command, until, write
@@ -78,6 +80,21 @@ def test_options_of_the_standard():
                            ("first-number = 65536", "not a number from 0 to 65535")):
             p = run("--config", write(f"{room}/bad", good + more + "\n"), "--check-config")
             assert p.returncode == 2 and said in p.stderr, (more, p)
+
+
+def test_command_of_the_page():
+    """The command that PROFILE.md has for a test bench."""
+    page = (Path(__file__).resolve().parents[3] / "docs/PROFILE.md").read_text()
+    command = page.split("```sh\ngeostation-link ")[1].split("```")[0]
+    p = run(*shlex.split(command.replace("\\\n", "")), "--check-config")
+    assert (p.returncode, p.stderr) == (0, ""), p
+    with Net(PROGRAM, 1) as net:
+        words = shlex.split(command.replace("\\\n", "").replace("eth0", "v"))
+        d = Daemon(net.enter(0, PROGRAM, *words))
+        for number in range(100):
+            sent = sent_by(d)
+            assert frames.mobile_of(sent) == 0 and sent[26:28] == bytes([0, number]), sent.hex()
+        d.end()
 
 
 def test_lifetime_of_forwarded_frames():
