@@ -10,7 +10,7 @@ from program import TOP
 PAGE = TOP / "docs/PROFILE.md"
 ITEM = re.compile(r"(CAP|MIB|PKT|FUN|PIX)-(\d+)$")
 STATUS = re.compile(r"[mco-]( \?)?$")
-SUPPORT = re.compile(r"([YNP-])(/[YN])?$")
+SUPPORT = re.compile(r"[YNP-](/[YN-]/[YN-])?$")
 PRODUCTS = ("L", "D", "S")
 
 
@@ -138,9 +138,10 @@ def check_packets(rows):
     types = {name: int(value) for name, value in numbers}
     found = {}
     for row in rows:
-        if row.cells[0].startswith("PKT") and "Y/Y" in row.cells:
+        support = {row.by_name[product] for product in PRODUCTS if product in row.by_name}
+        if row.cells[0].startswith("PKT") and any("Y" in cell for cell in support):
             found[row.by_name["Packet"]] = int(row.by_name["HT, HST"].split(",")[0])
-            if [row.by_name[product] for product in PRODUCTS] != ["Y/Y"] * 3:
+            if len(support) != 1:
                 return [f"line {row.line}: the products run one core"]
     return [] if found == types else [f"packets: {found}, the sources have {types}"]
 
