@@ -1,13 +1,15 @@
 """What the daemon does by itself, against EN 302 636-4-1: the mobile bit of a road-side unit, the
 first sequence number, PAI, and the lifetime of frames that wait."""
 
+import re
 import shlex
+import struct
 import tempfile
 import time
 from pathlib import Path
 
 import frames
-from common import PROGRAM, gbc, has, run, udp_command, until, write
+from common import OTHER, PROGRAM, gbc, has, run, stamp, udp_command, until, write
 from entity import secured
 from frames import GBC
 from net import Daemon, Net
@@ -20,8 +22,18 @@ WAITING = 64
 IMPLIED = b"is a road-side unit"
 
 
+PAGE = Path(__file__).resolve().parents[3] / "docs/PROFILE.md"
+PACKET = 14  # its first octet in a frame
+
+
+def with_octets(frame, at, octets):
+    """A frame with other octets in its packet."""
+    at += PACKET
+    return frame[:at] + octets + frame[at + len(octets) :]
+
+
 def living(frame, lifetime):
-    return frame[:LIFETIME_AT] + bytes([lifetime]) + frame[LIFETIME_AT + 1 :]
+    return with_octets(frame, LIFETIME_AT - PACKET, bytes([lifetime]))
 
 
 def sent_by(d):
@@ -84,8 +96,7 @@ def test_options_of_the_standard():
 
 def test_command_of_the_page():
     """The command that PROFILE.md has for a test bench."""
-    page = (Path(__file__).resolve().parents[3] / "docs/PROFILE.md").read_text()
-    command = page.split("```sh\ngeostation-link ")[1].split("```")[0]
+    command = PAGE.read_text().split("```sh\ngeostation-link ")[1].split("```")[0]
     p = run(*shlex.split(command.replace("\\\n", "")), "--check-config")
     assert (p.returncode, p.stderr) == (0, ""), p
     with Net(PROGRAM, 1) as net:
@@ -95,6 +106,47 @@ def test_command_of_the_page():
             sent = sent_by(d)
             assert frames.mobile_of(sent) == 0 and sent[26:28] == bytes([0, number]), sent.hex()
         d.end()
+
+
+def refused_packets():
+    """Packets that no station of this project processes, by the rows of the page that say so."""
+    beacon, area = frames.beacon(OTHER, stamp()), gbc(1)
+    hop = frames.shb(OTHER, stamp(), 2002, b"x")
+    rectangle = with_octets(with_octets(area, 5, b"\x41"), 50, b"\0\1")
+    return {
+        "CAP-3": [(area, 0, b"\x12")],
+        "CAP-5": [(area, 4, b"\x10"), (hop, 4, b"\x30")],
+        "MIB-2": [(area, 0, b"\x21")],
+        "PKT-2": [(area, 5, b"\x20")],
+        "PKT-6": [(hop, 5, b"\x51")],
+        "PKT-7": [(area, 5, b"\x60"), (area, 5, b"\x61")],
+        "PKT-8": [(beacon, 0, b"\x10")],
+        "PKT-9": [(area, 4, b"\0"), (hop, 4, b"\0"), (beacon, 4, b"\x20")],
+        "PKT-10": [(hop, 8, b"\0\0"), (area, 8, b"\0\3")],
+        "PKT-11": [(beacon, 3, b"\0")],
+        "PKT-12": [(beacon, 24, struct.pack(">i", 900000001)), (beacon, 14, b"\1"),
+                   (hop, 28, struct.pack(">i", 1800000001))],
+        "PKT-13": [(area, 50, b"\0\1"), (area, 52, b"\0\1"), (rectangle, 52, b"\1\x68")],
+        "PKT-14": [(area, 1, b"\1"), (hop, 7, b"\x81"), (area, 15, b"\1"), (area, 54, b"\x80")],
+        "FUN-14": [(area, 3, b"\x0b")],
+    }  # fmt: skip
+
+
+def test_codes_of_the_page():
+    """A row of PROFILE.md has each code that its packets are refused with, and no other one."""
+    with Net(PROGRAM, 1) as net:
+        d = net.station(0)
+        for item, packets in refused_packets().items():
+            row = next(x for x in PAGE.read_text().splitlines() if x.startswith(f"| {item} |"))
+            wanted = set(re.findall(r"G\d+(?: at \d+)?", row))
+            found = set()
+            for frame, at, octets in packets:
+                answer = d.ask(do="read_frame", frame=with_octets(frame, at, octets).hex())
+                code = answer["code"].removeprefix("L5 ")
+                found.add(code if code in wanted else code.split(" at ")[0])
+            assert found == wanted, (item, found, wanted)
+        for frame in (gbc(1), frames.beacon(OTHER, stamp())):
+            has({"result": "read"}, d.ask(do="read_frame", frame=frame.hex()))
 
 
 def test_lifetime_of_forwarded_frames():
