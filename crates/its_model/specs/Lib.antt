@@ -6,9 +6,11 @@ pub mod Calls
 pub mod Station
 pub mod Contention
 pub mod World
+pub mod Contended
 pub mod Log
 pub mod Schedules
 pub mod Reach
+pub mod SomeFrame
 pub mod Chain
 pub mod Remembered
 pub mod EverySchedule
