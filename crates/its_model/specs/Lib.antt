@@ -5,6 +5,8 @@ pub mod Decision
 pub mod Calls
 pub mod Station
 pub mod Contention
+pub mod Isolation
+pub mod Contender
 pub mod World
 pub mod Contended
 pub mod Log
@@ -14,6 +16,5 @@ pub mod SomeFrame
 pub mod Chain
 pub mod Remembered
 pub mod EverySchedule
-pub mod Isolation
 pub use Rattle.its_gnvalue.specs.Values
 pub use Rattle.its_geometry.specs.Area
