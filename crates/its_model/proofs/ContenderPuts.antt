@@ -63,7 +63,7 @@ wait_least None r tie order =
 wait_least (Some d2) r tie order =
     omega (arith, order, at_most (r.max_wait - r.min_wait) r d2)
 
-wait_greatest : (o : Option ℕ) (r : ContentionRule) (tie : ℕ) → wait r tie o ≤ r.max_wait
+pub wait_greatest : (o : Option ℕ) (r : ContentionRule) (tie : ℕ) → wait r tie o ≤ r.max_wait
 unfolding wait
 wait_greatest None r tie = omega arith
 wait_greatest (Some d2) r tie = omega arith

@@ -13,6 +13,7 @@ pub mod Log
 pub mod Schedules
 pub mod Reach
 pub mod SomeFrame
+pub mod Overheard
 pub mod Chain
 pub mod Remembered
 pub mod EverySchedule

@@ -1,0 +1,443 @@
+-- What a happening does to the lots of the frames, and what is known of a lot.
+use Rattle.std.proofs.Common.{◌≡◌, ◌⊎◌, ℕ, zero, suc, ◌+◌, ◌≤◌, ◌<◌, List, [], ◌∷◌, ◌++◌, length, map}
+use Rattle.std.proofs.Common.{filter, set, take, drop, Bool, true, false, cond, not, ◌&&◌, Option}
+use Rattle.std.proofs.Common.{Some, None, refl, sym, ap, subst, ◌∙◌, inl, inr, arith, All}
+use Rattle.std.specs.Prelude.{slice_get, nat_le, nat_lt}
+use Rattle.std.proofs.lemmas.List.Elements.{All-nil, All-cons, All-head, All-tail, All-append}
+use Rattle.std.proofs.lemmas.List.Elements.{All-filter, All-take, All-drop}
+use Rattle.its_gnvalue.specs.Values.{mid_of}
+use Rattle.its_model.specs.Packet.{Transmission, Message}
+use Rattle.its_model.specs.History.{is_among}
+use Rattle.its_model.specs.Calls.{Why, Answer}
+use Rattle.its_model.specs.Calls.Why.{NotForMe, OwnSource, SenderMismatch, Duplicate}
+use Rattle.its_model.specs.Calls.Answer.{Moved, Opened, Closed, Restarted, Quiet, Sent, Ignored}
+use Rattle.its_model.specs.Calls.Answer.{Accepted, Refused}
+use Rattle.its_model.specs.Station.{StationModel}
+use Rattle.its_model.specs.World.{with_one_more, frame_of}
+use Rattle.its_model.specs.Contention.{ContentionRule, HeldFrame, newly_held, stays, places}
+use Rattle.its_model.specs.Contention.{wait, tie_of, sender_distance}
+use Rattle.its_model.specs.Contention.{contends_for, due_of, Fate, fate, after_fate, after_own}
+use Rattle.its_model.specs.Contention.{late_after, kept_at, place_due, frame_at, without, first_due}
+use Rattle.its_model.specs.Contention.Fate.{Stays, Goes, Waits}
+use Rattle.its_model.specs.Contended.{WaitingFrame, Lot, CopyTest, Waiting, lots_after, lot_at}
+use Rattle.its_model.specs.Contended.{lot_by, waiting_as, after_acceptance, with_copy, with_copies}
+use Rattle.its_model.specs.Contended.{after_counting, after_plain, after_own_call, late_at}
+use Rattle.its_model.specs.Contended.{lots_after_own, lots_after_release, waiting_after_release}
+use Rattle.its_model.specs.Contended.Lot.{SentAt, WaitsUntil, CancelledBy, DroppedAt}
+use Rattle.its_model.specs.Overheard.{AreCopiesOf, IsCopyIn}
+use Rattle.its_model.proofs.Lists.{get_front, get_last, get_snoc, length_set, length_more, get_set}
+
+-- ---- a lot stays, or is another from this time on
+
+-- a lot of a frame that no longer waits, since this time
+abbrev pub IsLeftAt : ℕ → Lot → Type 0
+IsLeftAt moment (SentAt m) = m ≡ moment
+IsLeftAt moment (WaitsUntil due) = ⊥
+IsLeftAt moment (CancelledBy frames m) = m ≡ moment
+IsLeftAt moment (DroppedAt m) = m ≡ moment
+
+pub record Evolved (moment : ℕ) (lots : List Lot) (k : ℕ) (old : Lot) : Type 0 where
+  pub lot : Lot
+  pub is : slice_get lots k ≡ Some lot
+  pub change : (lot ≡ old) ⊎ IsLeftAt moment lot
+
+abbrev pub Evolves : ℕ → List Lot → List Lot → Type 0
+Evolves moment lots after =
+    (k : ℕ) (lot : Lot) → slice_get lots k ≡ Some lot → Evolved moment after k lot
+
+evolves_same : (moment : ℕ) (lots : List Lot) → Evolves moment lots lots
+evolves_same moment lots k lot is = record { lot = lot; is = is; change = inl refl }
+
+evolves_more : (o : Option Lot) (moment : ℕ) (lots : List Lot)
+    → Evolves moment lots (with_one_more lots o)
+evolves_more None moment lots k lot is = record { lot = lot; is = is; change = inl refl }
+evolves_more (Some x) moment lots k lot is =
+    record { lot = lot; is = get_front lots (x ∷ []) k lot is; change = inl refl }
+
+evolves_set : (lots : List Lot) (n moment : ℕ) (x : Lot) → IsLeftAt moment x
+    → Evolves moment lots (set lots n x)
+evolves_set [] n moment x left k lot is = cc
+evolves_set (l ∷ lots) zero moment x left zero lot is =
+    record { lot = x; is = refl; change = inr left }
+evolves_set (l ∷ lots) zero moment x left (suc k) lot is =
+    record { lot = lot; is = is; change = inl refl }
+evolves_set (l ∷ lots) (suc n) moment x left zero lot is =
+    record { lot = lot; is = is; change = inl refl }
+evolves_set (l ∷ lots) (suc n) moment x left (suc k) lot is =
+    let e = evolves_set lots n moment x left k lot is in
+    record { lot = e.lot; is = e.is; change = e.change }
+
+evolves_twice : (moment : ℕ) (a b c : List Lot) → Evolves moment a b → Evolves moment b c
+    → Evolves moment a c
+evolves_twice moment a b c first second k lot is =
+    let e = first k lot is in
+    let f = second k e.lot e.is in
+    record {
+      lot = f.lot;
+      is = f.is;
+      change = elim f.change [
+        | inl same ↦ elim e.change [
+          | inl old ↦ inl (same ∙ old)
+          | inr left ↦ inr (subst (IsLeftAt moment) (sym same) left)
+        ]
+        | inr left ↦ inr left
+      ];
+    }
+
+evolves_after : (gone : List (HeldFrame WaitingFrame)) (lot : HeldFrame WaitingFrame → Lot)
+    (moment : ℕ) (lots : List Lot)
+    → ((h : HeldFrame WaitingFrame) → IsLeftAt moment (lot h))
+    → Evolves moment lots (lots_after lot lots gone)
+evolves_after [] lot moment lots left = evolves_same moment lots
+evolves_after (h ∷ gone) lot moment lots left =
+    let next = set lots h.frame.number (lot h) in
+    evolves_twice moment lots next (lots_after lot next gone)
+    (evolves_set lots h.frame.number moment (lot h) (left h))
+    (evolves_after gone lot moment next left)
+
+evolves_release : (o : Option WaitingFrame) (now : ℕ) (lots : List Lot)
+    → Evolves now lots (lots_after_release now lots o)
+evolves_release None now lots = evolves_same now lots
+evolves_release (Some frame) now lots = evolves_set lots frame.number now (SentAt now) refl
+
+-- ---- there are as many lots as frames
+even_after : (gone : List (HeldFrame WaitingFrame)) (lot : HeldFrame WaitingFrame → Lot)
+    (lots : List Lot) → length (lots_after lot lots gone) ≡ length lots
+even_after [] lot lots = refl
+even_after (h ∷ gone) lot lots =
+    even_after gone lot (set lots h.frame.number (lot h))
+    ∙ length_set lots h.frame.number (lot h)
+
+even_release : (o : Option WaitingFrame) (now : ℕ) (lots : List Lot)
+    → length (lots_after_release now lots o) ≡ length lots
+even_release None now lots = refl
+even_release (Some frame) now lots = length_set lots frame.number (SentAt now)
+
+-- ---- what is known of what waits and of what was cancelled
+
+-- a frame that waits is the world's, and what was counted of it are copies
+pub record IsHeld (test : CopyTest) (air : List Transmission)
+    (h : HeldFrame WaitingFrame) : Type 0 where
+  pub in_air : slice_get air h.frame.number ≡ Some h.frame.packet
+  pub copies : AreCopiesOf test air h.frame.packet h.frame.copies
+
+-- what cancelled frame k are copies
+abbrev pub AreCopiesIn : CopyTest → List Transmission → ℕ → List ℕ → Type 0
+AreCopiesIn test air k frames =
+    (t : Transmission) × (slice_get air k ≡ Some t) × AreCopiesOf test air t frames
+
+abbrev pub AreKnown : CopyTest → List Transmission → List Lot → Type 0
+AreKnown test air lots =
+    (k : ℕ) (frames : List ℕ) (moment : ℕ) → slice_get lots k ≡ Some (CancelledBy frames moment)
+    → AreCopiesIn test air k frames
+
+pub record IsSound (test : CopyTest) (air : List Transmission) (q : Waiting) : Type 0 where
+  pub held : All (IsHeld test air) q.held
+  pub lots : AreKnown test air q.lots
+
+-- more frames leave it
+copies_stay : (frames : List ℕ) (test : CopyTest) (air more : List Transmission)
+    (t : Transmission) → AreCopiesOf test air t frames → AreCopiesOf test (air ++ more) t frames
+copies_stay [] test air more t all = tt
+copies_stay (k ∷ frames) test air more t all = (
+  record {
+    own = all.0.own;
+    copy = all.0.copy;
+    in_air = get_front air more k all.0.copy all.0.in_air;
+    tested = all.0.tested;
+  },
+  copies_stay frames test air more t all.1,
+)
+
+pub held_stay : (held : List (HeldFrame WaitingFrame)) (test : CopyTest)
+    (air more : List Transmission) → All (IsHeld test air) held
+    → All (IsHeld test (air ++ more)) held
+held_stay [] test air more all = All-nil (IsHeld test (air ++ more))
+held_stay (h ∷ held) test air more all =
+    let one = All-head (IsHeld test air) h held all in
+    All-cons (IsHeld test (air ++ more)) h held (record {
+      in_air = get_front air more h.frame.number h.frame.packet one.in_air;
+      copies = copies_stay h.frame.copies test air more h.frame.packet one.copies;
+    }) (held_stay held test air more (All-tail (IsHeld test air) h held all))
+
+known_stay : (test : CopyTest) (air more : List Transmission) (lots : List Lot)
+    → AreKnown test air lots → AreKnown test (air ++ more) lots
+known_stay test air more lots known k frames moment is =
+    let c = known k frames moment is in (
+      c.0,
+      get_front air more k c.0 c.1,
+      copies_stay frames test air more c.0 c.2,
+    )
+
+-- with one more that is not cancelled
+known_more : (test : CopyTest) (air : List Transmission) (lots : List Lot) (x : Lot)
+    → ((frames : List ℕ) (moment : ℕ) → x ≡ CancelledBy frames moment → ⊥)
+    → AreKnown test air lots → AreKnown test air (lots ++ x ∷ [])
+known_more test air lots x other known k frames moment is =
+    elim (get_snoc lots x k (CancelledBy frames moment) is) [
+      | inl old ↦ known k frames moment old
+      | inr new ↦ absurd (other frames moment new.1)
+    ]
+
+-- with one changed
+known_set : (test : CopyTest) (air : List Transmission) (lots : List Lot) (n : ℕ) (x : Lot)
+    → ((frames : List ℕ) (moment : ℕ) → x ≡ CancelledBy frames moment
+    → AreCopiesIn test air n frames)
+    → AreKnown test air lots → AreKnown test air (set lots n x)
+known_set test air lots n x new known k frames moment is =
+    elim (get_set lots n x k (CancelledBy frames moment) is) [
+      | inl here ↦ subst (λ (i : ℕ). AreCopiesIn test air i frames) (sym here.0)
+          (new frames moment here.1)
+      | inr there ↦ known k frames moment there.1
+    ]
+
+known_after : (gone : List (HeldFrame WaitingFrame)) (lot : HeldFrame WaitingFrame → Lot)
+    (test : CopyTest) (air : List Transmission) (lots : List Lot)
+    → ((h : HeldFrame WaitingFrame) → IsHeld test air h → (frames : List ℕ) (moment : ℕ)
+    → lot h ≡ CancelledBy frames moment → AreCopiesIn test air h.frame.number frames)
+    → All (IsHeld test air) gone → AreKnown test air lots
+    → AreKnown test air (lots_after lot lots gone)
+known_after [] lot test air lots new all known = known
+known_after (h ∷ gone) lot test air lots new all known =
+    known_after gone lot test air (set lots h.frame.number (lot h)) new
+    (All-tail (IsHeld test air) h gone all)
+    (known_set test air lots h.frame.number (lot h)
+    (new h (All-head (IsHeld test air) h gone all)) known)
+
+known_release : (o : Option WaitingFrame) (now : ℕ) (test : CopyTest) (air : List Transmission)
+    (lots : List Lot) → AreKnown test air lots
+    → AreKnown test air (lots_after_release now lots o)
+known_release None now test air lots known = known
+known_release (Some frame) now test air lots known =
+    known_set test air lots frame.number (SentAt now) (λ frames moment e. cc) known
+
+-- ---- what a happening at a station does
+
+-- the first lot of a frame: it went out at once, or it waits by the station's rule
+abbrev pub IsFirstLot : Option ContentionRule → ℕ → Lot → Type 0
+IsFirstLot rule moment lot =
+    (lot ≡ SentAt moment)
+    ⊎ ((r : ContentionRule) × (d : Option ℕ) × (tie : ℕ) × (rule ≡ Some r)
+    × (lot ≡ WaitsUntil (moment + wait r tie d)))
+
+pub record Passes (test : CopyTest) (rule : Option ContentionRule) (moment : ℕ)
+    (air after : List Transmission) (q next : Waiting) : Type 0 where
+  pub evolves : Evolves moment q.lots next.lots
+  pub even : length q.lots ≡ length air → length next.lots ≡ length after
+  pub fresh : length q.lots ≡ length air → length air < length after
+      → (lot : Lot) × (slice_get next.lots (length air) ≡ Some lot) × IsFirstLot rule moment lot
+  pub sound : IsSound test air q → IsSound test after next
+
+-- nothing
+pub passes_same : (test : CopyTest) (rule : Option ContentionRule) (moment : ℕ)
+    (air : List Transmission) (q : Waiting) → Passes test rule moment air air q q
+passes_same test rule moment air q =
+    record {
+      evolves = evolves_same moment q.lots;
+      even = λ e. e;
+      fresh = λ e less. absurd (omega (arith, less));
+      sound = λ s. s;
+    }
+
+-- a frame that goes out at once, or none
+pub passes_plain : (o : Option Transmission) (test : CopyTest) (rule : Option ContentionRule)
+    (moment : ℕ) (air : List Transmission) (q : Waiting)
+    → Passes test rule moment air (with_one_more air o) q
+    (record { held = q.held; lots = with_one_more q.lots (lot_at moment o) })
+passes_plain None test rule moment air q = passes_same test rule moment air q
+passes_plain (Some t) test rule moment air q =
+    let lots = q.lots ++ SentAt moment ∷ [] in
+    record {
+      evolves = evolves_more (Some (SentAt moment)) moment q.lots;
+      even = λ e. omega (arith, e, length_more q.lots (SentAt moment), length_more air t);
+      fresh = λ e less. (
+        SentAt moment,
+        ap (slice_get lots) (sym e) ∙ get_last q.lots (SentAt moment),
+        inl refl,
+      );
+      sound = λ s. record {
+        held = held_stay q.held test air (t ∷ []) s.held;
+        lots = known_more test (air ++ t ∷ []) q.lots (SentAt moment) (λ frames m e. cc)
+            (known_stay test air (t ∷ []) q.lots s.lots);
+      };
+    }
+
+-- all are dropped
+pub passes_restart : (test : CopyTest) (rule : Option ContentionRule) (moment : ℕ)
+    (air : List Transmission) (q : Waiting)
+    → Passes test rule moment air air q
+    (record { held = []; lots = lots_after (λ h. DroppedAt moment) q.lots q.held })
+passes_restart test rule moment air q =
+    record {
+      evolves = evolves_after q.held (λ h. DroppedAt moment) moment q.lots (λ h. refl);
+      even = λ e. even_after q.held (λ h. DroppedAt moment) q.lots ∙ e;
+      fresh = λ e less. absurd (omega (arith, less));
+      sound = λ s. record {
+        held = All-nil (IsHeld test air);
+        lots = known_after q.held (λ h. DroppedAt moment) test air q.lots
+            (λ h one frames m e. cc) s.held s.lots;
+      };
+    }
+
+-- an own call
+pub passes_own : (answer : Answer Transmission) (test : CopyTest) (rule : Option ContentionRule)
+    (moment : ℕ) (air : List Transmission) (q : Waiting)
+    → Passes test rule moment air (with_one_more air (frame_of answer)) q
+    (after_own_call moment q answer)
+passes_own Moved test rule moment air q = passes_same test rule moment air q
+passes_own Opened test rule moment air q = passes_same test rule moment air q
+passes_own Closed test rule moment air q = passes_same test rule moment air q
+passes_own Restarted test rule moment air q = passes_restart test rule moment air q
+passes_own Quiet test rule moment air q = passes_same test rule moment air q
+passes_own (Sent frame) test rule moment air q = passes_plain (Some frame) test rule moment air q
+passes_own (Ignored why) test rule moment air q = passes_same test rule moment air q
+passes_own (Accepted handed relayed) test rule moment air q =
+    passes_plain relayed test rule moment air q
+passes_own (Refused refusal) test rule moment air q = passes_same test rule moment air q
+
+-- a relay that waits
+passes_wait : (test : CopyTest) (r : ContentionRule) (moment : ℕ) (air : List Transmission)
+    (q : Waiting) (relay : Transmission) (tie : ℕ) (d : Option ℕ)
+    → length q.lots ≡ length air
+    → Passes test (Some r) moment air (air ++ relay ∷ []) q
+    (record {
+      held = q.held ++ newly_held (waiting_as (length air) relay) (moment + wait r tie d) ∷ [];
+      lots = q.lots ++ WaitsUntil (moment + wait r tie d) ∷ [];
+    })
+passes_wait test r moment air q relay tie d long =
+    let due = moment + wait r tie d in
+    let lots = q.lots ++ WaitsUntil due ∷ [] in
+    let one = newly_held (waiting_as (length air) relay) due in
+    let after = air ++ relay ∷ [] in
+    record {
+      evolves = evolves_more (Some (WaitsUntil due)) moment q.lots;
+      even = λ e. omega (arith, e, length_more q.lots (WaitsUntil due), length_more air relay);
+      fresh = λ e less. (
+        WaitsUntil due,
+        ap (slice_get lots) (sym e) ∙ get_last q.lots (WaitsUntil due),
+        inr (r, d, tie, refl, refl),
+      );
+      sound = λ s. record {
+        held = All-append (IsHeld test after) q.held (one ∷ [])
+            (held_stay q.held test air (relay ∷ []) s.held)
+            (All-cons (IsHeld test after) one [] (record {
+              in_air = get_last air relay;
+              copies = tt;
+            }) (All-nil (IsHeld test after)));
+        lots = known_more test after q.lots (WaitsUntil due) (λ frames m e. cc)
+            (known_stay test air (relay ∷ []) q.lots s.lots);
+      };
+    }
+
+-- an acceptance
+pub passes_acceptance : (relayed : Option Transmission) (test : CopyTest) (r : ContentionRule)
+    (s : StationModel) (moment : ℕ) (t : Transmission) (air : List Transmission) (q : Waiting)
+    → length q.lots ≡ length air
+    → Passes test (Some r) moment air (with_one_more air relayed) q
+    (after_acceptance (length air) moment q relayed (fate r s moment q.held t relayed))
+passes_acceptance None test r s moment t air q long = passes_same test (Some r) moment air q
+passes_acceptance (Some relay) test r s moment t air q long =
+    by (contends_for s t.pdu.body && nat_lt (length q.held) places)
+  where
+    by : (b : Bool)
+        → Passes test (Some r) moment air (air ++ relay ∷ []) q
+        (after_acceptance (length air) moment q (Some relay)
+        (cond b (Waits (due_of r s moment t)) Goes))
+    by true = passes_wait test r moment air q relay (tie_of s t.pdu.body)
+        (sender_distance s moment t.link_source) long
+    by false = passes_plain (Some relay) test (Some r) moment air q
+
+-- a copy that is counted
+counted_is : (b c : Bool) (test : CopyTest) (own k : ℕ) (t : Transmission)
+    (air : List Transmission) (h : HeldFrame WaitingFrame)
+    → test own h.frame.packet t ≡ b → is_among t.link_source h.senders ≡ c
+    → slice_get air k ≡ Some t → IsHeld test air h
+    → IsHeld test air (cond (b && not c) (record h {
+      frame = record h.frame { copies = k ∷ h.frame.copies };
+      senders = t.link_source ∷ h.senders;
+    }) h)
+counted_is true false test own k t air h tested among at one =
+    record {
+      in_air = one.in_air;
+      copies = (record { own = own; copy = t; in_air = at; tested = tested }, one.copies);
+    }
+counted_is true true test own k t air h tested among at one = one
+counted_is false c test own k t air h tested among at one = one
+
+counted_are : (held : List (HeldFrame WaitingFrame)) (test : CopyTest) (own k : ℕ)
+    (t : Transmission) (air : List Transmission)
+    → slice_get air k ≡ Some t → All (IsHeld test air) held
+    → All (IsHeld test air) (with_copies test own k t held)
+counted_are [] test own k t air at all = all
+counted_are (h ∷ held) test own k t air at all =
+    All-cons (IsHeld test air) (with_copy (test own h.frame.packet t) t.link_source k h)
+    (with_copies test own k t held)
+    (counted_is (test own h.frame.packet t) (is_among t.link_source h.senders) test own k t air h
+    refl refl at (All-head (IsHeld test air) h held all))
+    (counted_are held test own k t air at (All-tail (IsHeld test air) h held all))
+
+-- a duplicate
+pub passes_duplicate : (test : CopyTest) (rule : Option ContentionRule) (moment : ℕ)
+    (air : List Transmission) (q : Waiting) (copies own k : ℕ) (t : Transmission)
+    → slice_get air k ≡ Some t
+    → Passes test rule moment air air q
+    (after_counting copies moment q.lots (with_copies test own k t q.held))
+passes_duplicate test rule moment air q copies own k t at =
+    let all = with_copies test own k t q.held in
+    let go = λ (h : HeldFrame WaitingFrame). not (stays copies h) in
+    let lot = λ (h : HeldFrame WaitingFrame). CancelledBy h.frame.copies moment in
+    record {
+      evolves = evolves_after (filter go all) lot moment q.lots (λ h. refl);
+      even = λ e. even_after (filter go all) lot q.lots ∙ e;
+      fresh = λ e less. absurd (omega (arith, less));
+      sound = λ s. (
+          let counted = counted_are q.held test own k t air at s.held in
+          record {
+            held = All-filter (stays copies) (IsHeld test air) all counted;
+            lots = known_after (filter go all) lot test air q.lots
+                (λ h one frames m e. (
+                  h.frame.packet,
+                  one.in_air,
+                  subst (AreCopiesOf test air h.frame.packet) (same_frames h frames m e) one.copies,
+                ))
+                (All-filter go (IsHeld test air) all counted) s.lots;
+          });
+    }
+  where
+    same_frames : (h : HeldFrame WaitingFrame) (frames : List ℕ) (m : ℕ)
+        → CancelledBy h.frame.copies moment ≡ CancelledBy frames m → h.frame.copies ≡ frames
+    same_frames h frames m e = cc
+
+-- a release
+without_is : (o : Option ℕ) (held : List (HeldFrame WaitingFrame)) (test : CopyTest)
+    (air : List Transmission) → All (IsHeld test air) held
+    → All (IsHeld test air) (without held o)
+without_is None held test air all = all
+without_is (Some i) held test air all =
+    All-append (IsHeld test air) (take i held) (drop (suc i) held)
+    (All-take (IsHeld test air) i held all) (All-drop (IsHeld test air) (suc i) held all)
+
+pub passes_release : (test : CopyTest) (rule : Option ContentionRule) (now : ℕ)
+    (air : List Transmission) (q : Waiting)
+    → Passes test rule now air air q (waiting_after_release now q)
+passes_release test rule now air q =
+    let kept = kept_at now q.held in
+    let late = late_at now q.held in
+    let lot = λ (h : HeldFrame WaitingFrame). DroppedAt now in
+    let lots = lots_after lot q.lots late in
+    let in_time = λ (h : HeldFrame WaitingFrame). nat_le now (h.due + late_after) in
+    record {
+      evolves = evolves_twice now q.lots lots
+          (lots_after_release now lots (first_due now kept))
+          (evolves_after late lot now q.lots (λ h. refl))
+          (evolves_release (first_due now kept) now lots);
+      even = λ e. even_release (first_due now kept) now lots ∙ even_after late lot q.lots ∙ e;
+      fresh = λ e less. absurd (omega (arith, less));
+      sound = λ s. record {
+        held = without_is (place_due now kept) kept test air
+            (All-filter in_time (IsHeld test air) q.held s.held);
+        lots = known_release (first_due now kept) now test air lots
+            (known_after late lot test air q.lots (λ h one frames m e. cc)
+            (All-filter (λ h. not (in_time h)) (IsHeld test air) q.held s.held) s.lots);
+      };
+    }
