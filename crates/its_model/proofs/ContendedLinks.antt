@@ -28,9 +28,9 @@ use Rattle.its_model.specs.Reach.{Geobroadcast, IsFrameOf, HasOwnAddress, HasOwn
 use Rattle.its_model.specs.Reach.{ComesBy, GivesTo, IsFor, CameTo, AreReached}
 use Rattle.its_model.specs.Reach.ComesBy.{by_sending, by_accepting}
 use Rattle.its_model.specs.SomeFrame.{SomeFrameComes, IsLedAlong, ReachesWhereSomeFrameComes}
-use Rattle.its_model.specs.Overheard.{IsSentAgain, TestsCopies, IsCopyIn, AreCopiesOf, HadLot}
+use Rattle.its_model.specs.Overheard.{IsSentAgain, TestsCopies, HadLot}
 use Rattle.its_model.specs.Overheard.{IsGivenFrom, IsToldAnyway, IsOverheard, AreOverheard}
-use Rattle.its_model.specs.Overheard.{CancelledByCopies, ReachesByContention}
+use Rattle.its_model.specs.Overheard.{ReachesByContention}
 use Rattle.its_model.specs.Overheard.IsToldAnyway.{by_copy, by_then}
 use Rattle.its_model.proofs.Lists.{get_front, get_at, get_within}
 use Rattle.its_model.proofs.NumberTests.{eq_test}
@@ -46,9 +46,11 @@ use Rattle.its_model.proofs.Ways.{of_run}
 use Rattle.its_model.proofs.SomeFrames.{reaches_where_some_frame_comes}
 use Rattle.its_model.proofs.ContendedRuns.{contention_is_a_schedule}
 use Rattle.its_model.proofs.ContenderPuts.{wait_greatest}
-use Rattle.its_model.proofs.ContendedLots.{IsLeftAt, Evolved, IsFirstLot}
+use Rattle.its_model.proofs.ContendedLots.{IsLeftAt, Evolved, IsFirstLot, Counting, IsCounted}
+use Rattle.its_model.proofs.ContendedLots.{AreCounted, as_many}
 use Rattle.its_model.proofs.ContendedSteps.{RunSound, happening_steps, time_of, place_of_it}
 use Rattle.its_model.proofs.ContendedSteps.{contended_sound, opening_is_sound, run_on, rules_stay}
+use Rattle.its_model.proofs.ContendedSteps.{any_counting, any_allowed, any_enough}
 
 -- ---- when a line was made
 
@@ -175,12 +177,13 @@ world_sound test configs rules happenings =
     (run_sound configs (erased happenings))
 
 -- what is known of the lots
-lots_sound : (test : CopyTest) (configs : List Config) (rules : List (Option ContentionRule))
+pub lots_sound : (test : CopyTest) (configs : List Config) (rules : List (Option ContentionRule))
     (happenings : List Happening)
-    → RunSound test (contended_run test (opening_with configs rules) happenings)
+    → RunSound (any_counting test) (contended_run test (opening_with configs rules) happenings)
 lots_sound test configs rules happenings =
-    contended_sound happenings test (opening_with configs rules)
-    (opening_is_sound test configs rules)
+    let cw = opening_with configs rules in
+    contended_sound happenings (any_counting test) cw (λ early h later split. any_allowed h test)
+    (any_enough test cw) (opening_is_sound (any_counting test) configs rules)
 
 -- the first lot that a frame had
 record HadFirst (test : CopyTest) (cw : ContendedWorld) (happenings : List Happening)
@@ -206,7 +209,8 @@ first_lot test configs rules happenings later before line k split gives =
     let sound = world_sound test configs rules m.early in
     let known = lots_sound test configs rules m.early in
     let then = step_keeps configs old.world m.event sound in
-    let s = happening_steps h test old known.even in
+    let s = happening_steps h (any_counting test) old (any_allowed h test)
+    (any_enough test old) known.even in
     let number : k ≡ length (origins before) =
     number_is w.log later before line k whole.names split gives in
     let count : length (origins before) ≡ length old.world.air =
@@ -222,7 +226,7 @@ first_lot test configs rules happenings later before line k split gives =
     ∙ ap (slice_get s.waiting.lots) (sym place) ∙ fresh.1 in
     let rule : rule_at old m.event.station ≡ rule_at cw line.event.station =
     ap (λ (xs : List (Option ContentionRule)). rule_in (slice_get xs m.event.station))
-    (rules_stay m.early test cw (opening_is_sound test configs rules))
+    (rules_stay m.early test cw)
     ∙ ap (λ (e : Event). rule_at cw e.station) (sym m.is_event) in
     record {
       lot = fresh.0;
@@ -242,7 +246,7 @@ first_lot test configs rules happenings later before line k split gives =
 -- ---- what stays
 
 -- a frame of an earlier time of the run is in its world
-air_stays : (test : CopyTest) (cw : ContendedWorld) (happenings early later : List Happening)
+pub air_stays : (test : CopyTest) (cw : ContendedWorld) (happenings early later : List Happening)
     (k : ℕ) (t : Transmission)
     → happenings ≡ early ++ later
     → slice_get (contended_run test cw early).world.air k ≡ Some t
@@ -259,30 +263,31 @@ air_stays test cw happenings early later k t split at =
     ap (λ xs. slice_get xs k) air ∙ get_front old.air grown.more k t at
 
 -- one of several copies
-copy_at : (frames : List ℕ) (n k : ℕ) (test : CopyTest) (air : List Transmission)
-    (t : Transmission) → AreCopiesOf test air t frames → slice_get frames n ≡ Some k
-    → IsCopyIn test air t k
-copy_at [] n k test air t all is = cc
-copy_at (x ∷ frames) zero k test air t all is =
-    let same : x ≡ k = cc in
-    subst (λ (i : ℕ). IsCopyIn test air t i) same all.0
-copy_at (x ∷ frames) (suc n) k test air t all is = copy_at frames n k test air t all.1 is
+pub copy_at : (senders frames : List ℕ) (n k sender : ℕ) (scope : Counting)
+    (air : List Transmission) (t : Transmission)
+    → AreCounted scope air t senders frames → slice_get frames n ≡ Some k
+    → slice_get senders n ≡ Some sender → IsCounted scope air t sender k
+copy_at [] frames n k sender scope air t all is who = cc
+copy_at (x ∷ senders) [] n k sender scope air t all is who = cc
+copy_at (x ∷ senders) (m ∷ frames) zero k sender scope air t all is who =
+    let same : m ≡ k = cc in
+    let from : x ≡ sender = cc in
+    subst (λ (i : ℕ). IsCounted scope air t sender i) same
+    (subst (λ (i : ℕ). IsCounted scope air t i m) from all.0)
+copy_at (x ∷ senders) (m ∷ frames) (suc n) k sender scope air t all is who =
+    copy_at senders frames n k sender scope air t all.2 is who
 
--- What cancels a frame are copies of it.
-pub cancelled_by_copies : (test : CopyTest) (configs : List Config)
-    (rules : List (Option ContentionRule)) (happenings : List Happening)
-    → let cw = contended_run test (opening_with configs rules) happenings in
-    TestsCopies test cw.world.air → CancelledByCopies test cw
-cancelled_by_copies test configs rules happenings tests k m moment frames n lot is =
-    let cw = contended_run test (opening_with configs rules) happenings in
-    let known = (lots_sound test configs rules happenings).lots k frames moment lot in
-    let copy = copy_at frames n m test cw.world.air known.0 known.2 is in (
-      known.0,
-      copy.copy,
-      copy.own,
-      known.1,
-      copy.in_air,
-      tests copy.own k m known.0 copy.copy known.1 copy.in_air copy.tested,
+-- there is one for each frame
+pub some_copy : (senders frames : List ℕ) (n k : ℕ) (scope : Counting)
+    (air : List Transmission) (t : Transmission)
+    → AreCounted scope air t senders frames → slice_get frames n ≡ Some k
+    → (sender : ℕ) × IsCounted scope air t sender k
+some_copy senders frames n k scope air t all is =
+    let within : n < length senders =
+    omega (arith, as_many senders frames scope air t all, get_within frames n k is) in
+    let who = get_at senders n within in (
+      who.0,
+      copy_at senders frames n k who.0 scope air t all is who.1,
     )
 
 -- ---- what was accepted was for its station
@@ -446,17 +451,19 @@ by_lot (CancelledBy frames m) test configs rules happenings g greatest late dela
     told (by_copy n c is came) =
         let w = (contended_run test (opening_with configs rules) happenings).world in
         let known = (lots_sound test configs rules had.early).lots k frames m had.was in
-        let copy = copy_at frames n c test
-        (contended_run test (opening_with configs rules) had.early).world.air known.0 known.2 is in
-        let at_k : slice_get w.air k ≡ Some known.0 =
-        air_stays test (opening_with configs rules) happenings had.early had.later k known.0
-        had.split known.1 in
+        let some = some_copy known.senders frames n c (any_counting test)
+        (contended_run test (opening_with configs rules) had.early).world.air known.packet
+        known.copies is in
+        let copy = some.1 in
+        let at_k : slice_get w.air k ≡ Some known.packet =
+        air_stays test (opening_with configs rules) happenings had.early had.later k known.packet
+        had.split known.in_air in
         let at_c : slice_get w.air c ≡ Some copy.copy =
         air_stays test (opening_with configs rules) happenings had.early had.later c copy.copy
         had.split copy.in_air in
-        let again = tests copy.own k c known.0 copy.copy at_k at_c copy.tested in
+        let again = tests copy.own k c known.packet copy.copy at_k at_c copy.tested in
         by_sent w g o.receiver j c (m + delay) latest copy.copy (omega (arith, left, le))
-        (copy_is_of_it configs w g k c copy.own known.0 copy.copy run.sound own_address own_number
+        (copy_is_of_it configs w g k c copy.own known.packet copy.copy run.sound own_address own_number
         of_send at_k at_c again) at_c
         (inl again.to_all, came)
     told (by_then line before f in_time) =
@@ -488,7 +495,7 @@ time_in_time (Happens e) due late later is = is
 time_in_time (Releases j now) due late later is = is.1
 
 -- what a frame that waits becomes when it leaves its buffer in time
-record LeftAs (test : CopyTest) (cw : ContendedWorld) (happenings : List Happening)
+pub record LeftAs (test : CopyTest) (cw : ContendedWorld) (happenings : List Happening)
     (k latest : ℕ) : Type 0 where
   pub lot : Lot
   pub had : HadLot test cw happenings k lot
@@ -496,7 +503,7 @@ record LeftAs (test : CopyTest) (cw : ContendedWorld) (happenings : List Happeni
   pub left : IsLeftAt moment lot
   pub in_time : moment ≤ latest
 
-left_as : (test : CopyTest) (configs : List Config) (rules : List (Option ContentionRule))
+pub left_as : (test : CopyTest) (configs : List Config) (rules : List (Option ContentionRule))
     (happenings : List Happening) (late k due : ℕ)
     → LeavesInTime test (opening_with configs rules) happenings late k due
     → LeftAs test (opening_with configs rules) happenings k (due + late)
@@ -504,7 +511,8 @@ left_as test configs rules happenings late k due leaves =
     let cw = opening_with configs rules in
     let h = leaves.happening in
     let old = contended_run test cw leaves.before in
-    let s = happening_steps h test old (lots_sound test configs rules leaves.before).even in
+    let s = happening_steps h (any_counting test) old (any_allowed h test)
+    (any_enough test old) (lots_sound test configs rules leaves.before).even in
     let e = s.passes.evolves k (WaitsUntil due) leaves.waited in
     let there : lot_after test cw (leaves.before ++ h ∷ []) k ≡ Some e.lot =
     ap (λ (x : ContendedWorld). slice_get x.lots k) (run_on leaves.before (h ∷ []) test cw)

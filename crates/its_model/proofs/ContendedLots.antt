@@ -4,7 +4,8 @@ use Rattle.std.proofs.Common.{filter, set, take, drop, Bool, true, false, cond, 
 use Rattle.std.proofs.Common.{Some, None, refl, sym, ap, subst, ◌∙◌, inl, inr, arith, All}
 use Rattle.std.specs.Prelude.{slice_get, nat_le, nat_lt}
 use Rattle.std.proofs.lemmas.List.Elements.{All-nil, All-cons, All-head, All-tail, All-append}
-use Rattle.std.proofs.lemmas.List.Elements.{All-filter, All-take, All-drop}
+use Rattle.std.proofs.lemmas.List.Elements.{All-filter, All-take, All-drop, filter_passes}
+use Rattle.std.proofs.lemmas.Bool.Decides.{nat_tests}
 use Rattle.its_gnvalue.specs.Values.{mid_of}
 use Rattle.its_model.specs.Packet.{Transmission, Message}
 use Rattle.its_model.specs.History.{is_among}
@@ -24,7 +25,6 @@ use Rattle.its_model.specs.Contended.{lot_by, waiting_as, after_acceptance, with
 use Rattle.its_model.specs.Contended.{after_counting, after_plain, after_own_call, late_at}
 use Rattle.its_model.specs.Contended.{lots_after_own, lots_after_release, waiting_after_release}
 use Rattle.its_model.specs.Contended.Lot.{SentAt, WaitsUntil, CancelledBy, DroppedAt}
-use Rattle.its_model.specs.Overheard.{AreCopiesOf, IsCopyIn}
 use Rattle.its_model.proofs.Lists.{get_front, get_last, get_snoc, length_set, length_more, get_set}
 
 -- ---- a lot stays, or is another from this time on
@@ -115,101 +115,148 @@ even_release (Some frame) now lots = length_set lots frame.number (SentAt now)
 
 -- ---- what is known of what waits and of what was cancelled
 
+-- A test of copies, what is known of a frame whose delivery was counted, and of how many copies
+-- cancel.
+pub record Counting : Type 1 where
+  pub test : CopyTest
+  pub Was : ℕ → Type 0
+  pub IsEnough : ℕ → Type 0
+
+-- frame k was counted as a copy of this packet, from this sender
+pub record IsCounted (scope : Counting) (air : List Transmission) (packet : Transmission)
+    (sender k : ℕ) : Type 0 where
+  pub own : ℕ
+  pub copy : Transmission
+  pub in_air : slice_get air k ≡ Some copy
+  pub tested : scope.test own packet copy ≡ true
+  pub from_sender : copy.link_source ≡ sender
+  pub was : scope.Was k
+
+-- these frames were, each from another sender
+abbrev pub AreCounted : Counting → List Transmission → Transmission → List ℕ → List ℕ → Type 0
+AreCounted scope air packet [] [] = Unit {0}
+AreCounted scope air packet [] (k ∷ frames) = ⊥
+AreCounted scope air packet (sender ∷ senders) [] = ⊥
+AreCounted scope air packet (sender ∷ senders) (k ∷ frames) =
+    IsCounted scope air packet sender k × (is_among sender senders ≡ false)
+    × AreCounted scope air packet senders frames
+
 -- a frame that waits is the world's, and what was counted of it are copies
-pub record IsHeld (test : CopyTest) (air : List Transmission)
+pub record IsHeld (scope : Counting) (air : List Transmission)
     (h : HeldFrame WaitingFrame) : Type 0 where
   pub in_air : slice_get air h.frame.number ≡ Some h.frame.packet
-  pub copies : AreCopiesOf test air h.frame.packet h.frame.copies
+  pub copies : AreCounted scope air h.frame.packet h.senders h.frame.copies
 
--- what cancelled frame k are copies
-abbrev pub AreCopiesIn : CopyTest → List Transmission → ℕ → List ℕ → Type 0
-AreCopiesIn test air k frames =
-    (t : Transmission) × (slice_get air k ≡ Some t) × AreCopiesOf test air t frames
+-- what cancelled frame k are copies, and they are enough
+pub record AreCopiesIn (scope : Counting) (air : List Transmission) (k : ℕ)
+    (frames : List ℕ) : Type 0 where
+  pub packet : Transmission
+  pub in_air : slice_get air k ≡ Some packet
+  pub senders : List ℕ
+  pub copies : AreCounted scope air packet senders frames
+  pub enough : scope.IsEnough (length frames)
 
-abbrev pub AreKnown : CopyTest → List Transmission → List Lot → Type 0
-AreKnown test air lots =
+abbrev pub AreKnown : Counting → List Transmission → List Lot → Type 0
+AreKnown scope air lots =
     (k : ℕ) (frames : List ℕ) (moment : ℕ) → slice_get lots k ≡ Some (CancelledBy frames moment)
-    → AreCopiesIn test air k frames
+    → AreCopiesIn scope air k frames
 
-pub record IsSound (test : CopyTest) (air : List Transmission) (q : Waiting) : Type 0 where
-  pub held : All (IsHeld test air) q.held
-  pub lots : AreKnown test air q.lots
+pub record IsSound (scope : Counting) (air : List Transmission) (q : Waiting) : Type 0 where
+  pub held : All (IsHeld scope air) q.held
+  pub lots : AreKnown scope air q.lots
+
+-- there are as many senders as frames
+pub as_many : (senders frames : List ℕ) (scope : Counting) (air : List Transmission)
+    (t : Transmission) → AreCounted scope air t senders frames → length senders ≡ length frames
+as_many [] [] scope air t all = refl
+as_many [] (k ∷ frames) scope air t all = absurd all
+as_many (sender ∷ senders) [] scope air t all = absurd all
+as_many (sender ∷ senders) (k ∷ frames) scope air t all =
+    ap suc (as_many senders frames scope air t all.2)
 
 -- more frames leave it
-copies_stay : (frames : List ℕ) (test : CopyTest) (air more : List Transmission)
-    (t : Transmission) → AreCopiesOf test air t frames → AreCopiesOf test (air ++ more) t frames
-copies_stay [] test air more t all = tt
-copies_stay (k ∷ frames) test air more t all = (
+copies_stay : (senders frames : List ℕ) (scope : Counting) (air more : List Transmission)
+    (t : Transmission) → AreCounted scope air t senders frames
+    → AreCounted scope (air ++ more) t senders frames
+copies_stay [] [] scope air more t all = tt
+copies_stay [] (k ∷ frames) scope air more t all = absurd all
+copies_stay (sender ∷ senders) [] scope air more t all = absurd all
+copies_stay (sender ∷ senders) (k ∷ frames) scope air more t all = (
   record {
     own = all.0.own;
     copy = all.0.copy;
     in_air = get_front air more k all.0.copy all.0.in_air;
     tested = all.0.tested;
+    from_sender = all.0.from_sender;
+    was = all.0.was;
   },
-  copies_stay frames test air more t all.1,
+  all.1,
+  copies_stay senders frames scope air more t all.2,
 )
 
-pub held_stay : (held : List (HeldFrame WaitingFrame)) (test : CopyTest)
-    (air more : List Transmission) → All (IsHeld test air) held
-    → All (IsHeld test (air ++ more)) held
-held_stay [] test air more all = All-nil (IsHeld test (air ++ more))
-held_stay (h ∷ held) test air more all =
-    let one = All-head (IsHeld test air) h held all in
-    All-cons (IsHeld test (air ++ more)) h held (record {
+pub held_stay : (held : List (HeldFrame WaitingFrame)) (scope : Counting)
+    (air more : List Transmission) → All (IsHeld scope air) held
+    → All (IsHeld scope (air ++ more)) held
+held_stay [] scope air more all = All-nil (IsHeld scope (air ++ more))
+held_stay (h ∷ held) scope air more all =
+    let one = All-head (IsHeld scope air) h held all in
+    All-cons (IsHeld scope (air ++ more)) h held (record {
       in_air = get_front air more h.frame.number h.frame.packet one.in_air;
-      copies = copies_stay h.frame.copies test air more h.frame.packet one.copies;
-    }) (held_stay held test air more (All-tail (IsHeld test air) h held all))
+      copies = copies_stay h.senders h.frame.copies scope air more h.frame.packet one.copies;
+    }) (held_stay held scope air more (All-tail (IsHeld scope air) h held all))
 
-known_stay : (test : CopyTest) (air more : List Transmission) (lots : List Lot)
-    → AreKnown test air lots → AreKnown test (air ++ more) lots
-known_stay test air more lots known k frames moment is =
-    let c = known k frames moment is in (
-      c.0,
-      get_front air more k c.0 c.1,
-      copies_stay frames test air more c.0 c.2,
-    )
+known_stay : (scope : Counting) (air more : List Transmission) (lots : List Lot)
+    → AreKnown scope air lots → AreKnown scope (air ++ more) lots
+known_stay scope air more lots known k frames moment is =
+    let c = known k frames moment is in
+    record {
+      packet = c.packet;
+      in_air = get_front air more k c.packet c.in_air;
+      senders = c.senders;
+      copies = copies_stay c.senders frames scope air more c.packet c.copies;
+      enough = c.enough;
+    }
 
 -- with one more that is not cancelled
-known_more : (test : CopyTest) (air : List Transmission) (lots : List Lot) (x : Lot)
+known_more : (scope : Counting) (air : List Transmission) (lots : List Lot) (x : Lot)
     → ((frames : List ℕ) (moment : ℕ) → x ≡ CancelledBy frames moment → ⊥)
-    → AreKnown test air lots → AreKnown test air (lots ++ x ∷ [])
-known_more test air lots x other known k frames moment is =
+    → AreKnown scope air lots → AreKnown scope air (lots ++ x ∷ [])
+known_more scope air lots x other known k frames moment is =
     elim (get_snoc lots x k (CancelledBy frames moment) is) [
       | inl old ↦ known k frames moment old
       | inr new ↦ absurd (other frames moment new.1)
     ]
 
 -- with one changed
-known_set : (test : CopyTest) (air : List Transmission) (lots : List Lot) (n : ℕ) (x : Lot)
+known_set : (scope : Counting) (air : List Transmission) (lots : List Lot) (n : ℕ) (x : Lot)
     → ((frames : List ℕ) (moment : ℕ) → x ≡ CancelledBy frames moment
-    → AreCopiesIn test air n frames)
-    → AreKnown test air lots → AreKnown test air (set lots n x)
-known_set test air lots n x new known k frames moment is =
+    → AreCopiesIn scope air n frames)
+    → AreKnown scope air lots → AreKnown scope air (set lots n x)
+known_set scope air lots n x new known k frames moment is =
     elim (get_set lots n x k (CancelledBy frames moment) is) [
-      | inl here ↦ subst (λ (i : ℕ). AreCopiesIn test air i frames) (sym here.0)
+      | inl here ↦ subst (λ (i : ℕ). AreCopiesIn scope air i frames) (sym here.0)
           (new frames moment here.1)
       | inr there ↦ known k frames moment there.1
     ]
 
 known_after : (gone : List (HeldFrame WaitingFrame)) (lot : HeldFrame WaitingFrame → Lot)
-    (test : CopyTest) (air : List Transmission) (lots : List Lot)
-    → ((h : HeldFrame WaitingFrame) → IsHeld test air h → (frames : List ℕ) (moment : ℕ)
-    → lot h ≡ CancelledBy frames moment → AreCopiesIn test air h.frame.number frames)
-    → All (IsHeld test air) gone → AreKnown test air lots
-    → AreKnown test air (lots_after lot lots gone)
-known_after [] lot test air lots new all known = known
-known_after (h ∷ gone) lot test air lots new all known =
-    known_after gone lot test air (set lots h.frame.number (lot h)) new
-    (All-tail (IsHeld test air) h gone all)
-    (known_set test air lots h.frame.number (lot h)
-    (new h (All-head (IsHeld test air) h gone all)) known)
+    (scope : Counting) (air : List Transmission) (lots : List Lot)
+    (Is : HeldFrame WaitingFrame → Type 0)
+    → ((h : HeldFrame WaitingFrame) → Is h → (frames : List ℕ) (moment : ℕ)
+    → lot h ≡ CancelledBy frames moment → AreCopiesIn scope air h.frame.number frames)
+    → All Is gone → AreKnown scope air lots → AreKnown scope air (lots_after lot lots gone)
+known_after [] lot scope air lots Is new all known = known
+known_after (h ∷ gone) lot scope air lots Is new all known =
+    known_after gone lot scope air (set lots h.frame.number (lot h)) Is new
+    (All-tail Is h gone all)
+    (known_set scope air lots h.frame.number (lot h) (new h (All-head Is h gone all)) known)
 
-known_release : (o : Option WaitingFrame) (now : ℕ) (test : CopyTest) (air : List Transmission)
-    (lots : List Lot) → AreKnown test air lots
-    → AreKnown test air (lots_after_release now lots o)
-known_release None now test air lots known = known
-known_release (Some frame) now test air lots known =
-    known_set test air lots frame.number (SentAt now) (λ frames moment e. cc) known
+known_release : (o : Option WaitingFrame) (now : ℕ) (scope : Counting) (air : List Transmission)
+    (lots : List Lot) → AreKnown scope air lots
+    → AreKnown scope air (lots_after_release now lots o)
+known_release None now scope air lots known = known
+known_release (Some frame) now scope air lots known =
+    known_set scope air lots frame.number (SentAt now) (λ frames moment e. cc) known
 
 -- ---- what a happening at a station does
 
@@ -220,18 +267,18 @@ IsFirstLot rule moment lot =
     ⊎ ((r : ContentionRule) × (d : Option ℕ) × (tie : ℕ) × (rule ≡ Some r)
     × (lot ≡ WaitsUntil (moment + wait r tie d)))
 
-pub record Passes (test : CopyTest) (rule : Option ContentionRule) (moment : ℕ)
+pub record Passes (scope : Counting) (rule : Option ContentionRule) (moment : ℕ)
     (air after : List Transmission) (q next : Waiting) : Type 0 where
   pub evolves : Evolves moment q.lots next.lots
   pub even : length q.lots ≡ length air → length next.lots ≡ length after
   pub fresh : length q.lots ≡ length air → length air < length after
       → (lot : Lot) × (slice_get next.lots (length air) ≡ Some lot) × IsFirstLot rule moment lot
-  pub sound : IsSound test air q → IsSound test after next
+  pub sound : IsSound scope air q → IsSound scope after next
 
 -- nothing
-pub passes_same : (test : CopyTest) (rule : Option ContentionRule) (moment : ℕ)
-    (air : List Transmission) (q : Waiting) → Passes test rule moment air air q q
-passes_same test rule moment air q =
+pub passes_same : (scope : Counting) (rule : Option ContentionRule) (moment : ℕ)
+    (air : List Transmission) (q : Waiting) → Passes scope rule moment air air q q
+passes_same scope rule moment air q =
     record {
       evolves = evolves_same moment q.lots;
       even = λ e. e;
@@ -240,12 +287,12 @@ passes_same test rule moment air q =
     }
 
 -- a frame that goes out at once, or none
-pub passes_plain : (o : Option Transmission) (test : CopyTest) (rule : Option ContentionRule)
+pub passes_plain : (o : Option Transmission) (scope : Counting) (rule : Option ContentionRule)
     (moment : ℕ) (air : List Transmission) (q : Waiting)
-    → Passes test rule moment air (with_one_more air o) q
+    → Passes scope rule moment air (with_one_more air o) q
     (record { held = q.held; lots = with_one_more q.lots (lot_at moment o) })
-passes_plain None test rule moment air q = passes_same test rule moment air q
-passes_plain (Some t) test rule moment air q =
+passes_plain None scope rule moment air q = passes_same scope rule moment air q
+passes_plain (Some t) scope rule moment air q =
     let lots = q.lots ++ SentAt moment ∷ [] in
     record {
       evolves = evolves_more (Some (SentAt moment)) moment q.lots;
@@ -256,55 +303,55 @@ passes_plain (Some t) test rule moment air q =
         inl refl,
       );
       sound = λ s. record {
-        held = held_stay q.held test air (t ∷ []) s.held;
-        lots = known_more test (air ++ t ∷ []) q.lots (SentAt moment) (λ frames m e. cc)
-            (known_stay test air (t ∷ []) q.lots s.lots);
+        held = held_stay q.held scope air (t ∷ []) s.held;
+        lots = known_more scope (air ++ t ∷ []) q.lots (SentAt moment) (λ frames m e. cc)
+            (known_stay scope air (t ∷ []) q.lots s.lots);
       };
     }
 
 -- all are dropped
-pub passes_restart : (test : CopyTest) (rule : Option ContentionRule) (moment : ℕ)
+pub passes_restart : (scope : Counting) (rule : Option ContentionRule) (moment : ℕ)
     (air : List Transmission) (q : Waiting)
-    → Passes test rule moment air air q
+    → Passes scope rule moment air air q
     (record { held = []; lots = lots_after (λ h. DroppedAt moment) q.lots q.held })
-passes_restart test rule moment air q =
+passes_restart scope rule moment air q =
     record {
       evolves = evolves_after q.held (λ h. DroppedAt moment) moment q.lots (λ h. refl);
       even = λ e. even_after q.held (λ h. DroppedAt moment) q.lots ∙ e;
       fresh = λ e less. absurd (omega (arith, less));
       sound = λ s. record {
-        held = All-nil (IsHeld test air);
-        lots = known_after q.held (λ h. DroppedAt moment) test air q.lots
-            (λ h one frames m e. cc) s.held s.lots;
+        held = All-nil (IsHeld scope air);
+        lots = known_after q.held (λ h. DroppedAt moment) scope air q.lots
+            (IsHeld scope air) (λ h one frames m e. cc) s.held s.lots;
       };
     }
 
 -- an own call
-pub passes_own : (answer : Answer Transmission) (test : CopyTest) (rule : Option ContentionRule)
+pub passes_own : (answer : Answer Transmission) (scope : Counting) (rule : Option ContentionRule)
     (moment : ℕ) (air : List Transmission) (q : Waiting)
-    → Passes test rule moment air (with_one_more air (frame_of answer)) q
+    → Passes scope rule moment air (with_one_more air (frame_of answer)) q
     (after_own_call moment q answer)
-passes_own Moved test rule moment air q = passes_same test rule moment air q
-passes_own Opened test rule moment air q = passes_same test rule moment air q
-passes_own Closed test rule moment air q = passes_same test rule moment air q
-passes_own Restarted test rule moment air q = passes_restart test rule moment air q
-passes_own Quiet test rule moment air q = passes_same test rule moment air q
-passes_own (Sent frame) test rule moment air q = passes_plain (Some frame) test rule moment air q
-passes_own (Ignored why) test rule moment air q = passes_same test rule moment air q
-passes_own (Accepted handed relayed) test rule moment air q =
-    passes_plain relayed test rule moment air q
-passes_own (Refused refusal) test rule moment air q = passes_same test rule moment air q
+passes_own Moved scope rule moment air q = passes_same scope rule moment air q
+passes_own Opened scope rule moment air q = passes_same scope rule moment air q
+passes_own Closed scope rule moment air q = passes_same scope rule moment air q
+passes_own Restarted scope rule moment air q = passes_restart scope rule moment air q
+passes_own Quiet scope rule moment air q = passes_same scope rule moment air q
+passes_own (Sent frame) scope rule moment air q = passes_plain (Some frame) scope rule moment air q
+passes_own (Ignored why) scope rule moment air q = passes_same scope rule moment air q
+passes_own (Accepted handed relayed) scope rule moment air q =
+    passes_plain relayed scope rule moment air q
+passes_own (Refused refusal) scope rule moment air q = passes_same scope rule moment air q
 
 -- a relay that waits
-passes_wait : (test : CopyTest) (r : ContentionRule) (moment : ℕ) (air : List Transmission)
+passes_wait : (scope : Counting) (r : ContentionRule) (moment : ℕ) (air : List Transmission)
     (q : Waiting) (relay : Transmission) (tie : ℕ) (d : Option ℕ)
     → length q.lots ≡ length air
-    → Passes test (Some r) moment air (air ++ relay ∷ []) q
+    → Passes scope (Some r) moment air (air ++ relay ∷ []) q
     (record {
       held = q.held ++ newly_held (waiting_as (length air) relay) (moment + wait r tie d) ∷ [];
       lots = q.lots ++ WaitsUntil (moment + wait r tie d) ∷ [];
     })
-passes_wait test r moment air q relay tie d long =
+passes_wait scope r moment air q relay tie d long =
     let due = moment + wait r tie d in
     let lots = q.lots ++ WaitsUntil due ∷ [] in
     let one = newly_held (waiting_as (length air) relay) due in
@@ -318,72 +365,87 @@ passes_wait test r moment air q relay tie d long =
         inr (r, d, tie, refl, refl),
       );
       sound = λ s. record {
-        held = All-append (IsHeld test after) q.held (one ∷ [])
-            (held_stay q.held test air (relay ∷ []) s.held)
-            (All-cons (IsHeld test after) one [] (record {
+        held = All-append (IsHeld scope after) q.held (one ∷ [])
+            (held_stay q.held scope air (relay ∷ []) s.held)
+            (All-cons (IsHeld scope after) one [] (record {
               in_air = get_last air relay;
               copies = tt;
-            }) (All-nil (IsHeld test after)));
-        lots = known_more test after q.lots (WaitsUntil due) (λ frames m e. cc)
-            (known_stay test air (relay ∷ []) q.lots s.lots);
+            }) (All-nil (IsHeld scope after)));
+        lots = known_more scope after q.lots (WaitsUntil due) (λ frames m e. cc)
+            (known_stay scope air (relay ∷ []) q.lots s.lots);
       };
     }
 
 -- an acceptance
-pub passes_acceptance : (relayed : Option Transmission) (test : CopyTest) (r : ContentionRule)
+pub passes_acceptance : (relayed : Option Transmission) (scope : Counting) (r : ContentionRule)
     (s : StationModel) (moment : ℕ) (t : Transmission) (air : List Transmission) (q : Waiting)
     → length q.lots ≡ length air
-    → Passes test (Some r) moment air (with_one_more air relayed) q
+    → Passes scope (Some r) moment air (with_one_more air relayed) q
     (after_acceptance (length air) moment q relayed (fate r s moment q.held t relayed))
-passes_acceptance None test r s moment t air q long = passes_same test (Some r) moment air q
-passes_acceptance (Some relay) test r s moment t air q long =
+passes_acceptance None scope r s moment t air q long = passes_same scope (Some r) moment air q
+passes_acceptance (Some relay) scope r s moment t air q long =
     by (contends_for s t.pdu.body && nat_lt (length q.held) places)
   where
     by : (b : Bool)
-        → Passes test (Some r) moment air (air ++ relay ∷ []) q
+        → Passes scope (Some r) moment air (air ++ relay ∷ []) q
         (after_acceptance (length air) moment q (Some relay)
         (cond b (Waits (due_of r s moment t)) Goes))
-    by true = passes_wait test r moment air q relay (tie_of s t.pdu.body)
+    by true = passes_wait scope r moment air q relay (tie_of s t.pdu.body)
         (sender_distance s moment t.link_source) long
-    by false = passes_plain (Some relay) test (Some r) moment air q
+    by false = passes_plain (Some relay) scope (Some r) moment air q
 
 -- a copy that is counted
-counted_is : (b c : Bool) (test : CopyTest) (own k : ℕ) (t : Transmission)
+counted_is : (b c : Bool) (scope : Counting) (own k : ℕ) (t : Transmission)
     (air : List Transmission) (h : HeldFrame WaitingFrame)
-    → test own h.frame.packet t ≡ b → is_among t.link_source h.senders ≡ c
-    → slice_get air k ≡ Some t → IsHeld test air h
-    → IsHeld test air (cond (b && not c) (record h {
+    → scope.test own h.frame.packet t ≡ b → is_among t.link_source h.senders ≡ c
+    → slice_get air k ≡ Some t → scope.Was k → IsHeld scope air h
+    → IsHeld scope air (cond (b && not c) (record h {
       frame = record h.frame { copies = k ∷ h.frame.copies };
       senders = t.link_source ∷ h.senders;
     }) h)
-counted_is true false test own k t air h tested among at one =
+counted_is true false scope own k t air h tested among at was one =
     record {
       in_air = one.in_air;
-      copies = (record { own = own; copy = t; in_air = at; tested = tested }, one.copies);
+      copies = (
+        record {
+          own = own;
+          copy = t;
+          in_air = at;
+          tested = tested;
+          from_sender = refl;
+          was = was;
+        },
+        among,
+        one.copies,
+      );
     }
-counted_is true true test own k t air h tested among at one = one
-counted_is false c test own k t air h tested among at one = one
+counted_is true true scope own k t air h tested among at was one = one
+counted_is false c scope own k t air h tested among at was one = one
 
-counted_are : (held : List (HeldFrame WaitingFrame)) (test : CopyTest) (own k : ℕ)
+counted_are : (held : List (HeldFrame WaitingFrame)) (scope : Counting) (own k : ℕ)
     (t : Transmission) (air : List Transmission)
-    → slice_get air k ≡ Some t → All (IsHeld test air) held
-    → All (IsHeld test air) (with_copies test own k t held)
-counted_are [] test own k t air at all = all
-counted_are (h ∷ held) test own k t air at all =
-    All-cons (IsHeld test air) (with_copy (test own h.frame.packet t) t.link_source k h)
-    (with_copies test own k t held)
-    (counted_is (test own h.frame.packet t) (is_among t.link_source h.senders) test own k t air h
-    refl refl at (All-head (IsHeld test air) h held all))
-    (counted_are held test own k t air at (All-tail (IsHeld test air) h held all))
+    → slice_get air k ≡ Some t → scope.Was k → All (IsHeld scope air) held
+    → All (IsHeld scope air) (with_copies scope.test own k t held)
+counted_are [] scope own k t air at was all = all
+counted_are (h ∷ held) scope own k t air at was all =
+    All-cons (IsHeld scope air) (with_copy (scope.test own h.frame.packet t) t.link_source k h)
+    (with_copies scope.test own k t held)
+    (counted_is (scope.test own h.frame.packet t) (is_among t.link_source h.senders) scope own k t
+    air h refl refl at was (All-head (IsHeld scope air) h held all))
+    (counted_are held scope own k t air at was (All-tail (IsHeld scope air) h held all))
+
+-- one that does not stay has enough senders
+enough_of : (copies n : ℕ) → not (nat_lt n copies) ≡ true → copies ≤ n
+enough_of copies n h = grind (arith, nat_tests)
 
 -- a duplicate
-pub passes_duplicate : (test : CopyTest) (rule : Option ContentionRule) (moment : ℕ)
+pub passes_duplicate : (scope : Counting) (rule : Option ContentionRule) (moment : ℕ)
     (air : List Transmission) (q : Waiting) (copies own k : ℕ) (t : Transmission)
-    → slice_get air k ≡ Some t
-    → Passes test rule moment air air q
-    (after_counting copies moment q.lots (with_copies test own k t q.held))
-passes_duplicate test rule moment air q copies own k t at =
-    let all = with_copies test own k t q.held in
+    → slice_get air k ≡ Some t → scope.Was k → ((n : ℕ) → copies ≤ n → scope.IsEnough n)
+    → Passes scope rule moment air air q
+    (after_counting copies moment q.lots (with_copies scope.test own k t q.held))
+passes_duplicate scope rule moment air q copies own k t at was enough =
+    let all = with_copies scope.test own k t q.held in
     let go = λ (h : HeldFrame WaitingFrame). not (stays copies h) in
     let lot = λ (h : HeldFrame WaitingFrame). CancelledBy h.frame.copies moment in
     record {
@@ -391,16 +453,14 @@ passes_duplicate test rule moment air q copies own k t at =
       even = λ e. even_after (filter go all) lot q.lots ∙ e;
       fresh = λ e less. absurd (omega (arith, less));
       sound = λ s. (
-          let counted = counted_are q.held test own k t air at s.held in
+          let counted = counted_are q.held scope own k t air at was s.held in
+          let gone = All-filter go (IsHeld scope air) all counted in
           record {
-            held = All-filter (stays copies) (IsHeld test air) all counted;
-            lots = known_after (filter go all) lot test air q.lots
-                (λ h one frames m e. (
-                  h.frame.packet,
-                  one.in_air,
-                  subst (AreCopiesOf test air h.frame.packet) (same_frames h frames m e) one.copies,
-                ))
-                (All-filter go (IsHeld test air) all counted) s.lots;
+            held = All-filter (stays copies) (IsHeld scope air) all counted;
+            lots = known_after (filter go all) lot scope air q.lots
+                (λ h. IsHeld scope air h × (go h ≡ true))
+                (λ h one frames m e. cancelled h frames m one.0 one.1 e)
+                (λ i d lt. (gone i d lt, filter_passes go all i d lt)) s.lots;
           });
     }
   where
@@ -408,19 +468,34 @@ passes_duplicate test rule moment air q copies own k t at =
         → CancelledBy h.frame.copies moment ≡ CancelledBy frames m → h.frame.copies ≡ frames
     same_frames h frames m e = cc
 
--- a release
-without_is : (o : Option ℕ) (held : List (HeldFrame WaitingFrame)) (test : CopyTest)
-    (air : List Transmission) → All (IsHeld test air) held
-    → All (IsHeld test air) (without held o)
-without_is None held test air all = all
-without_is (Some i) held test air all =
-    All-append (IsHeld test air) (take i held) (drop (suc i) held)
-    (All-take (IsHeld test air) i held all) (All-drop (IsHeld test air) (suc i) held all)
+    cancelled : (h : HeldFrame WaitingFrame) (frames : List ℕ) (m : ℕ) → IsHeld scope air h
+        → not (stays copies h) ≡ true → CancelledBy h.frame.copies moment ≡ CancelledBy frames m
+        → AreCopiesIn scope air h.frame.number frames
+    cancelled h frames m one go e =
+        subst (λ (xs : List ℕ). AreCopiesIn scope air h.frame.number xs) (same_frames h frames m e)
+        (record {
+          packet = h.frame.packet;
+          in_air = one.in_air;
+          senders = h.senders;
+          copies = one.copies;
+          enough = subst scope.IsEnough
+              (as_many h.senders h.frame.copies scope air h.frame.packet one.copies)
+              (enough (length h.senders) (enough_of copies (length h.senders) go));
+        })
 
-pub passes_release : (test : CopyTest) (rule : Option ContentionRule) (now : ℕ)
+-- a release
+without_is : (o : Option ℕ) (held : List (HeldFrame WaitingFrame)) (scope : Counting)
+    (air : List Transmission) → All (IsHeld scope air) held
+    → All (IsHeld scope air) (without held o)
+without_is None held scope air all = all
+without_is (Some i) held scope air all =
+    All-append (IsHeld scope air) (take i held) (drop (suc i) held)
+    (All-take (IsHeld scope air) i held all) (All-drop (IsHeld scope air) (suc i) held all)
+
+pub passes_release : (scope : Counting) (rule : Option ContentionRule) (now : ℕ)
     (air : List Transmission) (q : Waiting)
-    → Passes test rule now air air q (waiting_after_release now q)
-passes_release test rule now air q =
+    → Passes scope rule now air air q (waiting_after_release now q)
+passes_release scope rule now air q =
     let kept = kept_at now q.held in
     let late = late_at now q.held in
     let lot = λ (h : HeldFrame WaitingFrame). DroppedAt now in
@@ -434,10 +509,10 @@ passes_release test rule now air q =
       even = λ e. even_release (first_due now kept) now lots ∙ even_after late lot q.lots ∙ e;
       fresh = λ e less. absurd (omega (arith, less));
       sound = λ s. record {
-        held = without_is (place_due now kept) kept test air
-            (All-filter in_time (IsHeld test air) q.held s.held);
-        lots = known_release (first_due now kept) now test air lots
-            (known_after late lot test air q.lots (λ h one frames m e. cc)
-            (All-filter (λ h. not (in_time h)) (IsHeld test air) q.held s.held) s.lots);
+        held = without_is (place_due now kept) kept scope air
+            (All-filter in_time (IsHeld scope air) q.held s.held);
+        lots = known_release (first_due now kept) now scope air lots
+            (known_after late lot scope air q.lots (IsHeld scope air) (λ h one frames m e. cc)
+            (All-filter (λ h. not (in_time h)) (IsHeld scope air) q.held s.held) s.lots);
       };
     }

@@ -17,7 +17,7 @@ use Rattle.its_model.specs.World.{frame_of, with_one_more, world_step}
 use Rattle.its_model.specs.World.What.{Calls, Deliver}
 use Rattle.its_model.specs.Contention.{ContentionRule, HeldFrame}
 use Rattle.its_model.specs.Contended.{WaitingFrame, Lot, ContendedWorld, CopyTest, Happening, Waiting}
-use Rattle.its_model.specs.Contended.{opening_with, rule_at, held_in, held_at, waiting_at}
+use Rattle.its_model.specs.Contended.{opening_with, rule_in, rule_at, held_in, held_at, waiting_at}
 use Rattle.its_model.specs.Contended.{after_ignoring}
 use Rattle.its_model.specs.Contended.{after_delivery, waiting_after_delivery, waiting_after_own}
 use Rattle.its_model.specs.Contended.{waiting_after_asking, waiting_after, waiting_after_event}
@@ -25,79 +25,93 @@ use Rattle.its_model.specs.Contended.{waiting_after_release, released_by, releas
 use Rattle.its_model.specs.Contended.{contended_run}
 use Rattle.its_model.specs.Contended.Happening.{Happens, Releases}
 use Rattle.its_model.proofs.Longer.{at_station_grows}
+use Rattle.its_model.proofs.ContendedLots.{Counting}
 use Rattle.its_model.proofs.ContendedLots.{IsHeld, AreKnown, IsSound, Passes, held_stay, passes_same}
 use Rattle.its_model.proofs.ContendedLots.{passes_plain, passes_own, passes_acceptance}
 use Rattle.its_model.proofs.ContendedLots.{passes_duplicate, passes_release}
 
 -- ---- an event
 
+-- so many copies are enough for the rule, if there is one
+abbrev pub IsEnoughFor : Counting → Option ContentionRule → Type 0
+IsEnoughFor scope rule =
+    (r : ContentionRule) (n : ℕ) → rule ≡ Some r → r.copies ≤ n → scope.IsEnough n
+
 -- a frame that is ignored
-ignored_passes : (why : Why) (test : CopyTest) (r : ContentionRule) (s : StationModel)
+ignored_passes : (why : Why) (scope : Counting) (r : ContentionRule) (s : StationModel)
     (moment k : ℕ) (t : Transmission) (air : List Transmission) (q : Waiting)
-    → slice_get air k ≡ Some t
-    → Passes test (Some r) moment air air q (after_ignoring test r s moment k t q why)
-ignored_passes NotForMe test r s moment k t air q at = passes_same test (Some r) moment air q
-ignored_passes OwnSource test r s moment k t air q at = passes_same test (Some r) moment air q
-ignored_passes SenderMismatch test r s moment k t air q at =
-    passes_same test (Some r) moment air q
-ignored_passes Duplicate test r s moment k t air q at =
-    passes_duplicate test (Some r) moment air q r.copies (mid_of s.address) k t at
+    → slice_get air k ≡ Some t → scope.Was k → IsEnoughFor scope (Some r)
+    → Passes scope (Some r) moment air air q (after_ignoring scope.test r s moment k t q why)
+ignored_passes NotForMe scope r s moment k t air q at was enough =
+    passes_same scope (Some r) moment air q
+ignored_passes OwnSource scope r s moment k t air q at was enough =
+    passes_same scope (Some r) moment air q
+ignored_passes SenderMismatch scope r s moment k t air q at was enough =
+    passes_same scope (Some r) moment air q
+ignored_passes Duplicate scope r s moment k t air q at was enough =
+    passes_duplicate scope (Some r) moment air q r.copies (mid_of s.address) k t at was
+    (λ n le. enough r n refl le)
 
 -- a frame, by the verdict on it
-received_passes : (v : Verdict) (test : CopyTest) (r : ContentionRule) (s : StationModel)
+received_passes : (v : Verdict) (scope : Counting) (r : ContentionRule) (s : StationModel)
     (moment k : ℕ) (t : Transmission) (air : List Transmission) (q : Waiting)
-    → slice_get air k ≡ Some t → length q.lots ≡ length air
+    → slice_get air k ≡ Some t → scope.Was k → IsEnoughFor scope (Some r)
+    → length q.lots ≡ length air
     → let step = receive_step_by s moment t v in
-    Passes test (Some r) moment air (with_one_more air (frame_of step.answer)) q
-    (after_delivery test r step.station moment (length air) k t q step.answer)
-received_passes (Refuse refusal) test r s moment k t air q at long =
-    passes_same test (Some r) moment air q
-received_passes (Ignore why) test r s moment k t air q at long =
-    ignored_passes why test r (record s { clock = moment }) moment k t air q at
-received_passes Accept test r s moment k t air q at long =
-    passes_acceptance (relayed (after_hearing s moment t) moment t t.pdu.body) test r
+    Passes scope (Some r) moment air (with_one_more air (frame_of step.answer)) q
+    (after_delivery scope.test r step.station moment (length air) k t q step.answer)
+received_passes (Refuse refusal) scope r s moment k t air q at was enough long =
+    passes_same scope (Some r) moment air q
+received_passes (Ignore why) scope r s moment k t air q at was enough long =
+    ignored_passes why scope r (record s { clock = moment }) moment k t air q at was enough
+received_passes Accept scope r s moment k t air q at was enough long =
+    passes_acceptance (relayed (after_hearing s moment t) moment t t.pdu.body) scope r
     (after_hearing s moment t) moment t air q long
 
-delivery_passes : (rule : Option ContentionRule) (o : Option Transmission) (test : CopyTest)
+delivery_passes : (rule : Option ContentionRule) (o : Option Transmission) (scope : Counting)
     (cw : ContendedWorld) (e : Event) (s : StationModel) (k : ℕ) (q : Waiting)
-    → slice_get cw.world.air k ≡ o → length q.lots ≡ length cw.world.air
-    → Passes test rule e.moment cw.world.air (delivery cw.world e s o).air q
-    (waiting_after_delivery test cw e s k q rule o)
-unfolding receive_step
-delivery_passes rule None test cw e s k q at long =
-    passes_same test rule e.moment cw.world.air q
-delivery_passes None (Some t) test cw e s k q at long =
-    passes_plain (frame_of (station_step s e.moment (Receive t)).answer) test None e.moment
-    cw.world.air q
-delivery_passes (Some r) (Some t) test cw e s k q at long =
-    received_passes (verdict s e.moment t) test r s e.moment k t cw.world.air q at long
-
-own_passes : (rule : Option ContentionRule) (answer : Answer Transmission) (test : CopyTest)
-    (e : Event) (air : List Transmission) (q : Waiting)
-    → Passes test rule e.moment air (with_one_more air (frame_of answer)) q
-    (waiting_after_own e q rule answer)
-own_passes None answer test e air q =
-    passes_plain (frame_of answer) test None e.moment air q
-own_passes (Some r) answer test e air q = passes_own answer test (Some r) e.moment air q
-
-asked_passes : (what : What) (rule : Option ContentionRule) (test : CopyTest)
-    (cw : ContendedWorld) (e : Event) (s : StationModel) (q : Waiting)
+    → slice_get cw.world.air k ≡ o → scope.Was k → IsEnoughFor scope rule
     → length q.lots ≡ length cw.world.air
-    → Passes test rule e.moment cw.world.air (asked cw.world e s what).air q
-    (waiting_after_asking test cw e s q rule what)
-asked_passes (Calls call) rule test cw e s q long =
-    own_passes rule (station_step s e.moment (Own call)).answer test e cw.world.air q
-asked_passes (Deliver k) rule test cw e s q long =
-    delivery_passes rule (slice_get cw.world.air k) test cw e s k q refl long
+    → Passes scope rule e.moment cw.world.air (delivery cw.world e s o).air q
+    (waiting_after_delivery scope.test cw e s k q rule o)
+unfolding receive_step
+delivery_passes rule None scope cw e s k q at was enough long =
+    passes_same scope rule e.moment cw.world.air q
+delivery_passes None (Some t) scope cw e s k q at was enough long =
+    passes_plain (frame_of (station_step s e.moment (Receive t)).answer) scope None e.moment
+    cw.world.air q
+delivery_passes (Some r) (Some t) scope cw e s k q at was enough long =
+    received_passes (verdict s e.moment t) scope r s e.moment k t cw.world.air q at was enough long
 
-station_passes : (o : Option StationModel) (test : CopyTest) (cw : ContendedWorld) (e : Event)
-    (q : Waiting) → length q.lots ≡ length cw.world.air
-    → Passes test (rule_at cw e.station) e.moment cw.world.air (at_station cw.world e o).air q
-    (waiting_after test cw e q o)
-station_passes None test cw e q long =
-    passes_same test (rule_at cw e.station) e.moment cw.world.air q
-station_passes (Some s) test cw e q long =
-    asked_passes e.what (rule_at cw e.station) test cw e s q long
+own_passes : (rule : Option ContentionRule) (answer : Answer Transmission) (scope : Counting)
+    (e : Event) (air : List Transmission) (q : Waiting)
+    → Passes scope rule e.moment air (with_one_more air (frame_of answer)) q
+    (waiting_after_own e q rule answer)
+own_passes None answer scope e air q =
+    passes_plain (frame_of answer) scope None e.moment air q
+own_passes (Some r) answer scope e air q = passes_own answer scope (Some r) e.moment air q
+
+asked_passes : (what : What) (rule : Option ContentionRule) (scope : Counting)
+    (cw : ContendedWorld) (e : Event) (s : StationModel) (q : Waiting)
+    → ((k : ℕ) → what ≡ Deliver k → scope.Was k) → IsEnoughFor scope rule
+    → length q.lots ≡ length cw.world.air
+    → Passes scope rule e.moment cw.world.air (asked cw.world e s what).air q
+    (waiting_after_asking scope.test cw e s q rule what)
+asked_passes (Calls call) rule scope cw e s q was enough long =
+    own_passes rule (station_step s e.moment (Own call)).answer scope e cw.world.air q
+asked_passes (Deliver k) rule scope cw e s q was enough long =
+    delivery_passes rule (slice_get cw.world.air k) scope cw e s k q refl (was k refl) enough long
+
+station_passes : (o : Option StationModel) (scope : Counting) (cw : ContendedWorld) (e : Event)
+    (q : Waiting)
+    → ((k : ℕ) → e.what ≡ Deliver k → scope.Was k) → IsEnoughFor scope (rule_at cw e.station)
+    → length q.lots ≡ length cw.world.air
+    → Passes scope (rule_at cw e.station) e.moment cw.world.air (at_station cw.world e o).air q
+    (waiting_after scope.test cw e q o)
+station_passes None scope cw e q was enough long =
+    passes_same scope (rule_at cw e.station) e.moment cw.world.air q
+station_passes (Some s) scope cw e q was enough long =
+    asked_passes e.what (rule_at cw e.station) scope cw e s q was enough long
 
 -- ---- a happening
 
@@ -121,9 +135,9 @@ abbrev pub place_of_it : Happening → ℕ
 place_of_it (Happens e) = e.station
 place_of_it (Releases j now) = j
 
-pub record Steps (test : CopyTest) (cw next : ContendedWorld) (j moment : ℕ) : Type 0 where
+pub record Steps (scope : Counting) (cw next : ContendedWorld) (j moment : ℕ) : Type 0 where
   pub waiting : Waiting
-  pub passes : Passes test (rule_at cw j) moment cw.world.air next.world.air (waiting_at cw j)
+  pub passes : Passes scope (rule_at cw j) moment cw.world.air next.world.air (waiting_at cw j)
       waiting
   pub lots : next.lots ≡ waiting.lots
   pub held : (i : ℕ) → (held_at next i ≡ waiting.held) ⊎ (held_at next i ≡ held_at cw i)
@@ -132,11 +146,11 @@ pub record Steps (test : CopyTest) (cw next : ContendedWorld) (j moment : ℕ) :
   pub air : next.world.air ≡ cw.world.air ++ more
 
 -- nothing happens
-same_steps : (test : CopyTest) (cw : ContendedWorld) (j moment : ℕ) → Steps test cw cw j moment
-same_steps test cw j moment =
+same_steps : (scope : Counting) (cw : ContendedWorld) (j moment : ℕ) → Steps scope cw cw j moment
+same_steps scope cw j moment =
     record {
       waiting = waiting_at cw j;
-      passes = passes_same test (rule_at cw j) moment cw.world.air (waiting_at cw j);
+      passes = passes_same scope (rule_at cw j) moment cw.world.air (waiting_at cw j);
       lots = refl;
       held = λ i. inr refl;
       rules = refl;
@@ -144,14 +158,14 @@ same_steps test cw j moment =
       air = sym (append-nil cw.world.air);
     }
 
-released_by_steps : (o : Option Refusal) (test : CopyTest) (cw : ContendedWorld) (j now : ℕ)
-    → Steps test cw (released_by cw j now o) j now
-released_by_steps (Some refusal) test cw j now = same_steps test cw j now
-released_by_steps None test cw j now =
+released_by_steps : (o : Option Refusal) (scope : Counting) (cw : ContendedWorld) (j now : ℕ)
+    → Steps scope cw (released_by cw j now o) j now
+released_by_steps (Some refusal) scope cw j now = same_steps scope cw j now
+released_by_steps None scope cw j now =
     let q = waiting_after_release now (waiting_at cw j) in
     record {
       waiting = q;
-      passes = passes_release test (rule_at cw j) now cw.world.air (waiting_at cw j);
+      passes = passes_release scope (rule_at cw j) now cw.world.air (waiting_at cw j);
       lots = refl;
       held = λ i. held_set cw.held i j q.held;
       rules = refl;
@@ -160,61 +174,89 @@ released_by_steps None test cw j now =
     }
 
 release_steps : (rule : Option ContentionRule) (station : Option StationModel)
-    (test : CopyTest) (cw : ContendedWorld) (j now : ℕ)
-    → Steps test cw (released cw j now rule station) j now
-release_steps None station test cw j now = same_steps test cw j now
-release_steps (Some r) None test cw j now = same_steps test cw j now
-release_steps (Some r) (Some s) test cw j now =
-    released_by_steps (moment_refusal s now) test cw j now
+    (scope : Counting) (cw : ContendedWorld) (j now : ℕ)
+    → Steps scope cw (released cw j now rule station) j now
+release_steps None station scope cw j now = same_steps scope cw j now
+release_steps (Some r) None scope cw j now = same_steps scope cw j now
+release_steps (Some r) (Some s) scope cw j now =
+    released_by_steps (moment_refusal s now) scope cw j now
 
-pub happening_steps : (h : Happening) (test : CopyTest) (cw : ContendedWorld)
-    → length cw.lots ≡ length cw.world.air
-    → Steps test cw (contended_step test cw h) (place_of_it h) (time_of h)
-happening_steps (Happens e) test cw long =
-    let q = waiting_after_event test cw e in
+-- what is known of the frame that it delivers, if it does
+abbrev pub IsAllowed : Counting → Happening → Type 0
+IsAllowed scope (Happens e) = (k : ℕ) → e.what ≡ Deliver k → scope.Was k
+IsAllowed scope (Releases j now) = Unit {0}
+
+-- and of each rule
+abbrev pub RulesAreEnough : Counting → ContendedWorld → Type 0
+RulesAreEnough scope cw = (j : ℕ) → IsEnoughFor scope (rule_at cw j)
+
+pub happening_steps : (h : Happening) (scope : Counting) (cw : ContendedWorld)
+    → IsAllowed scope h → RulesAreEnough scope cw → length cw.lots ≡ length cw.world.air
+    → Steps scope cw (contended_step scope.test cw h) (place_of_it h) (time_of h)
+happening_steps (Happens e) scope cw was enough long =
+    let q = waiting_after_event scope.test cw e in
     let g = at_station_grows (slice_get cw.world.stations e.station) cw.world e in
     record {
       waiting = q;
-      passes = station_passes (slice_get cw.world.stations e.station) test cw e
-          (waiting_at cw e.station) long;
+      passes = station_passes (slice_get cw.world.stations e.station) scope cw e
+          (waiting_at cw e.station) was (enough e.station) long;
       lots = refl;
       held = λ i. held_set cw.held i e.station q.held;
       rules = refl;
       more = g.more;
       air = g.air;
     }
-happening_steps (Releases j now) test cw long =
-    release_steps (rule_at cw j) (slice_get cw.world.stations j) test cw j now
+happening_steps (Releases j now) scope cw was enough long =
+    release_steps (rule_at cw j) (slice_get cw.world.stations j) scope cw j now
 
 -- ---- at each time of a run
-pub record RunSound (test : CopyTest) (cw : ContendedWorld) : Type 0 where
+pub record RunSound (scope : Counting) (cw : ContendedWorld) : Type 0 where
   pub even : length cw.lots ≡ length cw.world.air
-  pub lots : AreKnown test cw.world.air cw.lots
-  pub held : (i : ℕ) → All (IsHeld test cw.world.air) (held_at cw i)
+  pub lots : AreKnown scope cw.world.air cw.lots
+  pub held : (i : ℕ) → All (IsHeld scope cw.world.air) (held_at cw i)
 
-pub step_sound : (h : Happening) (test : CopyTest) (cw : ContendedWorld)
-    → RunSound test cw → RunSound test (contended_step test cw h)
-step_sound h test cw known =
-    let next = contended_step test cw h in
-    let s = happening_steps h test cw known.even in
+pub step_sound : (h : Happening) (scope : Counting) (cw : ContendedWorld)
+    → IsAllowed scope h → RulesAreEnough scope cw → RunSound scope cw
+    → RunSound scope (contended_step scope.test cw h)
+step_sound h scope cw was enough known =
+    let next = contended_step scope.test cw h in
+    let s = happening_steps h scope cw was enough known.even in
     let after = s.passes.sound
     (record { held = known.held (place_of_it h); lots = known.lots }) in
     record {
       even = ap (λ (xs : List Lot). length xs) s.lots ∙ s.passes.even known.even;
-      lots = subst (AreKnown test next.world.air) (sym s.lots) after.lots;
+      lots = subst (AreKnown scope next.world.air) (sym s.lots) after.lots;
       held = λ i. elim (s.held i) [
-        | inl new ↦ subst (All (IsHeld test next.world.air)) (sym new) after.held
-        | inr old ↦ subst (All (IsHeld test next.world.air)) (sym old)
-            (subst (λ (xs : List Transmission). All (IsHeld test xs) (held_at cw i)) (sym s.air)
-            (held_stay (held_at cw i) test cw.world.air s.more (known.held i)))
+        | inl new ↦ subst (All (IsHeld scope next.world.air)) (sym new) after.held
+        | inr old ↦ subst (All (IsHeld scope next.world.air)) (sym old)
+            (subst (λ (xs : List Transmission). All (IsHeld scope xs) (held_at cw i)) (sym s.air)
+            (held_stay (held_at cw i) scope cw.world.air s.more (known.held i)))
       ];
     }
 
-pub contended_sound : (happenings : List Happening) (test : CopyTest) (cw : ContendedWorld)
-    → RunSound test cw → RunSound test (contended_run test cw happenings)
-contended_sound [] test cw known = known
-contended_sound (h ∷ happenings) test cw known =
-    contended_sound happenings test (contended_step test cw h) (step_sound h test cw known)
+-- the rules stay
+step_rules : (h : Happening) (scope : Counting) (cw : ContendedWorld)
+    → IsAllowed scope h → RulesAreEnough scope cw → RunSound scope cw
+    → RulesAreEnough scope (contended_step scope.test cw h)
+step_rules h scope cw was enough known j r n is le =
+    let s = happening_steps h scope cw was enough known.even in
+    enough j r n (ap (λ xs. rule_in (slice_get xs j)) (sym s.rules) ∙ is) le
+
+-- what is known of each frame that these happenings deliver
+abbrev pub AreAllowed : Counting → List Happening → Type 0
+AreAllowed scope happenings =
+    (early : List Happening) (h : Happening) (later : List Happening)
+    → happenings ≡ early ++ h ∷ later → IsAllowed scope h
+
+pub contended_sound : (happenings : List Happening) (scope : Counting) (cw : ContendedWorld)
+    → AreAllowed scope happenings → RulesAreEnough scope cw → RunSound scope cw
+    → RunSound scope (contended_run scope.test cw happenings)
+contended_sound [] scope cw was enough known = known
+contended_sound (h ∷ happenings) scope cw was enough known =
+    let here = was [] h happenings refl in
+    contended_sound happenings scope (contended_step scope.test cw h)
+    (λ early x later split. was (h ∷ early) x later (ap (λ xs. h ∷ xs) split))
+    (step_rules h scope cw here enough known) (step_sound h scope cw here enough known)
 
 none_held : (configs : List Config) (i : ℕ)
     → held_in (slice_get (map (λ (c : Config). []) configs) i) ≡ []
@@ -222,14 +264,14 @@ none_held [] i = refl
 none_held (c ∷ configs) zero = refl
 none_held (c ∷ configs) (suc i) = none_held configs i
 
-pub opening_is_sound : (test : CopyTest) (configs : List Config)
-    (rules : List (Option ContentionRule)) → RunSound test (opening_with configs rules)
-opening_is_sound test configs rules =
+pub opening_is_sound : (scope : Counting) (configs : List Config)
+    (rules : List (Option ContentionRule)) → RunSound scope (opening_with configs rules)
+opening_is_sound scope configs rules =
     record {
       even = refl;
       lots = λ k frames moment is. cc;
-      held = λ i. subst (All (IsHeld test [])) (sym (none_held configs i))
-          (All-nil (IsHeld test []));
+      held = λ i. subst (All (IsHeld scope [])) (sym (none_held configs i))
+          (All-nil (IsHeld scope []));
     }
 
 -- a run is that of its first happenings, and then that of the others
@@ -240,9 +282,33 @@ run_on [] next test cw = refl
 run_on (h ∷ first) next test cw = run_on first next test (contended_step test cw h)
 
 -- the rules stay
+release_rules : (o : Option Refusal) (cw : ContendedWorld) (j now : ℕ)
+    → (released_by cw j now o).rules ≡ cw.rules
+release_rules (Some refusal) cw j now = refl
+release_rules None cw j now = refl
+
+released_rules : (rule : Option ContentionRule) (station : Option StationModel)
+    (cw : ContendedWorld) (j now : ℕ) → (released cw j now rule station).rules ≡ cw.rules
+released_rules None station cw j now = refl
+released_rules (Some r) None cw j now = refl
+released_rules (Some r) (Some s) cw j now = release_rules (moment_refusal s now) cw j now
+
 pub rules_stay : (happenings : List Happening) (test : CopyTest) (cw : ContendedWorld)
-    → RunSound test cw → (contended_run test cw happenings).rules ≡ cw.rules
-rules_stay [] test cw known = refl
-rules_stay (h ∷ happenings) test cw known =
-    rules_stay happenings test (contended_step test cw h) (step_sound h test cw known)
-    ∙ (happening_steps h test cw known.even).rules
+    → (contended_run test cw happenings).rules ≡ cw.rules
+rules_stay [] test cw = refl
+rules_stay (Happens e ∷ happenings) test cw =
+    rules_stay happenings test (contended_step test cw (Happens e))
+rules_stay (Releases j now ∷ happenings) test cw =
+    rules_stay happenings test (contended_step test cw (Releases j now))
+    ∙ released_rules (rule_at cw j) (slice_get cw.world.stations j) cw j now
+
+-- ---- with nothing known of the frames that are counted
+abbrev pub any_counting : CopyTest → Counting
+any_counting test = record { test = test; Was = λ k. Unit {0}; IsEnough = λ n. Unit {0} }
+
+pub any_allowed : (h : Happening) (test : CopyTest) → IsAllowed (any_counting test) h
+any_allowed (Happens e) test = λ k is. tt
+any_allowed (Releases j now) test = tt
+
+pub any_enough : (test : CopyTest) (cw : ContendedWorld) → RulesAreEnough (any_counting test) cw
+any_enough test cw j r n is le = tt

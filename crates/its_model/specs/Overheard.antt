@@ -1,13 +1,15 @@
 -- Where a geobroadcast reaches although stations contend: what a station sends the next one hears, and
 -- what silences a station the next one hears too.
 use Rattle.std.specs.Prelude.{◌≡◌, ◌≢◌, ◌⊎◌, ℕ, ◌+◌, ◌≤◌, List, [], ◌∷◌, ◌++◌, Bool, true, Option}
-use Rattle.std.specs.Prelude.{Some, slice_get}
+use Rattle.std.specs.Prelude.{Some, length, slice_get}
 use Rattle.its_gnvalue.specs.Values.{broadcast}
 use Rattle.its_model.specs.Packet.{Transmission}
+use Rattle.its_model.specs.Stations.{AreDistinct}
 use Rattle.its_model.specs.World.{LogLine, WorldModel, Config, frame_of}
 use Rattle.its_model.specs.Contention.{ContentionRule}
 use Rattle.its_model.specs.Contended.{CopyTest, ContendedWorld, Lot, Happening, opening_with}
 use Rattle.its_model.specs.Contended.{contended_run, lot_after, rule_at, LeavesInTime}
+use Rattle.its_model.specs.Contended.{IsCarried, IsServed}
 use Rattle.its_model.specs.Contended.Lot.{SentAt, WaitsUntil, CancelledBy, DroppedAt}
 use Rattle.its_model.specs.Reach.{Geobroadcast, IsFrameOf, HasOwnAddress, HasOwnNumber}
 use Rattle.its_model.specs.Reach.{FirstAccepts, StandsInside, HasHops, IsFor, CameTo, AreReached}
@@ -31,30 +33,6 @@ TestsCopies test air =
     → slice_get air k ≡ Some held → slice_get air m ≡ Some heard → test own held heard ≡ true
     → IsSentAgain own held heard
 
--- by the test frame k is a copy of this packet
-pub record IsCopyIn (test : CopyTest) (air : List Transmission) (packet : Transmission)
-    (k : ℕ) : Type 0 where
-  pub own : ℕ
-  pub copy : Transmission
-  pub in_air : slice_get air k ≡ Some copy
-  pub tested : test own packet copy ≡ true
-
--- each of these frames is
-abbrev pub AreCopiesOf : CopyTest → List Transmission → Transmission → List ℕ → Type 0
-AreCopiesOf test air packet [] = Unit {0}
-AreCopiesOf test air packet (k ∷ frames) =
-    IsCopyIn test air packet k × AreCopiesOf test air packet frames
-
--- What cancels a frame are copies of it: at any time of a run each frame that is named as one is in
--- the world, and is the frame that waited, sent to all by another station.
-abbrev pub CancelledByCopies : CopyTest → ContendedWorld → Type 0
-CancelledByCopies test cw =
-    (k m moment : ℕ) (frames : List ℕ) (n : ℕ)
-    → slice_get cw.lots k ≡ Some (CancelledBy frames moment) → slice_get frames n ≡ Some m
-    → (held : Transmission) × (heard : Transmission) × (own : ℕ)
-    × (slice_get cw.world.air k ≡ Some held) × (slice_get cw.world.air m ≡ Some heard)
-    × IsSentAgain own held heard
-
 -- ---- at any time of a run
 
 -- a frame had this lot after some of these happenings
@@ -73,6 +51,83 @@ pub record IsGivenFrom (w : WorldModel) (i k : ℕ) : Type 0 where
   pub split : w.log ≡ later ++ line ∷ before
   pub station : line.event.station ≡ i
   pub gives : frame_of line.entry ≡ Some k
+
+-- ---- what cancels a frame
+
+-- At any time of a run a frame that is named as a copy of this one is in the world, and is this one,
+-- sent to all by another station; its link sender is this one.
+pub record IsCopyFrom (air : List Transmission) (held : Transmission)
+    (m sender : ℕ) : Type 0 where
+  pub heard : Transmission
+  pub own : ℕ
+  pub in_air : slice_get air m ≡ Some heard
+  pub again : IsSentAgain own held heard
+  pub from_sender : heard.link_source ≡ sender
+
+-- Copies cancelled frame k: as many as the rule of some station says or more, each from another link
+-- sender.
+pub record IsCancelledBy (cw : ContendedWorld) (air : List Transmission) (k : ℕ)
+    (frames : List ℕ) : Type 0 where
+  pub held : Transmission
+  pub in_air : slice_get air k ≡ Some held
+  pub senders : List ℕ
+  pub distinct : AreDistinct senders
+  pub as_many : length senders ≡ length frames
+  pub station : ℕ
+  pub rule : ContentionRule
+  pub has_rule : rule_at cw station ≡ Some rule
+  pub enough : rule.copies ≤ length frames
+  pub each : (n m sender : ℕ) → slice_get frames n ≡ Some m → slice_get senders n ≡ Some sender
+      → IsCopyFrom air held m sender
+
+-- a frame went out at some time
+pub record WentOut (test : CopyTest) (cw : ContendedWorld) (happenings : List Happening)
+    (m : ℕ) : Type 0 where
+  pub moment : ℕ
+  pub sent : HadLot test cw happenings m (SentAt moment)
+
+-- What cancels a frame are copies of it; if each link carries what was sent, each of them went out.
+pub record CancelledByTheSameFrame (test : CopyTest) (configs : List Config)
+    (rules : List (Option ContentionRule)) (happenings : List Happening) : Type 0 where
+  pub copies : let cw = opening_with configs rules in
+      let air = (contended_run test cw happenings).world.air in
+      TestsCopies test air → (k moment : ℕ) (frames : List ℕ)
+      → HadLot test cw happenings k (CancelledBy frames moment) → IsCancelledBy cw air k frames
+  pub went_out : let cw = opening_with configs rules in
+      IsCarried test cw happenings → (k moment : ℕ) (frames : List ℕ) (n m : ℕ)
+      → HadLot test cw happenings k (CancelledBy frames moment) → slice_get frames n ≡ Some m
+      → WentOut test cw happenings m
+
+-- ---- that somebody sends
+
+-- a frame that is this one, link sender and lifetime aside, went out
+pub record IsSentBySomebody (test : CopyTest) (cw : ContendedWorld) (happenings : List Happening)
+    (k : ℕ) : Type 0 where
+  pub frame : ℕ
+  pub held : Transmission
+  pub heard : Transmission
+  pub in_air : slice_get (contended_run test cw happenings).world.air k ≡ Some held
+  pub sent_is : slice_get (contended_run test cw happenings).world.air frame ≡ Some heard
+  pub same : record heard {
+    link_source = held.link_source;
+    pdu = record heard.pdu { lifetime = held.pdu.lifetime };
+  } ≡ held
+  pub went_out : WentOut test cw happenings frame
+
+-- If each link carries what was sent, each frame that waits leaves in time and none is dropped, then of
+-- each frame that waits at any time the same frame goes out at some station: stations do not silence
+-- each other all.
+abbrev pub SomebodySends : CopyTest → List Config → List (Option ContentionRule)
+    → List Happening → Type 0
+SomebodySends test configs rules happenings =
+    let cw = opening_with configs rules in
+    (late k due : ℕ)
+    → ((j : ℕ) (r : ContentionRule) → rule_at cw j ≡ Some r → 1 ≤ r.copies)
+    → TestsCopies test (contended_run test cw happenings).world.air
+    → IsCarried test cw happenings → IsServed test cw happenings late
+    → ((m moment : ℕ) → HadLot test cw happenings m (DroppedAt moment) → ⊥)
+    → HadLot test cw happenings k (WaitsUntil due)
+    → IsSentBySomebody test cw happenings k
 
 -- ---- a link
 
