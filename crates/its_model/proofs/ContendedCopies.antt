@@ -13,50 +13,67 @@ use Rattle.its_model.specs.Contended.{contended_step, contended_run, IsCarriedBy
 use Rattle.its_model.specs.Contended.{IsCarried, IsServed}
 use Rattle.its_model.specs.Contended.Lot.{SentAt, WaitsUntil, CancelledBy, DroppedAt}
 use Rattle.its_model.specs.Contended.Happening.{Happens, Releases}
-use Rattle.its_model.specs.Overheard.{TestsCopies, IsCopyFrom, IsCancelledBy, HadLot, WentOut}
+use Rattle.its_model.specs.Overheard.{IsSentAgain, TestsCopies, IsCopyFrom, IsCancelledBy, HadLot, WentOut}
 use Rattle.its_model.specs.Overheard.{CancelledByTheSameFrame, IsSentBySomebody, SomebodySends}
+use Rattle.its_gnvalue.specs.Values.{mid_of}
 use Rattle.its_model.proofs.Lists.{get_at, get_within}
+use Rattle.its_model.proofs.SoundRuns.{opening_sound}
 use Rattle.its_model.proofs.ContendedLots.{IsLeftAt, Counting, IsCounted, AreCounted, AreCopiesIn}
 use Rattle.its_model.proofs.ContendedLots.{as_many}
 use Rattle.its_model.proofs.ContendedSteps.{IsAllowed, AreAllowed, RulesAreEnough, RunSound}
-use Rattle.its_model.proofs.ContendedSteps.{contended_sound, opening_is_sound}
+use Rattle.its_model.proofs.ContendedSteps.{contended_sound, opening_is_known}
 use Rattle.its_model.proofs.ContendedLinks.{air_stays, copy_at, some_copy, LeftAs, left_as, lots_sound}
 
 -- ---- what is counted
 
--- so many copies are enough for a rule
-abbrev IsEnoughHere : ContendedWorld → ℕ → Type 0
-IsEnoughHere cw n =
-    (j : ℕ) × (r : ContentionRule) × (rule_at cw j ≡ Some r) × (r.copies ≤ n)
+-- so many copies are enough for the rule of the station with this link address
+record IsEnoughHere (configs : List Config) (cw : ContendedWorld) (own n : ℕ) : Type 0 where
+  pub station : ℕ
+  pub config : Config
+  pub configured : slice_get configs station ≡ Some config
+  pub its_own : own ≡ mid_of config.address
+  pub rule : ContentionRule
+  pub has_rule : rule_at cw station ≡ Some rule
+  pub enough : rule.copies ≤ n
 
 -- what is counted in a run, where this is known of each frame that is delivered
-abbrev counting : CopyTest → ContendedWorld → (ℕ → Type 0) → Counting
-counting test cw Was = record { test = test; Was = Was; IsEnough = IsEnoughHere cw }
+abbrev counting : CopyTest → List Config → ContendedWorld → (ℕ → Type 0) → Counting
+counting test configs cw Was =
+    record { test = test; Was = Was; IsEnough = IsEnoughHere configs cw }
 
-all_enough : (test : CopyTest) (cw : ContendedWorld) (Was : ℕ → Type 0)
-    → RulesAreEnough (counting test cw Was) cw
-all_enough test cw Was j r n is le = (j, r, is, le)
+all_enough : (test : CopyTest) (configs : List Config) (cw : ContendedWorld) (Was : ℕ → Type 0)
+    → RulesAreEnough (counting test configs cw Was) configs cw
+all_enough test configs cw Was j config configured r n is le =
+    record {
+      station = j;
+      config = config;
+      configured = configured;
+      its_own = refl;
+      rule = r;
+      has_rule = is;
+      enough = le;
+    }
 
 -- what cancelled a frame, at any time of a run
 cancelled_in_run : (test : CopyTest) (configs : List Config) (rules : List (Option ContentionRule))
     (happenings : List Happening) (Was : ℕ → Type 0) (k moment : ℕ) (frames : List ℕ)
     → let cw = opening_with configs rules in
-    AreAllowed (counting test cw Was) happenings
+    AreAllowed (counting test configs cw Was) happenings
     → (had : HadLot test cw happenings k (CancelledBy frames moment))
-    → AreCopiesIn (counting test cw Was) (contended_run test cw had.early).world.air k frames
+    → AreCopiesIn (counting test configs cw Was) (contended_run test cw had.early).world.air k frames
 cancelled_in_run test configs rules happenings Was k moment frames allowed had =
     let cw = opening_with configs rules in
-    let scope = counting test cw Was in
-    (contended_sound had.early scope cw
+    let scope = counting test configs cw Was in
+    (contended_sound had.early scope configs cw (opening_sound configs)
     (λ early h later split. allowed early h (later ++ had.later)
     (had.split ∙ ap (λ xs. xs ++ had.later) split ∙ append_assoc early (h ∷ later) had.later))
-    (all_enough test cw Was) (opening_is_sound scope configs rules)).lots k frames moment had.was
+    (all_enough test configs cw Was) (opening_is_known scope configs rules)).lots k frames moment had.was
 
 -- with nothing known of what is delivered
-nothing_known : (h : Happening) (test : CopyTest) (cw : ContendedWorld)
-    → IsAllowed (counting test cw (λ k. Unit {0})) h
-nothing_known (Happens e) test cw = λ k is. tt
-nothing_known (Releases j now) test cw = tt
+nothing_known : (h : Happening) (test : CopyTest) (configs : List Config) (cw : ContendedWorld)
+    → IsAllowed (counting test configs cw (λ k. Unit {0})) h
+nothing_known (Happens e) test configs cw = λ k is. tt
+nothing_known (Releases j now) test configs cw = tt
 
 -- ---- where each link carries what was sent
 
@@ -69,12 +86,12 @@ carried_at (x ∷ early) test cw h later carried =
     carried_at early test (contended_step test cw x) h later carried.1
 
 -- what is delivered went out
-were_sent : (h : Happening) (test : CopyTest) (cw : ContendedWorld)
+were_sent : (h : Happening) (test : CopyTest) (configs : List Config) (cw : ContendedWorld)
     (happenings early later : List Happening)
     → IsCarried test cw happenings → happenings ≡ early ++ h ∷ later
-    → IsAllowed (counting test cw (λ k. WentOut test cw happenings k)) h
-were_sent (Releases j now) test cw happenings early later carried split = tt
-were_sent (Happens e) test cw happenings early later carried split = λ k is. (
+    → IsAllowed (counting test configs cw (λ k. WentOut test cw happenings k)) h
+were_sent (Releases j now) test configs cw happenings early later carried split = tt
+were_sent (Happens e) test configs cw happenings early later carried split = λ k is. (
     let lots = (contended_run test cw early).lots in
     let here : IsCarriedBy lots e.moment e.what =
     carried_at early test cw (Happens e) later
@@ -94,48 +111,51 @@ were_sent (Happens e) test cw happenings early later carried split = λ k is. (
 -- ---- what cancels a frame
 
 -- the senders differ
-senders_differ : (senders frames : List ℕ) (scope : Counting) (air : List Transmission)
-    (t : Transmission) → AreCounted scope air t senders frames → AreDistinct senders
-senders_differ [] frames scope air t all = tt
-senders_differ (sender ∷ senders) [] scope air t all = absurd all
-senders_differ (sender ∷ senders) (k ∷ frames) scope air t all =
-    (all.1, senders_differ senders frames scope air t all.2)
+senders_differ : (senders frames : List ℕ) (scope : Counting) (own : ℕ) (air : List Transmission)
+    (t : Transmission) → AreCounted scope own air t senders frames → AreDistinct senders
+senders_differ [] frames scope own air t all = tt
+senders_differ (sender ∷ senders) [] scope own air t all = absurd all
+senders_differ (sender ∷ senders) (k ∷ frames) scope own air t all =
+    (all.1, senders_differ senders frames scope own air t all.2)
 
 cancelled_by : (test : CopyTest) (configs : List Config) (rules : List (Option ContentionRule))
     (happenings : List Happening) (k moment : ℕ) (frames : List ℕ)
     → let cw = opening_with configs rules in
     let air = (contended_run test cw happenings).world.air in
     TestsCopies test air → HadLot test cw happenings k (CancelledBy frames moment)
-    → IsCancelledBy cw air k frames
+    → IsCancelledBy configs cw air k frames
 cancelled_by test configs rules happenings k moment frames tests had =
     let cw = opening_with configs rules in
-    let scope = counting test cw (λ k. Unit {0}) in
+    let scope = counting test configs cw (λ k. Unit {0}) in
     let c = cancelled_in_run test configs rules happenings (λ k. Unit {0}) k moment frames
-    (λ early h later split. nothing_known h test cw) had in
+    (λ early h later split. nothing_known h test configs cw) had in
     let at : slice_get (contended_run test cw happenings).world.air k ≡ Some c.packet =
     air_stays test cw happenings had.early had.later k c.packet had.split c.in_air in
     record {
       held = c.packet;
       in_air = at;
       senders = c.senders;
-      distinct = senders_differ c.senders frames scope
+      distinct = senders_differ c.senders frames scope c.own
           (contended_run test cw had.early).world.air c.packet c.copies;
-      as_many = as_many c.senders frames scope (contended_run test cw had.early).world.air c.packet
+      as_many = as_many c.senders frames scope c.own (contended_run test cw had.early).world.air c.packet
           c.copies;
-      station = c.enough.0;
-      rule = c.enough.1;
-      has_rule = c.enough.2;
-      enough = c.enough.3;
+      station = c.enough.station;
+      config = c.enough.config;
+      configured = c.enough.configured;
+      its_own = c.its_own ∙ c.enough.its_own;
+      rule = c.enough.rule;
+      has_rule = c.enough.has_rule;
+      enough = c.enough.enough;
       each = λ n m sender is who. (
-          let one = copy_at c.senders frames n m sender scope
+          let one = copy_at c.senders frames n m sender scope c.own
           (contended_run test cw had.early).world.air c.packet c.copies is who in
           let there : slice_get (contended_run test cw happenings).world.air m ≡ Some one.copy =
           air_stays test cw happenings had.early had.later m one.copy had.split one.in_air in
           record {
             heard = one.copy;
-            own = one.own;
             in_air = there;
-            again = tests one.own k m c.packet one.copy at there one.tested;
+            again = subst (λ (own : ℕ). IsSentAgain own c.packet one.copy) c.enough.its_own
+                (tests c.own k m c.packet one.copy at there one.tested);
             from_sender = one.from_sender;
           });
     }
@@ -149,8 +169,8 @@ went_out test configs rules happenings k moment frames n m carried had is =
     let cw = opening_with configs rules in
     let Was = λ (i : ℕ). WentOut test cw happenings i in
     let c = cancelled_in_run test configs rules happenings Was k moment frames
-    (λ early h later split. were_sent h test cw happenings early later carried split) had in
-    (some_copy c.senders frames n m (counting test cw Was)
+    (λ early h later split. were_sent h test configs cw happenings early later carried split) had in
+    (some_copy c.senders frames n m (counting test configs cw Was) c.own
     (contended_run test cw had.early).world.air c.packet c.copies is).1.was
 
 pub cancelled_by_the_same_frame : (test : CopyTest) (configs : List Config)

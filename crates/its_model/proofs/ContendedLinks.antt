@@ -35,7 +35,7 @@ use Rattle.its_model.specs.Overheard.IsToldAnyway.{by_copy, by_then}
 use Rattle.its_model.proofs.Lists.{get_front, get_at, get_within}
 use Rattle.its_model.proofs.NumberTests.{eq_test}
 use Rattle.its_model.proofs.Sound.{Sound, EachNamed}
-use Rattle.its_model.proofs.SoundRuns.{run_sound, step_keeps}
+use Rattle.its_model.proofs.SoundRuns.{opening_sound, run_sound, step_keeps}
 use Rattle.its_model.proofs.Longer.{at_station_grows, run_grows, same_end}
 use Rattle.its_model.proofs.Givers.{number_is, length_at}
 use Rattle.its_model.proofs.Theorems.{area_number}
@@ -49,7 +49,7 @@ use Rattle.its_model.proofs.ContenderPuts.{wait_greatest}
 use Rattle.its_model.proofs.ContendedLots.{IsLeftAt, Evolved, IsFirstLot, Counting, IsCounted}
 use Rattle.its_model.proofs.ContendedLots.{AreCounted, as_many}
 use Rattle.its_model.proofs.ContendedSteps.{RunSound, happening_steps, time_of, place_of_it}
-use Rattle.its_model.proofs.ContendedSteps.{contended_sound, opening_is_sound, run_on, rules_stay}
+use Rattle.its_model.proofs.ContendedSteps.{contended_sound, opening_is_known, run_on, rules_stay}
 use Rattle.its_model.proofs.ContendedSteps.{any_counting, any_allowed, any_enough}
 
 -- ---- when a line was made
@@ -168,7 +168,7 @@ made_by (Happens e ∷ happenings) test cw later before line split le =
 -- ---- the first lot of a frame
 
 -- what is known of the world at any time of a run
-world_sound : (test : CopyTest) (configs : List Config) (rules : List (Option ContentionRule))
+pub world_sound : (test : CopyTest) (configs : List Config) (rules : List (Option ContentionRule))
     (happenings : List Happening)
     → Sound configs (contended_run test (opening_with configs rules) happenings).world
 world_sound test configs rules happenings =
@@ -179,11 +179,13 @@ world_sound test configs rules happenings =
 -- what is known of the lots
 pub lots_sound : (test : CopyTest) (configs : List Config) (rules : List (Option ContentionRule))
     (happenings : List Happening)
-    → RunSound (any_counting test) (contended_run test (opening_with configs rules) happenings)
+    → RunSound (any_counting test) configs
+    (contended_run test (opening_with configs rules) happenings)
 lots_sound test configs rules happenings =
     let cw = opening_with configs rules in
-    contended_sound happenings (any_counting test) cw (λ early h later split. any_allowed h test)
-    (any_enough test cw) (opening_is_sound (any_counting test) configs rules)
+    contended_sound happenings (any_counting test) configs cw (opening_sound configs)
+    (λ early h later split. any_allowed h test) (any_enough test configs cw)
+    (opening_is_known (any_counting test) configs rules)
 
 -- the first lot that a frame had
 record HadFirst (test : CopyTest) (cw : ContendedWorld) (happenings : List Happening)
@@ -209,8 +211,8 @@ first_lot test configs rules happenings later before line k split gives =
     let sound = world_sound test configs rules m.early in
     let known = lots_sound test configs rules m.early in
     let then = step_keeps configs old.world m.event sound in
-    let s = happening_steps h (any_counting test) old (any_allowed h test)
-    (any_enough test old) known.even in
+    let s = happening_steps h (any_counting test) configs old sound (any_allowed h test)
+    (any_enough test configs old) known.even in
     let number : k ≡ length (origins before) =
     number_is w.log later before line k whole.names split gives in
     let count : length (origins before) ≡ length old.world.air =
@@ -263,31 +265,31 @@ air_stays test cw happenings early later k t split at =
     ap (λ xs. slice_get xs k) air ∙ get_front old.air grown.more k t at
 
 -- one of several copies
-pub copy_at : (senders frames : List ℕ) (n k sender : ℕ) (scope : Counting)
+pub copy_at : (senders frames : List ℕ) (n k sender : ℕ) (scope : Counting) (own : ℕ)
     (air : List Transmission) (t : Transmission)
-    → AreCounted scope air t senders frames → slice_get frames n ≡ Some k
-    → slice_get senders n ≡ Some sender → IsCounted scope air t sender k
-copy_at [] frames n k sender scope air t all is who = cc
-copy_at (x ∷ senders) [] n k sender scope air t all is who = cc
-copy_at (x ∷ senders) (m ∷ frames) zero k sender scope air t all is who =
+    → AreCounted scope own air t senders frames → slice_get frames n ≡ Some k
+    → slice_get senders n ≡ Some sender → IsCounted scope own air t sender k
+copy_at [] frames n k sender scope own air t all is who = cc
+copy_at (x ∷ senders) [] n k sender scope own air t all is who = cc
+copy_at (x ∷ senders) (m ∷ frames) zero k sender scope own air t all is who =
     let same : m ≡ k = cc in
     let from : x ≡ sender = cc in
-    subst (λ (i : ℕ). IsCounted scope air t sender i) same
-    (subst (λ (i : ℕ). IsCounted scope air t i m) from all.0)
-copy_at (x ∷ senders) (m ∷ frames) (suc n) k sender scope air t all is who =
-    copy_at senders frames n k sender scope air t all.2 is who
+    subst (λ (i : ℕ). IsCounted scope own air t sender i) same
+    (subst (λ (i : ℕ). IsCounted scope own air t i m) from all.0)
+copy_at (x ∷ senders) (m ∷ frames) (suc n) k sender scope own air t all is who =
+    copy_at senders frames n k sender scope own air t all.2 is who
 
 -- there is one for each frame
-pub some_copy : (senders frames : List ℕ) (n k : ℕ) (scope : Counting)
+pub some_copy : (senders frames : List ℕ) (n k : ℕ) (scope : Counting) (own : ℕ)
     (air : List Transmission) (t : Transmission)
-    → AreCounted scope air t senders frames → slice_get frames n ≡ Some k
-    → (sender : ℕ) × IsCounted scope air t sender k
-some_copy senders frames n k scope air t all is =
+    → AreCounted scope own air t senders frames → slice_get frames n ≡ Some k
+    → (sender : ℕ) × IsCounted scope own air t sender k
+some_copy senders frames n k scope own air t all is =
     let within : n < length senders =
-    omega (arith, as_many senders frames scope air t all, get_within frames n k is) in
+    omega (arith, as_many senders frames scope own air t all, get_within frames n k is) in
     let who = get_at senders n within in (
       who.0,
-      copy_at senders frames n k who.0 scope air t all is who.1,
+      copy_at senders frames n k who.0 scope own air t all is who.1,
     )
 
 -- ---- what was accepted was for its station
@@ -451,7 +453,7 @@ by_lot (CancelledBy frames m) test configs rules happenings g greatest late dela
     told (by_copy n c is came) =
         let w = (contended_run test (opening_with configs rules) happenings).world in
         let known = (lots_sound test configs rules had.early).lots k frames m had.was in
-        let some = some_copy known.senders frames n c (any_counting test)
+        let some = some_copy known.senders frames n c (any_counting test) known.own
         (contended_run test (opening_with configs rules) had.early).world.air known.packet
         known.copies is in
         let copy = some.1 in
@@ -461,9 +463,9 @@ by_lot (CancelledBy frames m) test configs rules happenings g greatest late dela
         let at_c : slice_get w.air c ≡ Some copy.copy =
         air_stays test (opening_with configs rules) happenings had.early had.later c copy.copy
         had.split copy.in_air in
-        let again = tests copy.own k c known.packet copy.copy at_k at_c copy.tested in
+        let again = tests known.own k c known.packet copy.copy at_k at_c copy.tested in
         by_sent w g o.receiver j c (m + delay) latest copy.copy (omega (arith, left, le))
-        (copy_is_of_it configs w g k c copy.own known.packet copy.copy run.sound own_address own_number
+        (copy_is_of_it configs w g k c known.own known.packet copy.copy run.sound own_address own_number
         of_send at_k at_c again) at_c
         (inl again.to_all, came)
     told (by_then line before f in_time) =
@@ -511,8 +513,9 @@ left_as test configs rules happenings late k due leaves =
     let cw = opening_with configs rules in
     let h = leaves.happening in
     let old = contended_run test cw leaves.before in
-    let s = happening_steps h (any_counting test) old (any_allowed h test)
-    (any_enough test old) (lots_sound test configs rules leaves.before).even in
+    let s = happening_steps h (any_counting test) configs old
+    (world_sound test configs rules leaves.before) (any_allowed h test)
+    (any_enough test configs old) (lots_sound test configs rules leaves.before).even in
     let e = s.passes.evolves k (WaitsUntil due) leaves.waited in
     let there : lot_after test cw (leaves.before ++ h ∷ []) k ≡ Some e.lot =
     ap (λ (x : ContendedWorld). slice_get x.lots k) (run_on leaves.before (h ∷ []) test cw)

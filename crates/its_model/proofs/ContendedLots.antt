@@ -120,12 +120,11 @@ even_release (Some frame) now lots = length_set lots frame.number (SentAt now)
 pub record Counting : Type 1 where
   pub test : CopyTest
   pub Was : ℕ → Type 0
-  pub IsEnough : ℕ → Type 0
+  pub IsEnough : ℕ → ℕ → Type 0  -- by the own MID
 
 -- frame k was counted as a copy of this packet, from this sender
-pub record IsCounted (scope : Counting) (air : List Transmission) (packet : Transmission)
-    (sender k : ℕ) : Type 0 where
-  pub own : ℕ
+pub record IsCounted (scope : Counting) (own : ℕ) (air : List Transmission)
+    (packet : Transmission) (sender k : ℕ) : Type 0 where
   pub copy : Transmission
   pub in_air : slice_get air k ≡ Some copy
   pub tested : scope.test own packet copy ≡ true
@@ -133,57 +132,59 @@ pub record IsCounted (scope : Counting) (air : List Transmission) (packet : Tran
   pub was : scope.Was k
 
 -- these frames were, each from another sender
-abbrev pub AreCounted : Counting → List Transmission → Transmission → List ℕ → List ℕ → Type 0
-AreCounted scope air packet [] [] = Unit {0}
-AreCounted scope air packet [] (k ∷ frames) = ⊥
-AreCounted scope air packet (sender ∷ senders) [] = ⊥
-AreCounted scope air packet (sender ∷ senders) (k ∷ frames) =
-    IsCounted scope air packet sender k × (is_among sender senders ≡ false)
-    × AreCounted scope air packet senders frames
+abbrev pub AreCounted : Counting → ℕ → List Transmission → Transmission → List ℕ → List ℕ → Type 0
+AreCounted scope own air packet [] [] = Unit {0}
+AreCounted scope own air packet [] (k ∷ frames) = ⊥
+AreCounted scope own air packet (sender ∷ senders) [] = ⊥
+AreCounted scope own air packet (sender ∷ senders) (k ∷ frames) =
+    IsCounted scope own air packet sender k × (is_among sender senders ≡ false)
+    × AreCounted scope own air packet senders frames
 
 -- a frame that waits is the world's, and what was counted of it are copies
-pub record IsHeld (scope : Counting) (air : List Transmission)
+pub record IsHeld (scope : Counting) (own : ℕ) (air : List Transmission)
     (h : HeldFrame WaitingFrame) : Type 0 where
+  pub its_own : h.frame.packet.link_source ≡ own
   pub in_air : slice_get air h.frame.number ≡ Some h.frame.packet
-  pub copies : AreCounted scope air h.frame.packet h.senders h.frame.copies
+  pub copies : AreCounted scope own air h.frame.packet h.senders h.frame.copies
 
 -- what cancelled frame k are copies, and they are enough
 pub record AreCopiesIn (scope : Counting) (air : List Transmission) (k : ℕ)
     (frames : List ℕ) : Type 0 where
   pub packet : Transmission
   pub in_air : slice_get air k ≡ Some packet
+  pub own : ℕ
+  pub its_own : packet.link_source ≡ own
   pub senders : List ℕ
-  pub copies : AreCounted scope air packet senders frames
-  pub enough : scope.IsEnough (length frames)
+  pub copies : AreCounted scope own air packet senders frames
+  pub enough : scope.IsEnough own (length frames)
 
 abbrev pub AreKnown : Counting → List Transmission → List Lot → Type 0
 AreKnown scope air lots =
     (k : ℕ) (frames : List ℕ) (moment : ℕ) → slice_get lots k ≡ Some (CancelledBy frames moment)
     → AreCopiesIn scope air k frames
 
-pub record IsSound (scope : Counting) (air : List Transmission) (q : Waiting) : Type 0 where
-  pub held : All (IsHeld scope air) q.held
+pub record IsSound (scope : Counting) (own : ℕ) (air : List Transmission) (q : Waiting) : Type 0 where
+  pub held : All (IsHeld scope own air) q.held
   pub lots : AreKnown scope air q.lots
 
 -- there are as many senders as frames
-pub as_many : (senders frames : List ℕ) (scope : Counting) (air : List Transmission)
-    (t : Transmission) → AreCounted scope air t senders frames → length senders ≡ length frames
-as_many [] [] scope air t all = refl
-as_many [] (k ∷ frames) scope air t all = absurd all
-as_many (sender ∷ senders) [] scope air t all = absurd all
-as_many (sender ∷ senders) (k ∷ frames) scope air t all =
-    ap suc (as_many senders frames scope air t all.2)
+pub as_many : (senders frames : List ℕ) (scope : Counting) (own : ℕ) (air : List Transmission)
+    (t : Transmission) → AreCounted scope own air t senders frames → length senders ≡ length frames
+as_many [] [] scope own air t all = refl
+as_many [] (k ∷ frames) scope own air t all = absurd all
+as_many (sender ∷ senders) [] scope own air t all = absurd all
+as_many (sender ∷ senders) (k ∷ frames) scope own air t all =
+    ap suc (as_many senders frames scope own air t all.2)
 
 -- more frames leave it
-copies_stay : (senders frames : List ℕ) (scope : Counting) (air more : List Transmission)
-    (t : Transmission) → AreCounted scope air t senders frames
-    → AreCounted scope (air ++ more) t senders frames
-copies_stay [] [] scope air more t all = tt
-copies_stay [] (k ∷ frames) scope air more t all = absurd all
-copies_stay (sender ∷ senders) [] scope air more t all = absurd all
-copies_stay (sender ∷ senders) (k ∷ frames) scope air more t all = (
+copies_stay : (senders frames : List ℕ) (scope : Counting) (own : ℕ) (air more : List Transmission)
+    (t : Transmission) → AreCounted scope own air t senders frames
+    → AreCounted scope own (air ++ more) t senders frames
+copies_stay [] [] scope own air more t all = tt
+copies_stay [] (k ∷ frames) scope own air more t all = absurd all
+copies_stay (sender ∷ senders) [] scope own air more t all = absurd all
+copies_stay (sender ∷ senders) (k ∷ frames) scope own air more t all = (
   record {
-    own = all.0.own;
     copy = all.0.copy;
     in_air = get_front air more k all.0.copy all.0.in_air;
     tested = all.0.tested;
@@ -191,19 +192,20 @@ copies_stay (sender ∷ senders) (k ∷ frames) scope air more t all = (
     was = all.0.was;
   },
   all.1,
-  copies_stay senders frames scope air more t all.2,
+  copies_stay senders frames scope own air more t all.2,
 )
 
-pub held_stay : (held : List (HeldFrame WaitingFrame)) (scope : Counting)
-    (air more : List Transmission) → All (IsHeld scope air) held
-    → All (IsHeld scope (air ++ more)) held
-held_stay [] scope air more all = All-nil (IsHeld scope (air ++ more))
-held_stay (h ∷ held) scope air more all =
-    let one = All-head (IsHeld scope air) h held all in
-    All-cons (IsHeld scope (air ++ more)) h held (record {
+pub held_stay : (held : List (HeldFrame WaitingFrame)) (scope : Counting) (own : ℕ)
+    (air more : List Transmission) → All (IsHeld scope own air) held
+    → All (IsHeld scope own (air ++ more)) held
+held_stay [] scope own air more all = All-nil (IsHeld scope own (air ++ more))
+held_stay (h ∷ held) scope own air more all =
+    let one = All-head (IsHeld scope own air) h held all in
+    All-cons (IsHeld scope own (air ++ more)) h held (record {
+      its_own = one.its_own;
       in_air = get_front air more h.frame.number h.frame.packet one.in_air;
-      copies = copies_stay h.senders h.frame.copies scope air more h.frame.packet one.copies;
-    }) (held_stay held scope air more (All-tail (IsHeld scope air) h held all))
+      copies = copies_stay h.senders h.frame.copies scope own air more h.frame.packet one.copies;
+    }) (held_stay held scope own air more (All-tail (IsHeld scope own air) h held all))
 
 known_stay : (scope : Counting) (air more : List Transmission) (lots : List Lot)
     → AreKnown scope air lots → AreKnown scope (air ++ more) lots
@@ -212,8 +214,10 @@ known_stay scope air more lots known k frames moment is =
     record {
       packet = c.packet;
       in_air = get_front air more k c.packet c.in_air;
+      own = c.own;
+      its_own = c.its_own;
       senders = c.senders;
-      copies = copies_stay c.senders frames scope air more c.packet c.copies;
+      copies = copies_stay c.senders frames scope c.own air more c.packet c.copies;
       enough = c.enough;
     }
 
@@ -267,18 +271,18 @@ IsFirstLot rule moment lot =
     ⊎ ((r : ContentionRule) × (d : Option ℕ) × (tie : ℕ) × (rule ≡ Some r)
     × (lot ≡ WaitsUntil (moment + wait r tie d)))
 
-pub record Passes (scope : Counting) (rule : Option ContentionRule) (moment : ℕ)
+pub record Passes (scope : Counting) (own : ℕ) (rule : Option ContentionRule) (moment : ℕ)
     (air after : List Transmission) (q next : Waiting) : Type 0 where
   pub evolves : Evolves moment q.lots next.lots
   pub even : length q.lots ≡ length air → length next.lots ≡ length after
   pub fresh : length q.lots ≡ length air → length air < length after
       → (lot : Lot) × (slice_get next.lots (length air) ≡ Some lot) × IsFirstLot rule moment lot
-  pub sound : IsSound scope air q → IsSound scope after next
+  pub sound : IsSound scope own air q → IsSound scope own after next
 
 -- nothing
-pub passes_same : (scope : Counting) (rule : Option ContentionRule) (moment : ℕ)
-    (air : List Transmission) (q : Waiting) → Passes scope rule moment air air q q
-passes_same scope rule moment air q =
+pub passes_same : (scope : Counting) (own : ℕ) (rule : Option ContentionRule) (moment : ℕ)
+    (air : List Transmission) (q : Waiting) → Passes scope own rule moment air air q q
+passes_same scope own rule moment air q =
     record {
       evolves = evolves_same moment q.lots;
       even = λ e. e;
@@ -287,12 +291,13 @@ passes_same scope rule moment air q =
     }
 
 -- a frame that goes out at once, or none
-pub passes_plain : (o : Option Transmission) (scope : Counting) (rule : Option ContentionRule)
+pub passes_plain : (o : Option Transmission) (scope : Counting) (own : ℕ)
+    (rule : Option ContentionRule)
     (moment : ℕ) (air : List Transmission) (q : Waiting)
-    → Passes scope rule moment air (with_one_more air o) q
+    → Passes scope own rule moment air (with_one_more air o) q
     (record { held = q.held; lots = with_one_more q.lots (lot_at moment o) })
-passes_plain None scope rule moment air q = passes_same scope rule moment air q
-passes_plain (Some t) scope rule moment air q =
+passes_plain None scope own rule moment air q = passes_same scope own rule moment air q
+passes_plain (Some t) scope own rule moment air q =
     let lots = q.lots ++ SentAt moment ∷ [] in
     record {
       evolves = evolves_more (Some (SentAt moment)) moment q.lots;
@@ -303,55 +308,56 @@ passes_plain (Some t) scope rule moment air q =
         inl refl,
       );
       sound = λ s. record {
-        held = held_stay q.held scope air (t ∷ []) s.held;
+        held = held_stay q.held scope own air (t ∷ []) s.held;
         lots = known_more scope (air ++ t ∷ []) q.lots (SentAt moment) (λ frames m e. cc)
             (known_stay scope air (t ∷ []) q.lots s.lots);
       };
     }
 
 -- all are dropped
-pub passes_restart : (scope : Counting) (rule : Option ContentionRule) (moment : ℕ)
+pub passes_restart : (scope : Counting) (own : ℕ) (rule : Option ContentionRule) (moment : ℕ)
     (air : List Transmission) (q : Waiting)
-    → Passes scope rule moment air air q
+    → Passes scope own rule moment air air q
     (record { held = []; lots = lots_after (λ h. DroppedAt moment) q.lots q.held })
-passes_restart scope rule moment air q =
+passes_restart scope own rule moment air q =
     record {
       evolves = evolves_after q.held (λ h. DroppedAt moment) moment q.lots (λ h. refl);
       even = λ e. even_after q.held (λ h. DroppedAt moment) q.lots ∙ e;
       fresh = λ e less. absurd (omega (arith, less));
       sound = λ s. record {
-        held = All-nil (IsHeld scope air);
+        held = All-nil (IsHeld scope own air);
         lots = known_after q.held (λ h. DroppedAt moment) scope air q.lots
-            (IsHeld scope air) (λ h one frames m e. cc) s.held s.lots;
+            (IsHeld scope own air) (λ h one frames m e. cc) s.held s.lots;
       };
     }
 
 -- an own call
-pub passes_own : (answer : Answer Transmission) (scope : Counting) (rule : Option ContentionRule)
+pub passes_own : (answer : Answer Transmission) (scope : Counting) (own : ℕ)
+    (rule : Option ContentionRule)
     (moment : ℕ) (air : List Transmission) (q : Waiting)
-    → Passes scope rule moment air (with_one_more air (frame_of answer)) q
+    → Passes scope own rule moment air (with_one_more air (frame_of answer)) q
     (after_own_call moment q answer)
-passes_own Moved scope rule moment air q = passes_same scope rule moment air q
-passes_own Opened scope rule moment air q = passes_same scope rule moment air q
-passes_own Closed scope rule moment air q = passes_same scope rule moment air q
-passes_own Restarted scope rule moment air q = passes_restart scope rule moment air q
-passes_own Quiet scope rule moment air q = passes_same scope rule moment air q
-passes_own (Sent frame) scope rule moment air q = passes_plain (Some frame) scope rule moment air q
-passes_own (Ignored why) scope rule moment air q = passes_same scope rule moment air q
-passes_own (Accepted handed relayed) scope rule moment air q =
-    passes_plain relayed scope rule moment air q
-passes_own (Refused refusal) scope rule moment air q = passes_same scope rule moment air q
+passes_own Moved scope own rule moment air q = passes_same scope own rule moment air q
+passes_own Opened scope own rule moment air q = passes_same scope own rule moment air q
+passes_own Closed scope own rule moment air q = passes_same scope own rule moment air q
+passes_own Restarted scope own rule moment air q = passes_restart scope own rule moment air q
+passes_own Quiet scope own rule moment air q = passes_same scope own rule moment air q
+passes_own (Sent frame) scope own rule moment air q = passes_plain (Some frame) scope own rule moment air q
+passes_own (Ignored why) scope own rule moment air q = passes_same scope own rule moment air q
+passes_own (Accepted handed relayed) scope own rule moment air q =
+    passes_plain relayed scope own rule moment air q
+passes_own (Refused refusal) scope own rule moment air q = passes_same scope own rule moment air q
 
 -- a relay that waits
-passes_wait : (scope : Counting) (r : ContentionRule) (moment : ℕ) (air : List Transmission)
+passes_wait : (scope : Counting) (own : ℕ) (r : ContentionRule) (moment : ℕ) (air : List Transmission)
     (q : Waiting) (relay : Transmission) (tie : ℕ) (d : Option ℕ)
-    → length q.lots ≡ length air
-    → Passes scope (Some r) moment air (air ++ relay ∷ []) q
+    → relay.link_source ≡ own → length q.lots ≡ length air
+    → Passes scope own (Some r) moment air (air ++ relay ∷ []) q
     (record {
       held = q.held ++ newly_held (waiting_as (length air) relay) (moment + wait r tie d) ∷ [];
       lots = q.lots ++ WaitsUntil (moment + wait r tie d) ∷ [];
     })
-passes_wait scope r moment air q relay tie d long =
+passes_wait scope own r moment air q relay tie d mine long =
     let due = moment + wait r tie d in
     let lots = q.lots ++ WaitsUntil due ∷ [] in
     let one = newly_held (waiting_as (length air) relay) due in
@@ -365,50 +371,53 @@ passes_wait scope r moment air q relay tie d long =
         inr (r, d, tie, refl, refl),
       );
       sound = λ s. record {
-        held = All-append (IsHeld scope after) q.held (one ∷ [])
-            (held_stay q.held scope air (relay ∷ []) s.held)
-            (All-cons (IsHeld scope after) one [] (record {
+        held = All-append (IsHeld scope own after) q.held (one ∷ [])
+            (held_stay q.held scope own air (relay ∷ []) s.held)
+            (All-cons (IsHeld scope own after) one [] (record {
+              its_own = mine;
               in_air = get_last air relay;
               copies = tt;
-            }) (All-nil (IsHeld scope after)));
+            }) (All-nil (IsHeld scope own after)));
         lots = known_more scope after q.lots (WaitsUntil due) (λ frames m e. cc)
             (known_stay scope air (relay ∷ []) q.lots s.lots);
       };
     }
 
 -- an acceptance
-pub passes_acceptance : (relayed : Option Transmission) (scope : Counting) (r : ContentionRule)
+pub passes_acceptance : (relayed : Option Transmission) (scope : Counting) (own : ℕ)
+    (r : ContentionRule)
     (s : StationModel) (moment : ℕ) (t : Transmission) (air : List Transmission) (q : Waiting)
+    → ((relay : Transmission) → relayed ≡ Some relay → relay.link_source ≡ own)
     → length q.lots ≡ length air
-    → Passes scope (Some r) moment air (with_one_more air relayed) q
+    → Passes scope own (Some r) moment air (with_one_more air relayed) q
     (after_acceptance (length air) moment q relayed (fate r s moment q.held t relayed))
-passes_acceptance None scope r s moment t air q long = passes_same scope (Some r) moment air q
-passes_acceptance (Some relay) scope r s moment t air q long =
+passes_acceptance None scope own r s moment t air q mine long = passes_same scope own (Some r) moment air q
+passes_acceptance (Some relay) scope own r s moment t air q mine long =
     by (contends_for s t.pdu.body && nat_lt (length q.held) places)
   where
     by : (b : Bool)
-        → Passes scope (Some r) moment air (air ++ relay ∷ []) q
+        → Passes scope own (Some r) moment air (air ++ relay ∷ []) q
         (after_acceptance (length air) moment q (Some relay)
         (cond b (Waits (due_of r s moment t)) Goes))
-    by true = passes_wait scope r moment air q relay (tie_of s t.pdu.body)
-        (sender_distance s moment t.link_source) long
-    by false = passes_plain (Some relay) scope (Some r) moment air q
+    by true = passes_wait scope own r moment air q relay (tie_of s t.pdu.body)
+        (sender_distance s moment t.link_source) (mine relay refl) long
+    by false = passes_plain (Some relay) scope own (Some r) moment air q
 
 -- a copy that is counted
 counted_is : (b c : Bool) (scope : Counting) (own k : ℕ) (t : Transmission)
     (air : List Transmission) (h : HeldFrame WaitingFrame)
     → scope.test own h.frame.packet t ≡ b → is_among t.link_source h.senders ≡ c
-    → slice_get air k ≡ Some t → scope.Was k → IsHeld scope air h
-    → IsHeld scope air (cond (b && not c) (record h {
+    → slice_get air k ≡ Some t → scope.Was k → IsHeld scope own air h
+    → IsHeld scope own air (cond (b && not c) (record h {
       frame = record h.frame { copies = k ∷ h.frame.copies };
       senders = t.link_source ∷ h.senders;
     }) h)
 counted_is true false scope own k t air h tested among at was one =
     record {
+      its_own = one.its_own;
       in_air = one.in_air;
       copies = (
         record {
-          own = own;
           copy = t;
           in_air = at;
           tested = tested;
@@ -424,15 +433,15 @@ counted_is false c scope own k t air h tested among at was one = one
 
 counted_are : (held : List (HeldFrame WaitingFrame)) (scope : Counting) (own k : ℕ)
     (t : Transmission) (air : List Transmission)
-    → slice_get air k ≡ Some t → scope.Was k → All (IsHeld scope air) held
-    → All (IsHeld scope air) (with_copies scope.test own k t held)
+    → slice_get air k ≡ Some t → scope.Was k → All (IsHeld scope own air) held
+    → All (IsHeld scope own air) (with_copies scope.test own k t held)
 counted_are [] scope own k t air at was all = all
 counted_are (h ∷ held) scope own k t air at was all =
-    All-cons (IsHeld scope air) (with_copy (scope.test own h.frame.packet t) t.link_source k h)
+    All-cons (IsHeld scope own air) (with_copy (scope.test own h.frame.packet t) t.link_source k h)
     (with_copies scope.test own k t held)
     (counted_is (scope.test own h.frame.packet t) (is_among t.link_source h.senders) scope own k t
-    air h refl refl at was (All-head (IsHeld scope air) h held all))
-    (counted_are held scope own k t air at was (All-tail (IsHeld scope air) h held all))
+    air h refl refl at was (All-head (IsHeld scope own air) h held all))
+    (counted_are held scope own k t air at was (All-tail (IsHeld scope own air) h held all))
 
 -- one that does not stay has enough senders
 enough_of : (copies n : ℕ) → not (nat_lt n copies) ≡ true → copies ≤ n
@@ -441,8 +450,8 @@ enough_of copies n h = grind (arith, nat_tests)
 -- a duplicate
 pub passes_duplicate : (scope : Counting) (rule : Option ContentionRule) (moment : ℕ)
     (air : List Transmission) (q : Waiting) (copies own k : ℕ) (t : Transmission)
-    → slice_get air k ≡ Some t → scope.Was k → ((n : ℕ) → copies ≤ n → scope.IsEnough n)
-    → Passes scope rule moment air air q
+    → slice_get air k ≡ Some t → scope.Was k → ((n : ℕ) → copies ≤ n → scope.IsEnough own n)
+    → Passes scope own rule moment air air q
     (after_counting copies moment q.lots (with_copies scope.test own k t q.held))
 passes_duplicate scope rule moment air q copies own k t at was enough =
     let all = with_copies scope.test own k t q.held in
@@ -454,11 +463,11 @@ passes_duplicate scope rule moment air q copies own k t at was enough =
       fresh = λ e less. absurd (omega (arith, less));
       sound = λ s. (
           let counted = counted_are q.held scope own k t air at was s.held in
-          let gone = All-filter go (IsHeld scope air) all counted in
+          let gone = All-filter go (IsHeld scope own air) all counted in
           record {
-            held = All-filter (stays copies) (IsHeld scope air) all counted;
+            held = All-filter (stays copies) (IsHeld scope own air) all counted;
             lots = known_after (filter go all) lot scope air q.lots
-                (λ h. IsHeld scope air h × (go h ≡ true))
+                (λ h. IsHeld scope own air h × (go h ≡ true))
                 (λ h one frames m e. cancelled h frames m one.0 one.1 e)
                 (λ i d lt. (gone i d lt, filter_passes go all i d lt)) s.lots;
           });
@@ -468,7 +477,7 @@ passes_duplicate scope rule moment air q copies own k t at was enough =
         → CancelledBy h.frame.copies moment ≡ CancelledBy frames m → h.frame.copies ≡ frames
     same_frames h frames m e = cc
 
-    cancelled : (h : HeldFrame WaitingFrame) (frames : List ℕ) (m : ℕ) → IsHeld scope air h
+    cancelled : (h : HeldFrame WaitingFrame) (frames : List ℕ) (m : ℕ) → IsHeld scope own air h
         → not (stays copies h) ≡ true → CancelledBy h.frame.copies moment ≡ CancelledBy frames m
         → AreCopiesIn scope air h.frame.number frames
     cancelled h frames m one go e =
@@ -476,26 +485,28 @@ passes_duplicate scope rule moment air q copies own k t at was enough =
         (record {
           packet = h.frame.packet;
           in_air = one.in_air;
+          own = own;
+          its_own = one.its_own;
           senders = h.senders;
           copies = one.copies;
-          enough = subst scope.IsEnough
-              (as_many h.senders h.frame.copies scope air h.frame.packet one.copies)
+          enough = subst (λ (n : ℕ). scope.IsEnough own n)
+              (as_many h.senders h.frame.copies scope own air h.frame.packet one.copies)
               (enough (length h.senders) (enough_of copies (length h.senders) go));
         })
 
 -- a release
-without_is : (o : Option ℕ) (held : List (HeldFrame WaitingFrame)) (scope : Counting)
-    (air : List Transmission) → All (IsHeld scope air) held
-    → All (IsHeld scope air) (without held o)
-without_is None held scope air all = all
-without_is (Some i) held scope air all =
-    All-append (IsHeld scope air) (take i held) (drop (suc i) held)
-    (All-take (IsHeld scope air) i held all) (All-drop (IsHeld scope air) (suc i) held all)
+without_is : (o : Option ℕ) (held : List (HeldFrame WaitingFrame)) (scope : Counting) (own : ℕ)
+    (air : List Transmission) → All (IsHeld scope own air) held
+    → All (IsHeld scope own air) (without held o)
+without_is None held scope own air all = all
+without_is (Some i) held scope own air all =
+    All-append (IsHeld scope own air) (take i held) (drop (suc i) held)
+    (All-take (IsHeld scope own air) i held all) (All-drop (IsHeld scope own air) (suc i) held all)
 
-pub passes_release : (scope : Counting) (rule : Option ContentionRule) (now : ℕ)
+pub passes_release : (scope : Counting) (own : ℕ) (rule : Option ContentionRule) (now : ℕ)
     (air : List Transmission) (q : Waiting)
-    → Passes scope rule now air air q (waiting_after_release now q)
-passes_release scope rule now air q =
+    → Passes scope own rule now air air q (waiting_after_release now q)
+passes_release scope own rule now air q =
     let kept = kept_at now q.held in
     let late = late_at now q.held in
     let lot = λ (h : HeldFrame WaitingFrame). DroppedAt now in
@@ -509,10 +520,10 @@ passes_release scope rule now air q =
       even = λ e. even_release (first_due now kept) now lots ∙ even_after late lot q.lots ∙ e;
       fresh = λ e less. absurd (omega (arith, less));
       sound = λ s. record {
-        held = without_is (place_due now kept) kept scope air
-            (All-filter in_time (IsHeld scope air) q.held s.held);
+        held = without_is (place_due now kept) kept scope own air
+            (All-filter in_time (IsHeld scope own air) q.held s.held);
         lots = known_release (first_due now kept) now scope air lots
-            (known_after late lot scope air q.lots (IsHeld scope air) (λ h one frames m e. cc)
-            (All-filter (λ h. not (in_time h)) (IsHeld scope air) q.held s.held) s.lots);
+            (known_after late lot scope air q.lots (IsHeld scope own air) (λ h one frames m e. cc)
+            (All-filter (λ h. not (in_time h)) (IsHeld scope own air) q.held s.held) s.lots);
       };
     }

@@ -2,7 +2,7 @@
 -- what silences a station the next one hears too.
 use Rattle.std.specs.Prelude.{◌≡◌, ◌≢◌, ◌⊎◌, ℕ, ◌+◌, ◌≤◌, List, [], ◌∷◌, ◌++◌, Bool, true, Option}
 use Rattle.std.specs.Prelude.{Some, length, slice_get}
-use Rattle.its_gnvalue.specs.Values.{broadcast}
+use Rattle.its_gnvalue.specs.Values.{mid_of, broadcast}
 use Rattle.its_model.specs.Packet.{Transmission}
 use Rattle.its_model.specs.Stations.{AreDistinct}
 use Rattle.its_model.specs.World.{LogLine, WorldModel, Config, frame_of}
@@ -54,31 +54,33 @@ pub record IsGivenFrom (w : WorldModel) (i k : ℕ) : Type 0 where
 
 -- ---- what cancels a frame
 
--- At any time of a run a frame that is named as a copy of this one is in the world, and is this one,
--- sent to all by another station; its link sender is this one.
+-- Frame m is the frame that waited, sent to all by another station than the one at which it waited,
+-- which has this link address. Its link sender is this one.
 pub record IsCopyFrom (air : List Transmission) (held : Transmission)
-    (m sender : ℕ) : Type 0 where
+    (own m sender : ℕ) : Type 0 where
   pub heard : Transmission
-  pub own : ℕ
   pub in_air : slice_get air m ≡ Some heard
   pub again : IsSentAgain own held heard
   pub from_sender : heard.link_source ≡ sender
 
--- Copies cancelled frame k: as many as the rule of some station says or more, each from another link
--- sender.
-pub record IsCancelledBy (cw : ContendedWorld) (air : List Transmission) (k : ℕ)
-    (frames : List ℕ) : Type 0 where
+-- Copies cancelled frame k: as many as the rule of the station says at which it waited, or more, each
+-- from another link sender. That station is the frame's own link sender.
+pub record IsCancelledBy (configs : List Config) (cw : ContendedWorld) (air : List Transmission)
+    (k : ℕ) (frames : List ℕ) : Type 0 where
   pub held : Transmission
   pub in_air : slice_get air k ≡ Some held
   pub senders : List ℕ
   pub distinct : AreDistinct senders
   pub as_many : length senders ≡ length frames
   pub station : ℕ
+  pub config : Config
+  pub configured : slice_get configs station ≡ Some config
+  pub its_own : held.link_source ≡ mid_of config.address
   pub rule : ContentionRule
   pub has_rule : rule_at cw station ≡ Some rule
   pub enough : rule.copies ≤ length frames
   pub each : (n m sender : ℕ) → slice_get frames n ≡ Some m → slice_get senders n ≡ Some sender
-      → IsCopyFrom air held m sender
+      → IsCopyFrom air held (mid_of config.address) m sender
 
 -- a frame went out at some time
 pub record WentOut (test : CopyTest) (cw : ContendedWorld) (happenings : List Happening)
@@ -92,7 +94,7 @@ pub record CancelledByTheSameFrame (test : CopyTest) (configs : List Config)
   pub copies : let cw = opening_with configs rules in
       let air = (contended_run test cw happenings).world.air in
       TestsCopies test air → (k moment : ℕ) (frames : List ℕ)
-      → HadLot test cw happenings k (CancelledBy frames moment) → IsCancelledBy cw air k frames
+      → HadLot test cw happenings k (CancelledBy frames moment) → IsCancelledBy configs cw air k frames
   pub went_out : let cw = opening_with configs rules in
       IsCarried test cw happenings → (k moment : ℕ) (frames : List ℕ) (n m : ℕ)
       → HadLot test cw happenings k (CancelledBy frames moment) → slice_get frames n ≡ Some m
