@@ -1,28 +1,27 @@
 -- What cancels a frame, and that somebody sends it.
-use Rattle.std.proofs.Common.{◌≡◌, ℕ, zero, suc, ◌+◌, ◌≤◌, ◌<◌, List, [], ◌∷◌, ◌++◌, length, Option}
-use Rattle.std.proofs.Common.{Some, None, refl, sym, ap, subst, ◌∙◌, arith, append_assoc, false}
+use Rattle.std.proofs.Common.{◌≡◌, ℕ, ◌≤◌, List, [], ◌∷◌, ◌++◌, Option}
+use Rattle.std.proofs.Common.{Some, refl, ap, subst, ◌∙◌, arith, append_assoc}
 use Rattle.std.specs.Prelude.{slice_get}
 use Rattle.its_model.specs.Packet.{Transmission}
-use Rattle.its_model.specs.History.{is_among}
 use Rattle.its_model.specs.Stations.{AreDistinct}
-use Rattle.its_model.specs.World.{Config, Event, What}
-use Rattle.its_model.specs.World.What.{Calls, Deliver}
+use Rattle.its_model.specs.World.{Config, What}
+use Rattle.its_model.specs.World.What.{Deliver}
 use Rattle.its_model.specs.Contention.{ContentionRule}
 use Rattle.its_model.specs.Contended.{Lot, ContendedWorld, CopyTest, Happening, opening_with, rule_at}
 use Rattle.its_model.specs.Contended.{contended_step, contended_run, IsCarriedBy, IsCarriedAt}
-use Rattle.its_model.specs.Contended.{IsCarried, IsServed}
+use Rattle.its_model.specs.Contended.{IsCarried}
 use Rattle.its_model.specs.Contended.Lot.{SentAt, WaitsUntil, CancelledBy, DroppedAt}
 use Rattle.its_model.specs.Contended.Happening.{Happens, Releases}
-use Rattle.its_model.specs.Overheard.{IsSentAgain, TestsCopies, IsCopyFrom, IsCancelledBy, HadLot, WentOut}
+use Rattle.its_model.specs.Overheard.{IsSentAgain, TestsCopies, IsCancelledBy, HadLot, WentOut}
 use Rattle.its_model.specs.Overheard.{CancelledByTheSameFrame, IsSentBySomebody, SomebodySends}
 use Rattle.its_gnvalue.specs.Values.{mid_of}
 use Rattle.its_model.proofs.Lists.{get_at, get_within}
 use Rattle.its_model.proofs.SoundRuns.{opening_sound}
-use Rattle.its_model.proofs.ContendedLots.{IsLeftAt, Counting, IsCounted, AreCounted, AreCopiesIn}
+use Rattle.its_model.proofs.ContendedLots.{IsLeftAt, Counting, AreCounted, AreCopiesIn}
 use Rattle.its_model.proofs.ContendedLots.{as_many}
-use Rattle.its_model.proofs.ContendedSteps.{IsAllowed, AreAllowed, RulesAreEnough, RunSound}
+use Rattle.its_model.proofs.ContendedSteps.{IsAllowed, AreAllowed, RulesAreEnough}
 use Rattle.its_model.proofs.ContendedSteps.{contended_sound, opening_is_known}
-use Rattle.its_model.proofs.ContendedLinks.{air_stays, copy_at, some_copy, LeftAs, left_as, lots_sound}
+use Rattle.its_model.proofs.ContendedLinks.{air_stays, copy_at, some_copy, left_as, lots_sound}
 
 -- ---- what is counted
 

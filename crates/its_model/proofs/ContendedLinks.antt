@@ -1,21 +1,21 @@
 -- Over links that may be silenced a geobroadcast reaches.
-use Rattle.std.proofs.Common.{◌≡◌, ◌≢◌, ◌⊎◌, ℕ, zero, suc, ◌+◌, ◌≤◌, ◌<◌, List, [], ◌∷◌, ◌++◌, length}
-use Rattle.std.proofs.Common.{Bool, true, false, cond, not, eqb, ◌||◌, Option, Some, None, refl, sym}
+use Rattle.std.proofs.Common.{◌≡◌, ◌⊎◌, ℕ, zero, suc, ◌+◌, ◌≤◌, ◌<◌, List, [], ◌∷◌, ◌++◌, length}
+use Rattle.std.proofs.Common.{Bool, true, false, cond, not, eqb, Option, Some, None, refl, sym}
 use Rattle.std.proofs.Common.{ap, subst, ◌∙◌, inl, inr, arith, append_assoc, length-append}
 use Rattle.std.specs.Prelude.{slice_get}
 use Rattle.its_gnvalue.specs.Values.{mid_of, broadcast}
-use Rattle.its_model.specs.Packet.{Transmission, Message, Body, number_in, area_body}
+use Rattle.its_model.specs.Packet.{Transmission, Message, number_in}
 use Rattle.its_model.specs.Packet.AreaKind.{geobroadcast}
 use Rattle.its_model.specs.Calls.{Refusal, Answer}
 use Rattle.its_model.specs.Calls.Refusal.{TableFull}
 use Rattle.its_model.specs.Calls.Why.{Duplicate, NotForMe, OwnSource, SenderMismatch}
-use Rattle.its_model.specs.Calls.Answer.{Accepted, Refused}
+use Rattle.its_model.specs.Calls.Answer.{Accepted}
 use Rattle.its_model.specs.Station.{StationModel, Verdict, verdict, or_else, is_for, is_sender_wrong}
 use Rattle.its_model.specs.Station.{is_repeated, moment_refusal, receive_step, receive_step_by}
 use Rattle.its_model.specs.Station.Verdict.{Refuse, Ignore, Accept}
 use Rattle.its_model.specs.Stations.{stations_at, is_full}
 use Rattle.its_model.specs.World.{Config, Event, LogLine, What, WorldModel, at_station, asked}
-use Rattle.its_model.specs.World.{delivery, entry_of, frame_of, opening, world_run, world_step}
+use Rattle.its_model.specs.World.{delivery, entry_of, frame_of, world_run, world_step}
 use Rattle.its_model.specs.World.What.{Calls, Deliver}
 use Rattle.its_model.specs.Log.{origins, sequence_number_at}
 use Rattle.its_model.specs.Contention.{ContentionRule, wait}
@@ -25,7 +25,7 @@ use Rattle.its_model.specs.Contended.{IsInTime, LeavesInTime}
 use Rattle.its_model.specs.Contended.Lot.{SentAt, WaitsUntil, CancelledBy, DroppedAt}
 use Rattle.its_model.specs.Contended.Happening.{Happens, Releases}
 use Rattle.its_model.specs.Reach.{Geobroadcast, IsFrameOf, HasOwnAddress, HasOwnNumber, FirstAccepts}
-use Rattle.its_model.specs.Reach.{ComesBy, GivesTo, IsFor, CameTo, AreReached}
+use Rattle.its_model.specs.Reach.{ComesBy, IsFor, CameTo}
 use Rattle.its_model.specs.Reach.ComesBy.{by_sending, by_accepting}
 use Rattle.its_model.specs.SomeFrame.{SomeFrameComes, IsLedAlong, ReachesWhereSomeFrameComes}
 use Rattle.its_model.specs.Overheard.{IsSentAgain, TestsCopies, HadLot}
@@ -46,9 +46,9 @@ use Rattle.its_model.proofs.Ways.{of_run}
 use Rattle.its_model.proofs.SomeFrames.{reaches_where_some_frame_comes}
 use Rattle.its_model.proofs.ContendedRuns.{contention_is_a_schedule}
 use Rattle.its_model.proofs.ContenderPuts.{wait_greatest}
-use Rattle.its_model.proofs.ContendedLots.{IsLeftAt, Evolved, IsFirstLot, Counting, IsCounted}
+use Rattle.its_model.proofs.ContendedLots.{IsLeftAt, IsFirstLot, Counting, IsCounted}
 use Rattle.its_model.proofs.ContendedLots.{AreCounted, as_many}
-use Rattle.its_model.proofs.ContendedSteps.{RunSound, happening_steps, time_of, place_of_it}
+use Rattle.its_model.proofs.ContendedSteps.{RunSound, happening_steps, time_of}
 use Rattle.its_model.proofs.ContendedSteps.{contended_sound, opening_is_known, run_on, rules_stay}
 use Rattle.its_model.proofs.ContendedSteps.{any_counting, any_allowed, any_enough}
 

@@ -1,29 +1,27 @@
 -- What a happening does to the lots of the frames, and what is known of a lot.
-use Rattle.std.proofs.Common.{◌≡◌, ◌⊎◌, ℕ, zero, suc, ◌+◌, ◌≤◌, ◌<◌, List, [], ◌∷◌, ◌++◌, length, map}
+use Rattle.std.proofs.Common.{◌≡◌, ◌⊎◌, ℕ, zero, suc, ◌+◌, ◌≤◌, ◌<◌, List, [], ◌∷◌, ◌++◌, length}
 use Rattle.std.proofs.Common.{filter, set, take, drop, Bool, true, false, cond, not, ◌&&◌, Option}
 use Rattle.std.proofs.Common.{Some, None, refl, sym, ap, subst, ◌∙◌, inl, inr, arith, All}
 use Rattle.std.specs.Prelude.{slice_get, nat_le, nat_lt}
 use Rattle.std.proofs.lemmas.List.Elements.{All-nil, All-cons, All-head, All-tail, All-append}
 use Rattle.std.proofs.lemmas.List.Elements.{All-filter, All-take, All-drop, filter_passes}
 use Rattle.std.proofs.lemmas.Bool.Decides.{nat_tests}
-use Rattle.its_gnvalue.specs.Values.{mid_of}
-use Rattle.its_model.specs.Packet.{Transmission, Message}
+use Rattle.its_model.specs.Packet.{Transmission}
 use Rattle.its_model.specs.History.{is_among}
-use Rattle.its_model.specs.Calls.{Why, Answer}
-use Rattle.its_model.specs.Calls.Why.{NotForMe, OwnSource, SenderMismatch, Duplicate}
+use Rattle.its_model.specs.Calls.{Answer}
 use Rattle.its_model.specs.Calls.Answer.{Moved, Opened, Closed, Restarted, Quiet, Sent, Ignored}
 use Rattle.its_model.specs.Calls.Answer.{Accepted, Refused}
 use Rattle.its_model.specs.Station.{StationModel}
 use Rattle.its_model.specs.World.{with_one_more, frame_of}
 use Rattle.its_model.specs.Contention.{ContentionRule, HeldFrame, newly_held, stays, places}
 use Rattle.its_model.specs.Contention.{wait, tie_of, sender_distance}
-use Rattle.its_model.specs.Contention.{contends_for, due_of, Fate, fate, after_fate, after_own}
-use Rattle.its_model.specs.Contention.{late_after, kept_at, place_due, frame_at, without, first_due}
-use Rattle.its_model.specs.Contention.Fate.{Stays, Goes, Waits}
+use Rattle.its_model.specs.Contention.{contends_for, due_of, fate}
+use Rattle.its_model.specs.Contention.{late_after, kept_at, place_due, without, first_due}
+use Rattle.its_model.specs.Contention.Fate.{Goes, Waits}
 use Rattle.its_model.specs.Contended.{WaitingFrame, Lot, CopyTest, Waiting, lots_after, lot_at}
-use Rattle.its_model.specs.Contended.{lot_by, waiting_as, after_acceptance, with_copy, with_copies}
-use Rattle.its_model.specs.Contended.{after_counting, after_plain, after_own_call, late_at}
-use Rattle.its_model.specs.Contended.{lots_after_own, lots_after_release, waiting_after_release}
+use Rattle.its_model.specs.Contended.{waiting_as, after_acceptance, with_copy, with_copies}
+use Rattle.its_model.specs.Contended.{after_counting, after_own_call, late_at}
+use Rattle.its_model.specs.Contended.{lots_after_release, waiting_after_release}
 use Rattle.its_model.specs.Contended.Lot.{SentAt, WaitsUntil, CancelledBy, DroppedAt}
 use Rattle.its_model.proofs.Lists.{get_front, get_last, get_snoc, length_set, length_more, get_set}
 

@@ -1,7 +1,7 @@
 -- What a happening does to a world whose stations contend, and what holds at each time of a run.
-use Rattle.std.proofs.Common.{◌≡◌, ◌≢◌, ◌⊎◌, ℕ, zero, suc, ◌+◌, ◌≤◌, ◌<◌, List, [], ◌∷◌, ◌++◌, length}
-use Rattle.std.proofs.Common.{map, set, Option, Some, None, refl, sym, ap, subst, ◌∙◌, inl, inr, arith}
-use Rattle.std.proofs.Common.{All, append-nil, append_assoc}
+use Rattle.std.proofs.Common.{◌≡◌, ◌⊎◌, ℕ, zero, suc, ◌≤◌, List, [], ◌∷◌, ◌++◌, length}
+use Rattle.std.proofs.Common.{map, set, Option, Some, None, refl, sym, ap, subst, ◌∙◌, inl, inr}
+use Rattle.std.proofs.Common.{All, append-nil}
 use Rattle.std.specs.Prelude.{slice_get}
 use Rattle.std.proofs.lemmas.List.Elements.{All-nil}
 use Rattle.its_gnvalue.specs.Values.{mid_of}
@@ -13,7 +13,7 @@ use Rattle.its_model.specs.Station.{StationModel, Verdict, verdict, after_hearin
 use Rattle.its_model.specs.Station.{relayed, receive_step, receive_step_by, station_step}
 use Rattle.its_model.specs.Station.Verdict.{Refuse, Ignore, Accept}
 use Rattle.its_model.specs.World.{Config, Event, What, WorldModel, at_station, asked, delivery}
-use Rattle.its_model.specs.World.{frame_of, with_one_more, world_step}
+use Rattle.its_model.specs.World.{frame_of, with_one_more}
 use Rattle.its_model.specs.World.What.{Calls, Deliver}
 use Rattle.its_model.specs.Contention.{ContentionRule, HeldFrame}
 use Rattle.its_model.specs.Contended.{WaitingFrame, Lot, ContendedWorld, CopyTest, Happening, Waiting}
@@ -30,7 +30,7 @@ use Rattle.its_model.proofs.SoundRuns.{step_keeps}
 use Rattle.its_model.proofs.Longer.{at_station_grows}
 use Rattle.its_model.proofs.ContendedRuns.{contention_is_a_schedule}
 use Rattle.its_model.proofs.ContendedLots.{Counting}
-use Rattle.its_model.proofs.ContendedLots.{IsHeld, AreKnown, IsSound, Passes, held_stay, passes_same}
+use Rattle.its_model.proofs.ContendedLots.{IsHeld, AreKnown, Passes, held_stay, passes_same}
 use Rattle.its_model.proofs.ContendedLots.{passes_plain, passes_own, passes_acceptance}
 use Rattle.its_model.proofs.ContendedLots.{passes_duplicate, passes_release}
 

@@ -1,11 +1,10 @@
 -- What is not true of contention: small worlds, evaluated.
-use Rattle.std.proofs.Common.{◌≡◌, ℕ, List, [], ◌∷◌, Option, Some, None, Bool, true, not, ◌&&◌, map}
+use Rattle.std.proofs.Common.{◌≡◌, ℕ, List, [], ◌∷◌, Option, Some, true, not, ◌&&◌}
 use Rattle.std.proofs.Common.{eqb, refl}
-use Rattle.std.specs.Prelude.{ℤ, pos, negsuc}
-use Rattle.its_gnvalue.specs.Values.{Position, broadcast}
+use Rattle.std.specs.Prelude.{pos, negsuc}
+use Rattle.its_gnvalue.specs.Values.{broadcast}
 use Rattle.its_geometry.specs.Area.{area_holds}
 use Rattle.its_geometry.specs.Offsets.{squared_distance}
-use Rattle.its_model.specs.Packet.{Transmission}
 use Rattle.its_model.specs.History.{known}
 use Rattle.its_model.specs.Stations.{stations_at}
 use Rattle.its_model.specs.Decision.{decision}

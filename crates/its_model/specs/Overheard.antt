@@ -1,6 +1,6 @@
 -- Where a geobroadcast reaches although stations contend: what a station sends the next one hears, and
 -- what silences a station the next one hears too.
-use Rattle.std.specs.Prelude.{◌≡◌, ◌≢◌, ◌⊎◌, ℕ, ◌+◌, ◌≤◌, List, [], ◌∷◌, ◌++◌, Bool, true, Option}
+use Rattle.std.specs.Prelude.{◌≡◌, ◌≢◌, ℕ, ◌+◌, ◌≤◌, List, [], ◌∷◌, ◌++◌, true, Option}
 use Rattle.std.specs.Prelude.{Some, length, slice_get}
 use Rattle.its_gnvalue.specs.Values.{mid_of, broadcast}
 use Rattle.its_model.specs.Packet.{Transmission}
