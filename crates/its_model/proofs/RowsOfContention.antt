@@ -1,6 +1,6 @@
 -- What is not true of contention: small worlds, evaluated.
 use Rattle.std.proofs.Common.{◌≡◌, ℕ, List, [], ◌∷◌, Option, Some, true, not, ◌&&◌}
-use Rattle.std.proofs.Common.{eqb, refl}
+use Rattle.std.proofs.Common.{eqb, false, refl}
 use Rattle.std.specs.Prelude.{pos, negsuc}
 use Rattle.its_gnvalue.specs.Values.{broadcast}
 use Rattle.its_geometry.specs.Area.{area_holds}
@@ -140,3 +140,12 @@ restart_drops : (Become same_frame 2 rivals (
 unfolding own_step receive_step verdict known stations_at decision area_holds squared_distance
     shorter wait
 restart_drops = (refl, refl)
+
+-- Outside the area it goes at once. (The sender's position is not accurate, so it is not dropped.)
+outside_goes_at_once : Become same_frame 2
+    (station 1 here 64 ∷ station 2 (place (pos 134748) (pos 0)) 64 ∷ []) (
+    at 0 0 (move here false) ∷ at 0 1000 warning ∷ at 1 1001 (Deliver 0) ∷ [])
+    (SentAt 1000 ∷ SentAt 1001 ∷ [])
+unfolding own_step receive_step verdict known stations_at decision area_holds squared_distance
+    shorter wait
+outside_goes_at_once = refl
