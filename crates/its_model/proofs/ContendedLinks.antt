@@ -1,5 +1,5 @@
 -- Over links that may be silenced a geobroadcast reaches.
-use Rattle.std.proofs.Common.{◌≡◌, ◌⊎◌, ℕ, zero, suc, ◌+◌, ◌≤◌, ◌<◌, List, [], ◌∷◌, ◌++◌, length}
+use Rattle.std.proofs.Common.{◌≡◌, ◌≢◌, ◌⊎◌, ℕ, zero, suc, ◌+◌, ◌≤◌, ◌<◌, List, [], ◌∷◌, ◌++◌, length}
 use Rattle.std.proofs.Common.{Bool, true, false, cond, not, eqb, Option, Some, None, refl, sym}
 use Rattle.std.proofs.Common.{ap, subst, ◌∙◌, inl, inr, arith, append_assoc, length-append}
 use Rattle.std.specs.Prelude.{slice_get}
@@ -17,7 +17,7 @@ use Rattle.its_model.specs.Stations.{stations_at, is_full}
 use Rattle.its_model.specs.World.{Config, Event, LogLine, What, WorldModel, at_station, asked}
 use Rattle.its_model.specs.World.{delivery, entry_of, frame_of, world_run, world_step}
 use Rattle.its_model.specs.World.What.{Calls, Deliver}
-use Rattle.its_model.specs.Log.{origins, sequence_number_at}
+use Rattle.its_model.specs.Log.{origin_by, origins, sequence_number_at}
 use Rattle.its_model.specs.Contention.{ContentionRule, wait}
 use Rattle.its_model.specs.Contended.{Lot, ContendedWorld, CopyTest, Happening, opening_with, rule_in}
 use Rattle.its_model.specs.Contended.{rule_at, contended_step, contended_run, erased, lot_after}
@@ -31,16 +31,18 @@ use Rattle.its_model.specs.SomeFrame.{SomeFrameComes, IsLedAlong, ReachesWhereSo
 use Rattle.its_model.specs.Overheard.{IsSentAgain, TestsCopies, HadLot}
 use Rattle.its_model.specs.Overheard.{IsGivenFrom, IsToldAnyway, IsOverheard, AreOverheard}
 use Rattle.its_model.specs.Overheard.{ReachesByContention}
-use Rattle.its_model.specs.Overheard.IsToldAnyway.{by_copy, by_then}
+use Rattle.its_model.specs.Overheard.IsToldAnyway.{by_copy, by_own, by_then}
 use Rattle.its_model.proofs.Lists.{get_front, get_at, get_within}
 use Rattle.its_model.proofs.NumberTests.{eq_test}
 use Rattle.its_model.proofs.Sound.{Sound, EachNamed}
 use Rattle.its_model.proofs.SoundRuns.{opening_sound, run_sound, step_keeps}
-use Rattle.its_model.proofs.Longer.{at_station_grows, run_grows, same_end}
-use Rattle.its_model.proofs.Givers.{number_is, length_at}
-use Rattle.its_model.proofs.Theorems.{area_number}
+use Rattle.its_model.proofs.Longer.{origins_stay, at_station_grows, run_grows, same_end}
+use Rattle.its_model.specs.Schedules.{Accepts}
+use Rattle.its_model.proofs.ManyHops.{deeper_is, giving_accepts}
+use Rattle.its_model.proofs.Givers.{origin_is, number_is, length_at}
+use Rattle.its_model.proofs.Theorems.{area_number, fact_at}
 use Rattle.its_model.proofs.Made.{first_same, rest_same, received}
-use Rattle.its_model.proofs.Reaching.{Run, first_frame, first_origin, frame_at_place, of_it, same_send}
+use Rattle.its_model.proofs.Reaching.{Run, its_origin, first_frame, first_origin, frame_at_place, of_it, same_send}
 use Rattle.its_model.proofs.Onward.{gave_inside, given_on, received_is}
 use Rattle.its_model.proofs.Ways.{of_run}
 use Rattle.its_model.proofs.SomeFrames.{reaches_where_some_frame_comes}
@@ -344,30 +346,99 @@ to_which s t h =
       ]
     ]
 
--- what a station accepted first is for it
-first_for : (configs : List Config) (w : WorldModel) (g : Geobroadcast w) (j : ℕ)
-    (line : LogLine) (before : List LogLine) (receiver : Config)
-    (f : FirstAccepts w g j line before)
-    → Run configs w → slice_get configs j ≡ Some receiver → IsFor receiver f.packet
-first_for configs w g j line before receiver f run configured =
-    let m = run.made f.later before line f.split in
-    let r = received m.world line f.frame m.step f.accepts.delivery
-    (λ x e. cc (f.accepts.entry, e)) in
-    let same : r.packet ≡ f.packet =
-    received_is configs w line before m f.frame f.packet r f.accepts.packet in
+-- what a station accepted is for it
+accepts_for : (configs : List Config) (w : WorldModel) (j k : ℕ) (t : Transmission)
+    (later before : List LogLine) (line : LogLine) (receiver : Config)
+    → Run configs w → w.log ≡ later ++ line ∷ before → Accepts w line j k t
+    → slice_get configs j ≡ Some receiver → IsFor receiver t
+accepts_for configs w j k t later before line receiver run split a configured =
+    let m = run.made later before line split in
+    let r = received m.world line k m.step a.delivery (λ x e. cc (a.entry, e)) in
+    let same : r.packet ≡ t = received_is configs w line before m k t r a.packet in
     let st = m.sound.each line.event.station r.station r.is_station in
     let is_receiver : slice_get configs j ≡ Some st.config =
-    ap (slice_get configs) (sym f.accepts.station) ∙ st.is_config in
+    ap (slice_get configs) (sym a.station) ∙ st.is_config in
     let config : st.config ≡ receiver = cc (is_receiver, configured) in
     let address : r.station.address ≡ receiver.address =
     st.address ∙ ap (λ (c : Config). c.address) config in
     let mine = to_which r.station r.packet
-    (received_for (length m.world.air) r.station line.event.moment r.packet line.entry
-    f.accepts.handed f.accepts.relayed f.accepts.entry r.entry) in
+    (received_for (length m.world.air) r.station line.event.moment r.packet line.entry a.handed
+    a.relayed a.entry r.entry) in
     subst (λ (x : Transmission).
     (x.link_target ≡ broadcast) ⊎ (x.link_target ≡ mid_of receiver.address)) same
     (subst (λ (n : ℕ).
     (r.packet.link_target ≡ broadcast) ⊎ (r.packet.link_target ≡ mid_of n)) address mine)
+
+-- what a station accepted came to it
+by_acceptance : (configs : List Config) (w : WorldModel) (g : Geobroadcast w) (j k latest : ℕ)
+    (t : Transmission) (later before : List LogLine) (line : LogLine) (receiver : Config)
+    → Run configs w → w.log ≡ later ++ line ∷ before → Accepts w line j k t → IsFrameOf w g k
+    → slice_get configs j ≡ Some receiver → line.event.moment ≤ latest
+    → SomeFrameComes w g receiver j latest
+by_acceptance configs w g j k latest t later before line receiver run split a of_send configured
+    in_time =
+    record {
+      frame = k;
+      packet = t;
+      of_send = of_send;
+      in_air = a.packet;
+      is_for = accepts_for configs w j k t later before line receiver run split a configured;
+      comes = record {
+        later = later;
+        line = line;
+        before = before;
+        split = split;
+        station = a.station;
+        delivers = record { delivery = a.delivery; not_refused = λ r e. cc (a.entry, e) };
+        in_time = in_time;
+      };
+    }
+
+-- what a station gave of it, which is not its sender, it accepted
+gave_by : (what : What) (configs : List Config) (w : WorldModel) (g : Geobroadcast w)
+    (j k latest : ℕ) (receiver : Config) (given : IsGivenFrom w j k)
+    → Run configs w → j ≢ g.line.event.station → IsFrameOf w g k
+    → slice_get configs j ≡ Some receiver → given.line.event.moment ≤ latest
+    → given.line.event.what ≡ what → SomeFrameComes w g receiver j latest
+gave_by (Calls call) configs w g j k latest receiver given run other of_send configured in_time
+    what =
+    let o = of_send.origin in
+    let is = origin_is w.log given.later given.before given.line k run.sound.names given.split
+    given.gives in
+    let made : Some (record { event = given.line.event; before = given.before; depth = 0 })
+    ≡ Some o =
+    sym (is ∙ ap (λ x. origin_by x given.line.event given.before (origins given.before)) what)
+    ∙ of_send.is in
+    let event : given.line.event ≡ o.event = cc in
+    absurd (other (sym given.station
+    ∙ ap (λ (e : Event). e.station) (event ∙ (its_origin w g k o of_send.is of_send.at_place).0)))
+gave_by (Deliver m) configs w g j k latest receiver given run other of_send configured in_time
+    what =
+    let o = of_send.origin in
+    let is = origin_is w.log given.later given.before given.line k run.sound.names given.split
+    given.gives in
+    let p = deeper_is (slice_get (origins given.before) m) o
+    (sym (is ∙ ap (λ x. origin_by x given.line.event given.before (origins given.before)) what)
+    ∙ of_send.is) in
+    let a = giving_accepts given.line.entry configs w.air given.line.event given.line.delivered
+    given.before k m (fact_at configs w given.later given.before given.line run.sound given.split)
+    what given.gives in
+    let there : slice_get (origins w.log) m ≡ Some p.0 =
+    subst (λ (xs : List LogLine). slice_get (origins xs) m ≡ Some p.0)
+    (append_assoc given.later (given.line ∷ []) given.before ∙ sym given.split)
+    (origins_stay (given.later ++ given.line ∷ []) given.before m p.0 p.1) in
+    let packet = get_at w.air m
+    (omega (arith, run.sound.frames.even, get_within (origins w.log) m p.0 there)) in
+    by_acceptance configs w g j m latest packet.0 given.later given.before given.line receiver run
+    given.split
+    (record {
+      handed = a.0;
+      relayed = a.1;
+      station = given.station;
+      delivery = what;
+      packet = packet.1;
+      entry = a.2;
+    }) (frame_at_place w g m p.0 there (p.2 ∙ of_send.at_place)) configured in_time
 
 -- ---- a link
 
@@ -446,11 +517,12 @@ by_lot (CancelledBy frames m) test configs rules happenings g greatest late dela
     cw : ContendedWorld
     cw = opening_with configs rules
 
-    told : IsToldAnyway (contended_run test (opening_with configs rules) happenings).world g j
-        (m + delay) frames
-        → SomeFrameComes (contended_run test (opening_with configs rules) happenings).world g
-        o.receiver j latest
-    told (by_copy n c is came) =
+    -- each copy is a frame of it, to all
+    copied : (n c : ℕ) → slice_get frames n ≡ Some c
+        → let w = (contended_run test (opening_with configs rules) happenings).world in
+        IsFrameOf w g c × (u : Transmission) × (slice_get w.air c ≡ Some u)
+        × (u.link_target ≡ broadcast)
+    copied n c is =
         let w = (contended_run test (opening_with configs rules) happenings).world in
         let known = (lots_sound test configs rules had.early).lots k frames m had.was in
         let some = some_copy known.senders frames n c (any_counting test) known.own
@@ -463,32 +535,30 @@ by_lot (CancelledBy frames m) test configs rules happenings g greatest late dela
         let at_c : slice_get w.air c ≡ Some copy.copy =
         air_stays test (opening_with configs rules) happenings had.early had.later c copy.copy
         had.split copy.in_air in
-        let again = tests known.own k c known.packet copy.copy at_k at_c copy.tested in
-        by_sent w g o.receiver j c (m + delay) latest copy.copy (omega (arith, left, le))
-        (copy_is_of_it configs w g k c known.own known.packet copy.copy run.sound own_address own_number
-        of_send at_k at_c again) at_c
-        (inl again.to_all, came)
+        let again = tests known.own k c known.packet copy.copy at_k at_c copy.tested in (
+          copy_is_of_it configs w g k c known.own known.packet copy.copy run.sound own_address
+              own_number of_send at_k at_c again,
+          copy.copy,
+          at_c,
+          again.to_all,
+        )
+
+    told : IsToldAnyway (contended_run test (opening_with configs rules) happenings).world g j
+        (m + delay) frames
+        → SomeFrameComes (contended_run test (opening_with configs rules) happenings).world g
+        o.receiver j latest
+    told (by_copy n c is came) =
+        let copy = copied n c is in
+        by_sent (contended_run test (opening_with configs rules) happenings).world g o.receiver j c
+        (m + delay) latest copy.1 (omega (arith, left, le)) copy.0 copy.2 (inl copy.3, came)
+    told (by_own n c is given in_time) =
+        let w = (contended_run test (opening_with configs rules) happenings).world in
+        gave_by given.line.event.what configs w g j c latest o.receiver given run o.other
+        (copied n c is).0 o.configured (omega (arith, left, le, in_time)) refl
     told (by_then line before f in_time) =
         let w = (contended_run test (opening_with configs rules) happenings).world in
-        record {
-          frame = f.frame;
-          packet = f.packet;
-          of_send = f.of_send;
-          in_air = f.accepts.packet;
-          is_for = first_for configs w g j line before o.receiver f run o.configured;
-          comes = record {
-            later = f.later;
-            line = line;
-            before = before;
-            split = f.split;
-            station = f.accepts.station;
-            delivers = record {
-              delivery = f.accepts.delivery;
-              not_refused = λ r e. cc (f.accepts.entry, e);
-            };
-            in_time = omega (arith, left, le, in_time);
-          };
-        }
+        by_acceptance configs w g j f.frame latest f.packet f.later before line o.receiver run f.split
+        f.accepts f.of_send o.configured (omega (arith, left, le, in_time))
 
 -- how late a happening is that was in time
 time_in_time : (h : Happening) (due late : ℕ) (later : List Happening) → IsInTime due late h later

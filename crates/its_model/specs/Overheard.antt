@@ -134,11 +134,13 @@ SomebodySends test configs rules happenings =
 -- ---- a link
 
 -- Station j came by the packet although the frame of another was cancelled: one of the copies came to
--- it by then, or it had accepted the packet by then.
+-- it by then, it gave one of them by then itself, or it had accepted the packet by then.
 pub data IsToldAnyway (w : WorldModel) (g : Geobroadcast w) (j latest : ℕ)
     (frames : List ℕ) : Type 0 where
   by_copy : (n k : ℕ) → slice_get frames n ≡ Some k → CameTo w j k latest
       → IsToldAnyway w g j latest frames
+  by_own : (n k : ℕ) → slice_get frames n ≡ Some k → (given : IsGivenFrom w j k)
+      → given.line.event.moment ≤ latest → IsToldAnyway w g j latest frames
   by_then : (line : LogLine) (before : List LogLine) → FirstAccepts w g j line before
       → line.event.moment ≤ latest → IsToldAnyway w g j latest frames
 
