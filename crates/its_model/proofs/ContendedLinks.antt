@@ -24,7 +24,7 @@ use Rattle.its_model.specs.Contended.{rule_at, contended_step, contended_run, er
 use Rattle.its_model.specs.Contended.{IsInTime, LeavesInTime}
 use Rattle.its_model.specs.Contended.Lot.{SentAt, WaitsUntil, CancelledBy, DroppedAt}
 use Rattle.its_model.specs.Contended.Happening.{Happens, Releases}
-use Rattle.its_model.specs.Reach.{Geobroadcast, IsFrameOf, HasOwnAddress, HasOwnNumber, FirstAccepts}
+use Rattle.its_model.specs.Reach.{Geobroadcast, IsFrameOf, HasOwnAddress, HasOwnNumber}
 use Rattle.its_model.specs.Reach.{ComesBy, IsFor, CameTo}
 use Rattle.its_model.specs.Reach.ComesBy.{by_sending, by_accepting}
 use Rattle.its_model.specs.SomeFrame.{SomeFrameComes, IsLedAlong, ReachesWhereSomeFrameComes}

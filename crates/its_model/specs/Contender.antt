@@ -1,5 +1,6 @@
 -- A station that contends, by itself: what each call or release makes of it, and what becomes of each
--- relay that it answered.
+-- relay that it answered. The laws are proved in `proofs/Contender*.antt`. No code cites them yet: a
+-- unit will, whose buffer holds octets, so `Keeping` has the octets of a frame and its test of copies.
 use Rattle.std.specs.Prelude.{◌≡◌, ℕ, ◌+◌, ◌≤◌, Bool, not, nat_le, Option, Some, None, List, []}
 use Rattle.std.specs.Prelude.{◌∷◌, ◌++◌, length, map, filter}
 use Rattle.std.specs.List.{count_by}
