@@ -1,15 +1,21 @@
 -- Contention inside an area (EN 302 636-4-1 annex F.3, in this profile): how long a frame waits to
 -- be forwarded, which copies cancel it, and which frame is released first.
 use Rattle.std.specs.Prelude.{ℕ, zero, suc, ◌+◌, ◌-◌, ◌*◌, ◌/◌, ◌%◌, ◌^◌, ◌≤◌, min, nat_le, nat_lt}
-use Rattle.std.specs.Prelude.{Bool, not, ◌&&◌, ◌==◌, if◌then◌else◌, Option, Some, None, List, []}
-use Rattle.std.specs.Prelude.{◌∷◌}
-use Rattle.std.specs.Prelude.{length, map, filter, position, remove, slice_get}
+use Rattle.std.specs.Prelude.{Bool, false, not, ◌&&◌, ◌==◌, if◌then◌else◌, Option, Some, None}
+use Rattle.std.specs.Prelude.{List, [], ◌∷◌, ◌++◌, length, map, filter, position, remove, slice_get}
 use Rattle.std.specs.Option.{option_map}
-use Rattle.its_gnvalue.specs.Values.{Position}
+use Rattle.its_gnvalue.specs.Values.{Position, mid_of}
+use Rattle.its_geometry.specs.Area.{area_holds}
 use Rattle.its_geometry.specs.Offsets.{squared_distance}
+use Rattle.its_model.specs.Packet.{Body, Transmission}
+use Rattle.its_model.specs.Packet.Body.{beacon, shb, gbc, gac}
 use Rattle.its_model.specs.History.{Known, is_among}
 use Rattle.its_model.specs.Stations.{stations_at, by_mid}
-use Rattle.its_model.specs.Station.{StationModel}
+use Rattle.its_model.specs.Calls.{Call, Why, Refusal, Answer}
+use Rattle.its_model.specs.Calls.Call.{Own, Receive, Junk}
+use Rattle.its_model.specs.Calls.Why.{Duplicate}
+use Rattle.its_model.specs.Calls.Answer.{Restarted, Ignored, Accepted}
+use Rattle.its_model.specs.Station.{StationModel, moment_refusal}
 
 -- ---- the rule
 
@@ -150,3 +156,109 @@ first_due now held = frame_at held (place_due now held)
 -- the frames without it
 abbrev pub after_due : {F : Type 0} → ℕ → List (HeldFrame F) → List (HeldFrame F)
 after_due now held = without held (place_due now held)
+
+-- ---- what is held of an accepted packet
+
+-- A geobroadcast contends inside its area.
+abbrev pub contends_for : StationModel → Body → Bool
+contends_for s beacon = false
+contends_for s (shb media message) = false
+contends_for s (gbc number area message) = area_holds area s.vector.place
+contends_for s (gac number area message) = false
+
+-- what spreads the waits of stations that do not know the sender's position: the number of the own
+-- MID plus the packet's sequence number
+abbrev pub tie_of : StationModel → Body → ℕ
+tie_of s beacon = mid_of s.address
+tie_of s (shb media message) = mid_of s.address
+tie_of s (gbc number area message) = mid_of s.address + number
+tie_of s (gac number area message) = mid_of s.address + number
+
+-- when the relay of a packet is due that this station accepted at a moment; the station is the one
+-- after the acceptance
+abbrev pub due_of : ContentionRule → StationModel → ℕ → Transmission → ℕ
+due_of r s moment t =
+    moment + wait r (tie_of s t.pdu.body) (sender_distance s moment t.link_source)
+
+-- What becomes of an accepted packet: no frame is sent for it, or one is sent at once, or one waits
+-- until it is due.
+pub data Fate : Type 0 where
+  Stays : Fate
+  Goes : Fate
+  Waits : (due : ℕ) → Fate
+
+-- the fate of an accepted packet whose relay is this one, by the station after the acceptance and
+-- the frames that wait before it
+abbrev pub fate : {F : Type 0} → ContentionRule → StationModel → ℕ → List (HeldFrame F)
+    → Transmission → Option Transmission → Fate
+fate r s moment held t None = Stays
+fate r s moment held t (Some relay) =
+    if contends_for s t.pdu.body && nat_lt (length held) places
+    then Waits (due_of r s moment t)
+    else Goes
+
+-- ---- the frames that wait after a call. What waits of a frame may be more than the packet, such as
+-- the message that it came with, or less, such as its octets: `kept` is what would wait of it.
+
+-- after an acceptance, by its relay and fate
+abbrev pub after_fate : {F : Type 0} → (Transmission → F) → List (HeldFrame F)
+    → Option Transmission → Fate → List (HeldFrame F)
+after_fate kept held (Some relay) (Waits due) = held ++ newly_held (kept relay) due ∷ []
+after_fate kept held relay its_fate = held
+
+-- after a frame that was ignored: a duplicate may be a copy
+abbrev pub after_ignored : {F : Type 0} → ContentionRule → (ℕ → F → F → Bool)
+    → (Transmission → F) → StationModel → Transmission → List (HeldFrame F) → Why
+    → List (HeldFrame F)
+after_ignored r is_copy kept s t held Duplicate =
+    after_copy r.copies (λ waiting. is_copy (mid_of s.address) waiting (kept t)) t.link_source held
+after_ignored r is_copy kept s t held why = held
+
+-- after a frame, by what the station answered
+abbrev pub after_received : {F : Type 0} → ContentionRule → (ℕ → F → F → Bool)
+    → (Transmission → F) → StationModel → ℕ → Transmission → List (HeldFrame F)
+    → Answer Transmission → List (HeldFrame F)
+after_received r is_copy kept s moment t held (Accepted handed relayed) =
+    after_fate kept held relayed (fate r s moment held t relayed)
+after_received r is_copy kept s moment t held (Ignored why) =
+    after_ignored r is_copy kept s t held why
+after_received r is_copy kept s moment t held answer = held
+
+-- after a call of its own: a restart that is not refused drops them all
+abbrev pub after_own : {F : Type 0} → List (HeldFrame F) → Answer Transmission
+    → List (HeldFrame F)
+after_own held Restarted = []
+after_own held answer = held
+
+-- after a call, by what the station answered; the station is the one after the call
+abbrev pub after_answer : {F : Type 0} → ContentionRule → (ℕ → F → F → Bool)
+    → (Transmission → F) → StationModel → ℕ → Call → List (HeldFrame F) → Answer Transmission
+    → List (HeldFrame F)
+after_answer r is_copy kept s moment (Own call) held answer = after_own held answer
+after_answer r is_copy kept s moment (Receive t) held answer =
+    after_received r is_copy kept s moment t held answer
+after_answer r is_copy kept s moment (Junk fault) held answer = held
+
+-- ---- a release
+
+-- What a release gives: why it is refused, if it is, the frame that is released, if one is, and the
+-- frames that wait after it.
+pub record Release (F : Type 0) : Type 0 where
+  pub refusal : Option Refusal
+  pub released : Option F
+  pub held : List (HeldFrame F)
+
+abbrev pub release_by : {F : Type 0} → ℕ → List (HeldFrame F) → Option Refusal → Release F
+release_by now held (Some refusal) =
+    record { refusal = Some refusal; released = None; held = held }
+release_by now held None =
+    record {
+      refusal = None;
+      released = first_due now (kept_at now held);
+      held = after_due now (kept_at now held);
+    }
+
+-- The moment is checked first. Then the late frames are dropped, and of the others the first that is
+-- due is released.
+abbrev pub release_step : {F : Type 0} → StationModel → ℕ → List (HeldFrame F) → Release F
+release_step s now held = release_by now held (moment_refusal s now)
