@@ -77,13 +77,13 @@ late_or_lost = record {
 
 -- ---- the units of a fleet
 
-get_same : {X : Type 0} (xs : List X) (i : ℕ) (x y : X) → slice_get xs i ≡ Some x
+pub get_same : {X : Type 0} (xs : List X) (i : ℕ) (x y : X) → slice_get xs i ≡ Some x
     → slice_get (slice_set xs i y) i ≡ Some y
 get_same [] i x y h = absurd (none-some x h)
 get_same (z ∷ xs) zero x y h = refl
 get_same (z ∷ xs) (suc i) x y h = get_same xs i x y h
 
-get_other : {X : Type 0} (xs : List X) (i j : ℕ) (y : X) → i ≢ j
+pub get_other : {X : Type 0} (xs : List X) (i j : ℕ) (y : X) → i ≢ j
     → slice_get (slice_set xs i y) j ≡ slice_get xs j
 get_other [] i j y differ = refl
 get_other (z ∷ xs) zero zero y differ = absurd (differ refl)
@@ -97,7 +97,7 @@ run_on u [] next = refl
 run_on u (c ∷ first) next = run_on (unit_step u c.now c.call).unit first next
 
 -- a unit that there is, after runs
-map_runs : (o : Option UnitModel) (first next : List UnitCallAt)
+pub map_runs : (o : Option UnitModel) (first next : List UnitCallAt)
     → option_map (λ (u : UnitModel). unit_run u next)
     (option_map (λ (u : UnitModel). unit_run u first) o)
     ≡ option_map (λ (u : UnitModel). unit_run u (first ++ next)) o

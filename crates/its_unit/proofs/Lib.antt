@@ -6,3 +6,9 @@ pub mod Fleets
 pub mod FleetUnits
 pub mod FleetMessages
 pub mod FleetOnce
+pub mod Sealing
+pub mod SignedSteps
+pub mod Signed
+pub mod SignedOnce
+pub mod SignedRunsOnce
+mod RowsOfForging

@@ -10,6 +10,9 @@ ghost use Rattle.its_unit.specs.Fleets.{unit_kind};
 ghost use Rattle.its_unit.specs.FleetLaws.{AreNewUnits, FleetIsWorld, FleetHoldsOfSchedules};
 ghost use Rattle.its_unit.specs.FleetLaws.{UnitsRun, SendsOnce, DeliversAsSent};
 ghost use Rattle.its_unit.specs.FleetLaws.{FramesAreFaithful};
+ghost use Rattle.its_unit.specs.SignedLaws.{AreNamed, DeliversAsSealed, ForwardsAsSealed};
+ghost use Rattle.its_unit.specs.SignedLaws.{SignedUnitsRun, FloodsAreBounded, ForgersChangeNothing};
+ghost use Rattle.its_unit.specs.SignedOnce.{HaveHeardNothing, AcceptsOnce};
 
 use its_model::laws::every_schedule;
 
@@ -50,3 +53,30 @@ pub fn fleets_are_worlds()
     // A law, for the proof alone.
     every_schedule();
 }
+
+/// The laws of units whose frames all pass a security entity, against a forger: any octets arrive at
+/// any unit, at any time. The entities are sound: a plain part that one returns for a message was
+/// sealed as this message before, for a frame that a unit of these sent (`AreSound`). What an entity
+/// refuses is free. The Basic Header and the link addresses are not sealed: a forger sets them.
+///
+/// - `delivered`: a message that a unit delivers was sent by the unit whose address its packet bears,
+///   to that port, which is open; and if the packet is for an area, that area holds the receiver's
+///   position.
+/// - `forwarded`: each frame that a unit sends is its own packet, or one that came, with one hop
+///   fewer, as the packet and the message that were sealed. Only the lifetime is that of the frame
+///   that came.
+/// - `units`: each unit is a unit after its own calls, so all laws of units hold of it.
+/// - `once`: if the entities refuse messages that were sealed over `window` ms before or after, and each
+///   source sends in four windows at most as many packets for areas as a unit remembers, a unit accepts
+///   no packet twice between two restarts.
+/// - `bounded`: whatever arrives, what a unit forwards is within its rate.
+/// - `unchanged`: octets that the entity refuses change nothing, nor do octets that are no packet with
+///   the plain part that it returns.
+pub fn signed_units_are_lawful()
+    ensures delivered { (units : List UnitModel) → AreNamed units → DeliversAsSealed units }
+    ensures forwarded { (units : List UnitModel) → ForwardsAsSealed units }
+    ensures once { (units : List UnitModel) → HaveHeardNothing units → AcceptsOnce units }
+    ensures units { (units : List UnitModel) → SignedUnitsRun units }
+    ensures bounded { (units : List UnitModel) → FloodsAreBounded units }
+    ensures unchanged { (units : List UnitModel) → ForgersChangeNothing units }
+{}
