@@ -168,15 +168,16 @@ class Daemon:
         return events
 
     def counts(self):
-        """The line that SIGUSR1 makes."""
+        """The line that SIGUSR1 makes. Messages may come before it and after it."""
         self.process.send_signal(signal.SIGUSR1)
-        while b"\n" not in self.said or b'"link"' not in self.said:
+        while True:
+            while b"\n" in self.said:
+                line, self.said = self.said.split(b"\n", 1)
+                if line.startswith(b"{") and b'"link"' in line:
+                    return json.loads(line)
+                self.noted.append(line)
             assert select.select([self.process.stderr], [], [], PATIENCE)[0], "no counts"
             self.said += os.read(self.process.stderr.fileno(), 65536)
-        *notes, last = self.said.splitlines()
-        self.said = b""
-        self.noted += notes
-        return json.loads(last)
 
     def until(self, test):
         """Asks for the counts until they are as wanted."""
@@ -198,4 +199,4 @@ class Daemon:
             out, err = self.process.communicate(timeout=PATIENCE)
         except ValueError:
             out, err = b"", b""
-        return self.process.returncode, out, b"\n".join([*self.noted, err])
+        return self.process.returncode, out, b"\n".join([*self.noted, self.said + err])
