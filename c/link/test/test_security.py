@@ -689,11 +689,13 @@ def test_client_that_is_gone():
 
 def test_end_waits_for_signatures():
     """The end of standard input, and SIGTERM: requests that came before are answered."""
+    if has_no_clock():
+        return
     for how in ("input", "signal"):
         with tempfile.TemporaryDirectory() as room:
             entity = Entity(f"{room}/security")
             d = Daemon([*udp_command(1, OWN_PORT, f"127.0.0.1:{TEST_PORT}"), "--security",
-                        entity.path, *LONG])
+                        entity.path, *LONG], env=stopped_clock(room).environment)
             entity.accept()
             d.put(id=1, **GBC, payload="00")
             asked = entity.request()

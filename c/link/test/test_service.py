@@ -9,7 +9,8 @@ import tempfile
 import time
 
 import frames
-from common import PLACE, PROGRAM, connect, has, run, udp_command, until, write
+from common import (PLACE, PROGRAM, connect, has, has_no_clock, run, stopped_clock, udp_command,
+                    until, write)
 from frames import GBC
 from net import PATIENCE, Daemon, Net, ip, wait_for_link
 
@@ -195,8 +196,11 @@ def test_reload():
 
 def test_drain():
     """Requests that came before SIGTERM are done, and answered."""
+    if has_no_clock():
+        return
     with Net(PROGRAM, 1) as net, tempfile.TemporaryDirectory() as room:
-        d = net.station(0, "--port", 2002, "--listen", f"{room}/s")
+        d = net.station(0, "--port", 2002, "--listen", f"{room}/s",
+                        environment=stopped_clock(room).environment)
         s, lines = connect(f"{room}/s")
         has({"event": "ready"}, json.loads(lines.readline()))
         d.process.send_signal(signal.SIGSTOP)
