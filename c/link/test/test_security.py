@@ -112,7 +112,9 @@ class Bench(ExitStack):
 
 def test_signed_packets():
     """What the entity is asked for each kind, what is sent then, and what the answer says."""
-    with Bench(*LONG) as b:
+    if has_no_clock():
+        return
+    with Bench(*LONG, stopped=True) as b:
         requests = [("shb", {**SHB}), ("gbc", {**GBC}), ("gac", {**GBC, "do": "gac", "port": 2001})]
         for kind, keys in requests:
             b.daemon.put(id="x", **keys, payload="abcd")
@@ -130,6 +132,7 @@ def test_signed_packets():
             has({"id": "x", "result": "sent", "frame": sent.hex()}, answer)
         b.daemon.put(do="tick", jitter=0)  # early: nothing is due
         has({"result": "quiet"}, b.daemon.answer())
+        b.wait(3750)
         asked = b.entity.any_request()
         assert list(asked) == ["id", "do", "kind", "plain"] and asked["kind"] == "beacon", asked
         b.entity.sign(asked)
@@ -721,8 +724,9 @@ def test_longer_than_the_mtu():
         request = entity.request()
         entity.say(id=request["id"], message="00" * 1600)
         has({"result": "refused", "code": "too long"}, d.answer())
-        counts = d.counts()["link"]
-        assert (counts["dropped"], counts["signed"]) == (1, 1), counts
+        counts = d.counts()  # a beacon may have been signed before
+        assert counts["link"]["dropped"] == 1, counts
+        assert counts["link"]["signed"] == 1 + counts["sent"]["beacons"], counts
         entity.end()
 
 
