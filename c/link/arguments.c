@@ -163,8 +163,9 @@ static bool judge(const struct options *o, struct fault *f) {
                          "--audit need a path each");
     }
     if (!remembers_sources(&o->station)) {
-        return set_fault(f, BAD_ARGUMENTS, "a limit of each source needs a limit of all that is low "
-                         "enough: see --forward-rate and --forward-burst, or set --source-rate 0");
+        return set_fault(f, BAD_ARGUMENTS, "a limit of each source needs a limit of all that is "
+                         "low enough: see --forward-rate and --forward-burst, or set "
+                         "--source-rate 0");
     }
     return true;
 }

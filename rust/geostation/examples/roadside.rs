@@ -55,8 +55,8 @@ impl Unit {
         Ok(Unit { station, socket, place, clock: Clock::start()? })
     }
 
-    /// Sends a warning to the stations within 500 m of a position. The time stamp of a packet is that
-    /// of the station's position, so that is set first.
+    /// Sends a warning to the stations within 500 m of a position. The time stamp of a packet is
+    /// that of the station's position, so that is set first.
     fn warn(&mut self, latitude: i32, text: &str) -> Result<(), Box<dyn Error>> {
         let shape = Shape::Circle { radius: 500 };
         let request = AreaRequest::new(PORT, Area { latitude, longitude: 0, shape });
