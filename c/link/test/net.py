@@ -170,16 +170,14 @@ class Daemon:
         return events
 
     def counts(self):
-        """The line that SIGUSR1 makes. Messages may come before it and after it."""
+        """The line that SIGUSR1 makes."""
         self.process.send_signal(signal.SIGUSR1)
-        while True:
-            while b"\n" in self.said:
-                line, self.said = self.said.split(b"\n", 1)
-                if line.startswith(b"{") and b'"link"' in line:
-                    return json.loads(line)
-                self.noted.append(line)
+        while not (counts := [x for x in self.said.split(b"\n")[:-1] if x.startswith(b"{")]):
             assert select.select([self.process.stderr], [], [], PATIENCE)[0], "no counts"
             self.said += os.read(self.process.stderr.fileno(), 65536)
+        *lines, self.said = self.said.split(b"\n")
+        self.noted += [line for line in lines if line != counts[-1]]
+        return json.loads(counts[-1])
 
     def until(self, test):
         """Asks for the counts until they are as wanted."""
