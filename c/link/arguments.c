@@ -125,10 +125,10 @@ static bool remembers_sources(const struct geostation_config *c) {
             <= (uint64_t)(256 - c->forward_burst) * c->source_rate;
 }
 
-/* Do two of the sockets, or the file of metrics, have one path? */
+/* Do two of the sockets, or the files of metrics and of --audit, have one path? */
 static bool shares_path(const struct options *o) {
-    const char *paths[LISTENERS + 2] = { o->listen, o->metrics, o->security };
-    size_t count = 3;
+    const char *paths[LISTENERS + 3] = { o->listen, o->metrics, o->security, o->audit };
+    size_t count = 4;
     for (size_t k = 0; k < o->limited_count; k++) {
         paths[count++] = o->limited[k].path;
     }
@@ -167,12 +167,13 @@ static bool judge(const struct options *o, struct fault *f) {
                          "--security-workers need --security");
     }
     if (shares_path(o)) {
-        return set_fault(f, BAD_ARGUMENTS, "--listen, --listen-limited, --metrics and --security "
-                         "need a path each");
+        return set_fault(f, BAD_ARGUMENTS, "--listen, --listen-limited, --metrics, --security and "
+                         "--audit need a path each");
     }
     if (!remembers_sources(&o->station)) {
-        return set_fault(f, BAD_ARGUMENTS, "--source-rate and --source-burst need a lower "
-                         "--forward-rate and --forward-burst, or both 0");
+        return set_fault(f, BAD_ARGUMENTS, "a limit of each source needs a limit of all that is "
+                         "low enough: see --forward-rate and --forward-burst, or set "
+                         "--source-rate 0");
     }
     return true;
 }

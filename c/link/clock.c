@@ -26,6 +26,25 @@ static int64_t ms_of(clockid_t id) {
 
 static int64_t moment_of(int64_t realtime) { return realtime - EPOCH * 1000 + ahead_ms; }
 
+struct reading {
+    int64_t realtime, boot, apart; /* ms */
+};
+
+/* Reads the time of day and the time since the machine's start. On a busy machine the two may be
+ * read far apart. So this is the best of some tries. */
+static struct reading read_both(void) {
+    struct reading best = { .apart = INT64_MAX };
+    for (int k = 0; k < TRIES && best.apart > CLOSE; k++) {
+        int64_t before = ms_of(CLOCK_BOOTTIME);
+        int64_t realtime = ms_of(CLOCK_REALTIME);
+        int64_t after = ms_of(CLOCK_BOOTTIME);
+        if (after - before < best.apart) {
+            best = (struct reading){ realtime, after, after - before };
+        }
+    }
+    return best;
+}
+
 /* Asks the kernel whether the clock is synchronised, and how far TAI is ahead of UTC. Returns what
  * adjtimex does. */
 static int ask_kernel(void) {
@@ -42,12 +61,13 @@ void clock_start(void) {
     } else if (state < 0) {
         note("whether the clock is synchronised isn't known: %s", strerror(errno));
     }
-    int64_t moment = moment_of(ms_of(CLOCK_REALTIME));
+    struct reading now = read_both();
+    int64_t moment = moment_of(now.realtime);
     if (moment < 0) {
         note("the clock is before 2004: nothing is sent until it is set");
         moment = 0;
     }
-    from_boot_ms = moment - ms_of(CLOCK_BOOTTIME);
+    from_boot_ms = moment - now.boot;
 }
 
 uint64_t clock_now(void) {
@@ -62,18 +82,13 @@ uint64_t clock_now_at(uint64_t moment) {
     return moment == UINT64_MAX ? moment : moment - (uint64_t)steps_ms;
 }
 
-/* How far the time of day is ahead of the station's time. On a busy machine the two may be read too
- * far apart: then nothing is learnt. Returns whether the time of day is one of the station's. */
+/* How far the time of day is ahead of the station's time. If the two were read too far apart,
+ * nothing is learnt. Returns whether the time of day is one of the station's. */
 static bool read_offset(void) {
-    int64_t moment = 0;
-    for (int k = 0; k < TRIES; k++) {
-        int64_t before = ms_of(CLOCK_BOOTTIME);
-        moment = moment_of(ms_of(CLOCK_REALTIME));
-        int64_t after = ms_of(CLOCK_BOOTTIME);
-        if (moment >= 0 && after - before <= CLOSE) {
-            offset_ms = moment - (from_boot_ms + after + steps_ms);
-            break;
-        }
+    struct reading now = read_both();
+    int64_t moment = moment_of(now.realtime);
+    if (moment >= 0 && now.apart <= CLOSE) {
+        offset_ms = moment - (from_boot_ms + now.boot + steps_ms);
     }
     return moment >= 0;
 }
@@ -96,7 +111,8 @@ uint64_t clock_micros(void) {
 }
 
 struct instant clock_instant(void) {
-    return (struct instant){ clock_now(), ms_of(CLOCK_REALTIME) };
+    struct reading now = read_both();
+    return (struct instant){ (uint64_t)(from_boot_ms + now.boot), now.realtime };
 }
 
 uint64_t clock_of_utc(int64_t seconds, long nanoseconds) {

@@ -44,7 +44,7 @@ def read_block(text):
 
 
 def ask_help(*command):
-    done = subprocess.run(command, capture_output=True, text=True, timeout=60)
+    done = subprocess.run(command, capture_output=True, text=True, timeout=600)
     if done.returncode != 0 or not done.stdout:
         raise SystemExit(f"failed: {' '.join(map(str, command))}: no help\n{done.stderr}")
     return done.stdout

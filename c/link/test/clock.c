@@ -1,5 +1,6 @@
 /* A clock that a test sets, for one program: LD_PRELOAD=clock.so CLOCK_FILE=FILE. FILE has the
- * milliseconds by which the time of day is off, and whether it is synchronised: 0 or 1. */
+ * milliseconds by which the time of day is off, and whether it is synchronised: 0 or 1. If a third
+ * number follows, all clocks stand at it, in ms since 1970. */
 #define _GNU_SOURCE
 #include <fcntl.h>
 #include <stdio.h>
@@ -9,37 +10,47 @@
 #include <time.h>
 #include <unistd.h>
 
-static void read_file(long long *off, int *synchronised) {
+static const long long BOOTED = 1600000000000; /* ms since 1970, if clocks stand */
+
+struct set {
+    long long off, at;
+    int synchronised;
+};
+
+static struct set read_file(void) {
+    struct set s = { 0, 0, 1 };
     char text[64] = "";
     const char *path = getenv("CLOCK_FILE");
     int fd = path != NULL ? open(path, O_RDONLY | O_CLOEXEC) : -1;
-    *off = 0;
-    *synchronised = 1;
     if (fd >= 0) {
         if (read(fd, text, sizeof text - 1) > 0) {
-            (void)sscanf(text, "%lld %d", off, synchronised);
+            (void)sscanf(text, "%lld %d %lld", &s.off, &s.synchronised, &s.at);
         }
         close(fd);
     }
+    return s;
+}
+
+static void add(struct timespec *t, long long ms) {
+    long long ns = t->tv_nsec + ms % 1000 * 1000000;
+    t->tv_sec += ms / 1000 + (ns < 0 ? -1 : ns / 1000000000);
+    t->tv_nsec = (long)(ns < 0 ? ns + 1000000000 : ns % 1000000000);
 }
 
 int clock_gettime(clockid_t id, struct timespec *out) {
-    long long off;
-    int synchronised;
+    struct set s = read_file();
     int result = (int)syscall(SYS_clock_gettime, id, out);
-    if (result == 0 && id == CLOCK_REALTIME) {
-        read_file(&off, &synchronised);
-        long long ns = out->tv_nsec + off % 1000 * 1000000;
-        out->tv_sec += off / 1000 + (ns < 0 ? -1 : ns / 1000000000);
-        out->tv_nsec = (long)(ns < 0 ? ns + 1000000000 : ns % 1000000000);
+    if (s.at != 0) {
+        *out = (struct timespec){ 0 };
+        add(out, id == CLOCK_REALTIME ? s.at : s.at - BOOTED);
+    }
+    if (id == CLOCK_REALTIME) {
+        add(out, s.off);
     }
     return result;
 }
 
 int adjtimex(struct timex *t) {
-    long long off;
-    int synchronised;
-    read_file(&off, &synchronised);
     *t = (struct timex){ .tai = 37 };
-    return synchronised ? TIME_OK : TIME_ERROR;
+    return read_file().synchronised ? TIME_OK : TIME_ERROR;
 }

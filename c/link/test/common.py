@@ -1,5 +1,6 @@
 """What the tests of the daemon share."""
 
+import os
 import socket
 import subprocess
 import sys
@@ -10,6 +11,7 @@ import frames
 from net import NO_LIMITS, PATIENCE, Daemon
 
 PROGRAM = sys.argv[1]
+CLOCK = os.environ.get("GEOSTATION_TEST_CLOCK")
 OTHER = 0x1400020000000009
 PLACE = ("--position", "51.47765,-0.001")
 notes = []
@@ -17,6 +19,37 @@ notes = []
 
 def has(wanted, found):
     assert wanted.items() <= found.items(), (wanted, found)
+
+
+class Clock:
+    """The clocks of one program (clock.c). They run, unless `at` says where they stand."""
+
+    def __init__(self, room, off=0, synchronised=True, at=None):
+        self.path, self.at = f"{room}/clock", at
+        self.set(off, synchronised)
+        self.environment = {**os.environ, "LD_PRELOAD": CLOCK, "CLOCK_FILE": self.path}
+
+    def set(self, off, synchronised=True):
+        stands = "" if self.at is None else f" {self.at}"
+        with open(f"{self.path}.new", "w", encoding="ascii") as f:
+            f.write(f"{off} {int(synchronised)}{stands}")
+        os.rename(f"{self.path}.new", self.path)
+
+    def wait(self, ms):
+        """Clocks that stand go on by so much."""
+        self.at += ms
+        self.set(0)
+
+
+def stopped_clock(room):
+    """A program with it has no timeout before the test says so, however slow the machine is."""
+    return Clock(room, at=int(time.time() * 1000))
+
+
+def has_no_clock():
+    if not CLOCK:
+        notes.append("GEOSTATION_TEST_CLOCK names no clock: it was not set")
+    return not CLOCK
 
 
 def now_ms():
@@ -52,8 +85,8 @@ def udp_command(number, port, *to, place=PLACE):
             f"3c0002000000000{number}", *place, "--port", "2002", *NO_LIMITS]
 
 
-def udp(number, port, *to, place=PLACE, more=()):
-    return Daemon([*udp_command(number, port, *to, place=place), *more])
+def udp(number, port, *to, place=PLACE, more=(), environment=None):
+    return Daemon([*udp_command(number, port, *to, place=place), *more], env=environment)
 
 
 def run(*arguments, **keys):

@@ -106,10 +106,12 @@ class Net(ExitStack):
     def enter(self, k, *command):
         return ["nsenter", f"--net=/run/netns/{self.names[k]}", *map(str, command)]
 
-    def station(self, k, *arguments, place=("--position", "51.47765,-0.001"), limits=False):
+    def station(self, k, *arguments, place=("--position", "51.47765,-0.001"), limits=False,
+                environment=None):
         """A station, without limits on what it sends unless they are asked for."""
         more = () if limits else NO_LIMITS
-        d = Daemon(self.enter(k, self.program, "--interface", "v", *place, *more, *arguments))
+        d = Daemon(self.enter(k, self.program, "--interface", "v", *place, *more, *arguments),
+                   env=environment)
         self.callback(d.end)
         return d
 

@@ -41,7 +41,7 @@ class Trio:
             subprocess.run([sys.executable, ENTITY, "--new", f"{room}/{name}"], check=True)
         self.entities = [self.entity(name) for name in NAMES]
         self.stations = [net.station(k, "--port", 2002, "--security", f"{room}/{name}.sock",
-                                     "--security-timeout", 2000)  # other work may run here
+                                     "--security-timeout", 10000)  # other work may run here
                          for k, name in enumerate(NAMES)]
 
     def entity(self, name):

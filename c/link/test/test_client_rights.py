@@ -14,7 +14,7 @@ from common import (OTHER, PROGRAM, connect, connect_once_it_listens, has, run, 
                     write)
 from frames import GBC
 from net import PATIENCE, Net
-from test_security import Bench
+from test_security import LONG, Bench
 
 PORT = 48101
 SHB = {"do": "shb", "info": 0, "tc": 0, "payload": "00"}
@@ -254,7 +254,7 @@ def test_audit():
 
 def test_audit_of_signed_packets():
     """It has what was signed, and nothing if that was not sent."""
-    with tempfile.TemporaryDirectory() as room, Bench("--audit", f"{room}/audit") as b:
+    with tempfile.TemporaryDirectory() as room, Bench(*LONG, "--audit", f"{room}/audit") as b:
         b.daemon.put(**GBC, payload="01")
         b.entity.sign(b.next_of("sign"))
         has({"result": "sent"}, b.daemon.answer())

@@ -1,33 +1,18 @@
 """A clock that is wrong at the start, and one that is set later."""
 
-import os
 import tempfile
 import time
 
 import frames
-from common import OTHER, PLACE, PROGRAM, connect, has, notes, now_ms, stamp, udp_command, until
+from common import (OTHER, PLACE, Clock, connect, has, has_no_clock, now_ms, stamp, udp_command,
+                    until)
 from frames import GBC
 from net import Daemon
 from test_faults import read_metrics
 from test_fixes import PLACED, Gpsd, report, until_sent
 
-CLOCK = os.environ.get("GEOSTATION_TEST_CLOCK")
 HOUR = 3600000
 SHB = {"do": "shb", "port": 1, "info": 0, "tc": 0, "payload": ""}
-
-
-class Clock:
-    """The time of day of one program (clock.c)."""
-
-    def __init__(self, room, off, synchronised=True):
-        self.path = f"{room}/clock"
-        self.set(off, synchronised)
-        self.environment = {**os.environ, "LD_PRELOAD": CLOCK, "CLOCK_FILE": self.path}
-
-    def set(self, off, synchronised=True):
-        with open(f"{self.path}.new", "w", encoding="ascii") as f:
-            f.write(f"{off} {int(synchronised)}")
-        os.rename(f"{self.path}.new", self.path)
 
 
 def station(clock, number, *more, place=PLACE):
@@ -53,15 +38,9 @@ def metrics(path):
     return {k: v for k, v in found.items() if "clock" in k}
 
 
-def is_missing():
-    if not CLOCK:
-        notes.append("GEOSTATION_TEST_CLOCK names no clock: it was not set")
-    return not CLOCK
-
-
 def test_late_clock_and_gpsd():
     """The clock is an hour behind until after the start: then the fixes are taken."""
-    if is_missing():
+    if has_no_clock():
         return
     with tempfile.TemporaryDirectory() as room:
         clock = Clock(room, -HOUR, synchronised=False)
@@ -86,7 +65,7 @@ def test_late_clock_and_gpsd():
 
 def test_clock_before_2004():
     """Nothing is sent before it is set."""
-    if is_missing():
+    if has_no_clock():
         return
     with tempfile.TemporaryDirectory() as room:
         clock = Clock(room, -int(time.time() * 1000))
@@ -101,7 +80,7 @@ def test_clock_before_2004():
 
 def test_clock_that_has_to_be_synchronised():
     """Nothing is sent before it is; then it goes back, and ports, counts and numbers stay."""
-    if is_missing():
+    if has_no_clock():
         return
     with tempfile.TemporaryDirectory() as room:
         clock = Clock(room, HOUR, synchronised=False)
@@ -132,7 +111,7 @@ def test_clock_that_has_to_be_synchronised():
 
 def test_later_steps():
     """They change nothing, and are reported."""
-    if is_missing():
+    if has_no_clock():
         return
     with tempfile.TemporaryDirectory() as room:
         clock = Clock(room, 0)
@@ -152,7 +131,7 @@ def test_later_steps():
 
 def test_steps_that_are_followed():
     """With --clock-follow: forward at once, back after a silence, so that no time falls."""
-    if is_missing():
+    if has_no_clock():
         return
     with tempfile.TemporaryDirectory() as room:
         clock = Clock(room, 0)

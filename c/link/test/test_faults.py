@@ -13,8 +13,8 @@ from contextlib import ExitStack
 from pathlib import Path
 
 import frames
-from common import (OTHER, PLACE, PROGRAM, connect, gbc, has, notes, now_ms, run, stamp, udp,
-                    until)
+from common import (OTHER, PLACE, PROGRAM, connect, gbc, has, has_no_clock, notes, now_ms, run,
+                    stamp, stopped_clock, udp, until)
 from frames import GBC
 from net import PATIENCE, Daemon, Net, ip, wait_for_link
 
@@ -156,6 +156,7 @@ def test_queue_full():
 
 def test_stopped():
     """Frames that waited while the process was stopped have the times at which they came."""
+    spare = 10  # ms: times are read one after the other, and are whole ms
     with Net(PROGRAM, 1) as net:
         d, (end,) = net.station(0, "--port", 2002), net.ends()
         end.send(gbc(0))
@@ -163,13 +164,14 @@ def test_stopped():
         d.process.send_signal(signal.SIGSTOP)
         wanted = []
         for k in range(1, 5):
-            wanted.append(now_ms())
+            before = now_ms()
             end.send(gbc(k))
+            wanted.append((before, now_ms()))
             time.sleep(0.4)
         d.process.send_signal(signal.SIGCONT)
         found = [d.event("delivered")["at"] for _ in wanted]
-        for asked, at in zip(wanted, found):
-            assert abs(asked - at) < 200, (wanted, found)
+        for (before, after), at in zip(wanted, found):
+            assert before - spare <= at <= after + spare, (wanted, found)
 
 
 def test_kernel_drops():
@@ -343,30 +345,48 @@ def relays(end, count):
     return found
 
 
+def gbcs_at(link):
+    """The frames for an area that are there."""
+    link.setblocking(False)
+    found = []
+    try:
+        while True:
+            found.append(link.recv(2048))
+    except BlockingIOError:
+        return [f for f in found if frames.kind_of(f) == "gbc"]
+
+
 def test_forward_spread():
     """Each forwarded frame waits for a time of its own; frames of the station's own do not."""
-    with Net(PROGRAM, 1) as net:
-        d, (end,) = net.station(0, "--forward-spread", 400), net.ends()
-        sent = time.monotonic()
+    if has_no_clock():
+        return
+    with tempfile.TemporaryDirectory() as room, socket.socket(socket.AF_INET,
+                                                              socket.SOCK_DGRAM) as link:
+        link.bind(("127.0.0.1", 47912))
+        clock = stopped_clock(room)
+        d = udp(1, 47911, "127.0.0.1:47912", more=("--forward-spread", "400"),
+                environment=clock.environment)
         for k in range(40):
-            end.send(gbc(k))
+            link.sendto(gbc(k), ("127.0.0.1", 47911))
         d.until(lambda n: n["relayed"] == 40)
-        own = d.ask(**GBC, payload="00")["frame"]
-        asked = time.monotonic()
-        waits, own_at = [], None
-        while len(waits) < 40:
-            frame = end.recv(2048)
-            waits += [time.monotonic() - sent] if frame[30:38] == OTHER.to_bytes(8, "big") else []
-            own_at = len(waits) if frame.hex() == own else own_at
-        assert own_at < 40 and asked - sent < 0.4 and max(waits) > 0.2, (own_at, waits)
-        assert max(waits) < 5 and waits[30] - waits[5] > 0.05, waits
-        order = [w for w in waits if w < 0.1]
-        assert len(order) < 35, waits
+        own = bytes.fromhex(d.ask(**GBC, payload="00")["frame"])
+        steps = [gbcs_at(link)]
+        assert own in steps[0] and len(steps[0]) < 20, len(steps[0])
+        for _ in range(40):
+            clock.wait(10)
+            d.counts()  # it looks at its clock,
+            d.counts()  # and did so before it answers again
+            steps.append(gbcs_at(link))
+        there = [len(found) for found in steps]
+        assert sum(there) == 41 and max(there) < 20, there
+        assert sum(there[:11]) < 35 and sum(there[20:]) > 5, there
         d.end()
-        d = net.station(0, "--forward-spread", 0)
-        end.send(gbc(100))
-        relays(end, 1)
+        d = udp(1, 47911, "127.0.0.1:47912", more=("--forward-spread", "0"),
+                environment=clock.environment)
+        link.sendto(gbc(100), ("127.0.0.1", 47911))
+        until(lambda: gbcs_at(link), "it isn't forwarded at once")
         has({"forward_dropped": 0}, d.counts()["link"])
+        d.end()
 
 
 def test_forwards_are_bounded():

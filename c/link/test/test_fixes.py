@@ -9,7 +9,8 @@ import time
 from datetime import datetime, timedelta, timezone
 
 import frames
-from common import OTHER, PROGRAM, has, notes, now_ms, stamp, udp, udp_command
+from common import (OTHER, PROGRAM, has, has_no_clock, notes, now_ms, stamp, stopped_clock, udp,
+                    udp_command)
 from frames import GBC
 from net import PATIENCE, Daemon, Net
 
@@ -49,6 +50,12 @@ PLACED = {"lat": -338567844, "lon": 1512152967}
 def report(ahead=0.0, **keys):
     return json.dumps({"class": "TPV", "time": utc(ahead)[0], **FIX, **keys},
                       separators=(",", ":")).encode() + b"\r\n"
+
+
+def report_at(ms):
+    """With this time, in ms since 1970."""
+    day = datetime.fromtimestamp(ms / 1000, timezone.utc)
+    return report(time=day.strftime("%Y-%m-%dT%H:%M:%S.") + f"{ms % 1000:03d}Z")
 
 
 def until_sent(d, **wanted):
@@ -171,15 +178,15 @@ def test_fixes_that_are_not_accurate():
         until_sent(d, lat=near, pai=0)
         gpsd.link.sendall(report())
         until_sent(d, **PLACED, pai=1)
+    jumped = time.monotonic()
     gpsd.link.sendall(report(lon=-179.9999999))
     gpsd.link.sendall(report(lon=179.9999999))  # 2 cm from there, and 2700 km from the last one
     until_sent(d, lon=1799999999, pai=0)
-    jumped = time.monotonic()
     while frames.vector_of(bytes.fromhex(d.ask(**GBC, payload="00")["frame"]))["pai"] == 0:
         assert time.monotonic() < jumped + PATIENCE, "it stays in doubt"
         gpsd.link.sendall(report(lon=179.9999999))
         time.sleep(0.2)
-    assert time.monotonic() - jumped > 4
+    assert time.monotonic() - jumped > 4.9
     status, _, said = gpsd.end()
     assert status == 0 and said.count(b"m from the last one") == 1, said
 
@@ -208,20 +215,37 @@ def test_junk():
 
 def test_fix_grows_old():
     """After 5 s a fix isn't accurate, and after --gps-timeout nothing is sent; both are reported."""
-    gpsd = Gpsd(4, "--gps-timeout", "7")
+    if has_no_clock():
+        return
+    with tempfile.TemporaryDirectory() as room:
+        check_old_fix(stopped_clock(room))
+
+
+def check_old_fix(clock):
+    gpsd = Gpsd(4, "--gps-timeout", "7", environment=clock.environment)
     d = gpsd.station
-    gpsd.link.sendall(report())
+
+    def wait(ms):
+        clock.wait(ms)
+        d.counts()  # it looks at its clock
+
+    def pai():
+        return frames.vector_of(bytes.fromhex(d.ask(**GBC, payload="00")["frame"]))["pai"]
+
+    gpsd.link.sendall(report_at(clock.at))
     until_sent(d, **PLACED, pai=1)
-    started = time.monotonic()
     assert d.event("fix")["state"] == "current"
-    assert d.event("fix")["state"] == "old"
-    assert 4 < time.monotonic() - started < 6.5
-    told = frames.vector_of(bytes.fromhex(d.ask(**GBC, payload="00")["frame"]))
-    has({**PLACED, "pai": 0}, told)
+    wait(4999)
+    assert pai() == 1
+    wait(1)
+    assert d.event("fix")["state"] == "old" and pai() == 0
+    wait(1999)
+    assert pai() == 0
+    wait(1)
     assert d.event("fix")["state"] == "lost"
     answer = d.ask(**GBC, payload="00")
     has({"code": "no place", "reason": "the last fix is too old"}, answer)
-    gpsd.link.sendall(report())
+    gpsd.link.sendall(report_at(clock.at))
     assert d.event("fix")["state"] == "current"
     has({"result": "sent"}, d.ask(**GBC, payload="00"))
     status, _, said = gpsd.end()

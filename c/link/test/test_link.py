@@ -62,7 +62,10 @@ def test_three():
             has({"result": "sent"}, a.ask(**GBC, payload=f"{k:04x}"))
         has({"result": "sent"}, b.ask(do="shb", port=7, info=1, tc=3, payload="abcd"))
         has({"result": "sent"}, c.ask(**{**GBC, "do": "gac"}, payload=""))
-        air.run(0.5)
+        wanted, limit = 20 * 3 + 2, time.monotonic() + PATIENCE  # two forward each GBC
+        while len(air.frames) < wanted:
+            assert time.monotonic() < limit, len(air.frames)
+            air.run(0.1)
         for d in (b, c):
             got = [e for e in d.seen() if e["source"] == a.ready["address"]]
             assert sorted(e["payload"] for e in got) == [f"{k:04x}" for k in range(20)], got
@@ -71,7 +74,7 @@ def test_three():
         has({"source": b.ready["address"], "info": 1, "tc": 3, "payload": "abcd"}, heard)
         if shutil.which("tshark"):
             write_pcap(air.frames, f"{room}/air.pcap")
-            assert dissect(f"{room}/air.pcap") == len(air.frames) >= 60
+            assert dissect(f"{room}/air.pcap") == len(air.frames)
             notes.append(f"{len(air.frames)} frames read by tshark, none malformed")
         else:
             notes.append("tshark isn't installed")

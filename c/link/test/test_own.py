@@ -116,7 +116,8 @@ def test_refused_requests_put_off_no_beacon():
         assert rows[0].station.counts()["sent"]["beacons"] >= 3
         over.judge()
         assert over.refused >= SECONDS // 2 and len(over.sent) >= SECONDS // 2, over.refused
-        assert down.station.counts()["sent"] == before and down.refused == SECONDS
+        down.ask()  # it would put a beacon off by 3 s
+        assert down.station.counts()["sent"] == before and down.refused == SECONDS + 1
         ip("-n", net.names[3], "link", "set", "v", "up")
         up = down.station.event("link")
         wait_for_link(net.names[3], "v")
@@ -124,7 +125,7 @@ def test_refused_requests_put_off_no_beacon():
         beacon = down.end.recv(4096)
         assert frames.kind_of(beacon) == "beacon", beacon.hex()
         waited = frames.vector_of(beacon)["stamp"] - up["at"] % (1 << 32)
-        assert waited < 2000, f"a beacon {waited} ms after the link was up"
+        assert waited < 2900, f"a beacon {waited} ms after the link was up"
         notes.append(f"{len(rows) + 2} kinds of refused requests, each second for {SECONDS} s")
 
 

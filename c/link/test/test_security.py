@@ -14,7 +14,8 @@ from contextlib import ExitStack
 from pathlib import Path
 
 import frames
-from common import OTHER, PROGRAM, connect, gbc, has, notes, now_ms, run, udp_command, until
+from common import (OTHER, PROGRAM, connect, gbc, has, has_no_clock, notes, now_ms, run,
+                    stopped_clock, udp_command, until)
 from entity import PLAIN_AT, PROBE, Entity, message_of, secured
 from frames import GBC
 from net import PATIENCE, Daemon, Net
@@ -32,9 +33,10 @@ def is_beacon(frame):
 
 
 class Bench(ExitStack):
-    """A station over UDP, the other end of its link, and its entity."""
+    """A station over UDP, the other end of its link, and its entity. Clocks go on by `wait` alone
+    if they are stopped."""
 
-    def __init__(self, *more, entity=True):
+    def __init__(self, *more, entity=True, stopped=False):
         super().__init__()
         self.started = time.monotonic()
         room = self.enter_context(tempfile.TemporaryDirectory())
@@ -45,12 +47,18 @@ class Bench(ExitStack):
         self.link.settimeout(PATIENCE)
         command = udp_command(1, OWN_PORT, f"127.0.0.1:{TEST_PORT}")
         self.listen = f"{room}/clients"
+        self.clock = stopped_clock(room) if stopped else None
         self.daemon = Daemon([*command, "--security", self.path, "--listen", self.listen,
-                              "--forward-spread", "0", *more])
+                              "--forward-spread", "0", *more],
+                             env=self.clock.environment if stopped else None)
         self.callback(self.daemon.end)
         if entity:
             self.entity.accept()
         self.callback(lambda: self.entity and self.entity.end())
+
+    def wait(self, ms):
+        self.clock.wait(ms)
+        self.daemon.counts()  # it looks at its clock
 
     def send(self, frame):
         self.link.sendto(frame, ("127.0.0.1", OWN_PORT))
@@ -104,7 +112,9 @@ class Bench(ExitStack):
 
 def test_signed_packets():
     """What the entity is asked for each kind, what is sent then, and what the answer says."""
-    with Bench(*LONG) as b:
+    if has_no_clock():
+        return
+    with Bench(*LONG, stopped=True) as b:
         requests = [("shb", {**SHB}), ("gbc", {**GBC}), ("gac", {**GBC, "do": "gac", "port": 2001})]
         for kind, keys in requests:
             b.daemon.put(id="x", **keys, payload="abcd")
@@ -122,6 +132,7 @@ def test_signed_packets():
             has({"id": "x", "result": "sent", "frame": sent.hex()}, answer)
         b.daemon.put(do="tick", jitter=0)  # early: nothing is due
         has({"result": "quiet"}, b.daemon.answer())
+        b.wait(3750)
         asked = b.entity.any_request()
         assert list(asked) == ["id", "do", "kind", "plain"] and asked["kind"] == "beacon", asked
         b.entity.sign(asked)
@@ -177,7 +188,9 @@ def test_order_of_signatures():
 
 def test_not_signed():
     """An error, an answer of another kind, one in another form, one of another packet, and none."""
-    with Bench("--security-timeout", "300") as b:
+    if has_no_clock():
+        return
+    with Bench("--security-timeout", "300", stopped=True) as b:
         wrong = [{"error": "no"}, {"plain": "00"}, {"message": "0"}, {"message": "0g"}, {},
                  {"message": 5}, {"message": ""}, {"message": "00", "error": "x"},
                  {"message": "00" * 2293}, {"message": "038001" + "00"}]
@@ -187,11 +200,12 @@ def test_not_signed():
             answer = b.daemon.answer()
             has({"id": 1, "result": "refused", "code": "not signed"}, answer)
             assert "reason" in answer and "frame" not in answer, answer
-        started = time.monotonic()
         b.daemon.put(id=1, **GBC, payload="00")
         late = b.next_of("sign")
+        b.wait(299)
+        assert b.daemon.line(0.05) is None, "an answer before its time"
+        b.wait(1)
         has({"id": 1, "code": "not signed"}, b.daemon.answer())
-        assert time.monotonic() - started > 0.29
         b.entity.sign(late)
         b.counts(unsigned=len(wrong) + 1, strays=1)
         assert b.is_quiet()
@@ -253,7 +267,7 @@ def test_no_beacon_without_entity():
 
 def test_receive_lines():
     """No application passes a frame to the station, in any spelling."""
-    with Bench() as b:
+    with Bench(*LONG) as b:
         frame = gbc(1, b"ice")
         lines = [{"frame": frame.hex()}, {"frame": ""}, {"frame": "00"},
                  {"frame": frame[:40].hex()},
@@ -360,16 +374,19 @@ def test_which_messages_are_read():
 
 def test_strays():
     """Answers to no open request are skipped: no JSON, no id, an id not used yet, or one done."""
-    with Bench("--security-timeout", "500") as b:
+    if has_no_clock():
+        return
+    with Bench("--security-timeout", "500", stopped=True) as b:
         good = {"plain": gbc(1)[PLAIN_AT:].hex()}
-        datagrams = [b"", b"{", b"5", b"[]", b"\xff\0", b'{"id":}', json.dumps(good).encode(),
-                     *(b'{"id":%s,"plain":"00"}' % n for n in (
-                         b"0", b"999", b"-1", b"1.0", b"1e0", b'"1"', b"null",
-                         b"18446744073709551616")),
-                     b'{"id":1,"plain":"' + b"00" * 20000 + b'"}', b'{"id":1,"plain":"00"}x']
         b.send(secured(gbc(1)))
         asked = b.next_of("verify")
-        assert asked["id"] == 1
+        number = b"%d" % asked["id"]
+        datagrams = [b"", b"{", b"5", b"[]", b"\xff\0", b'{"id":}', json.dumps(good).encode(),
+                     *(b'{"id":%s,"plain":"00"}' % n for n in (
+                         b"0", b"999", b"-1", number + b".0", number + b"e0",
+                         b'"' + number + b'"', b"null", b"18446744073709551616")),
+                     b'{"id":%s,"plain":"' % number + b"00" * 20000 + b'"}',
+                     b'{"id":%s,"plain":"00"}x' % number]
         for datagram in datagrams:
             b.entity.send(datagram)
         b.entity.verify(asked)
@@ -378,6 +395,7 @@ def test_strays():
         b.counts(verified=1, strays=len(datagrams) + 1)
         b.send(secured(gbc(2)))
         late = b.next_of("verify")
+        b.wait(500)
         b.counts(verified=1, strays=len(datagrams) + 1, unanswered=1)
         b.entity.verify(late)
         b.counts(verified=1, strays=len(datagrams) + 2, unanswered=1)
@@ -406,7 +424,9 @@ def copies_of(frame, count):
 
 def test_copies():
     """Copies of a message cost one question, whether they come before its answer or after it."""
-    with Bench(*LONG) as b:
+    if has_no_clock():
+        return
+    with Bench(*LONG, stopped=True) as b:
         frame = secured(gbc(1, b"ice"))
         b.send(frame)
         for copy in copies_of(frame, 3):
@@ -415,8 +435,8 @@ def test_copies():
         has({"hops": 10, "from": "020000000009"}, asked)
         assert b.entity.is_quiet(0.2)
         b.entity.verify(asked)
-        answered = time.monotonic()
         b.counts(verified=4)
+        b.wait(999)
         b.send(list(copies_of(frame, 5))[4])
         counts = b.counts(verified=5)
         assert counts["accepted"] == 1 and counts["ignored"]["duplicate"] == 4, counts
@@ -428,7 +448,7 @@ def test_copies():
         b.send(wrong)
         b.counts(verified=5, rejected=3)
         assert b.entity.is_quiet(0.1)
-        time.sleep(max(answered + 1.3 - time.monotonic(), 0))
+        b.wait(1)
         b.send(frame)
         b.entity.verify(b.next_of("verify"))
         b.counts(verified=6, rejected=3)
@@ -436,11 +456,14 @@ def test_copies():
 
 def test_late_answer():
     """An answer that is late counts for a copy that waited, and for one that comes later."""
-    with Bench("--security-timeout", "200") as b:
+    if has_no_clock():
+        return
+    with Bench("--security-timeout", "200", stopped=True) as b:
         b.put_off_beacons()
         frame = secured(gbc(1, b"ice"))
         b.send(frame)
         asked = b.entity.any_request()
+        b.wait(200)
         b.counts(unanswered=1, signed=1)
         first, second = copies_of(frame, 2)
         b.send(first)
@@ -456,13 +479,17 @@ def test_late_answer():
 
 def test_lost_question():
     """If a question is lost, the entity is asked whether it lives, and a copy is a new question."""
-    with Bench("--security-timeout", "300") as b:
+    if has_no_clock():
+        return
+    with Bench("--security-timeout", "300", stopped=True) as b:
         b.put_off_beacons()
         frame = secured(gbc(1, b"ice"))
         b.send(frame)
         first = b.entity.any_request()
-        time.sleep(0.15)
+        b.wait(150)
         b.send(next(copies_of(frame, 1)))
+        b.daemon.until(lambda n: n["link"]["frames"] == 2)
+        b.wait(150)
         probe = b.entity.any_request()
         assert list(probe) == list(first), (probe, first)
         has({"do": "verify", "message": PROBE, "lt": "00", "hops": 1, "from": "000000000000"},
@@ -478,7 +505,10 @@ def test_lost_question():
 
 def test_hanging_entity():
     """One that does not answer: an event, a note, a metric, and the same when it answers again."""
-    with Bench("--security-timeout", "200", "--metrics", "/run/geostation-metrics") as b:
+    if has_no_clock():
+        return
+    with Bench("--security-timeout", "200", "--metrics", "/run/geostation-metrics",
+               stopped=True) as b:
         def is_up():
             s = socket.socket(socket.AF_UNIX)
             s.connect("/run/geostation-metrics")
@@ -489,7 +519,10 @@ def test_hanging_entity():
         b.send(secured(gbc(1)))
         b.daemon.put(id=1, **GBC, payload="01")
         waiting = [b.entity.any_request() for _ in range(2)]
+        b.wait(200)
         has({"id": 1, "code": "not signed"}, b.daemon.answer())
+        assert is_up()
+        b.wait(200)
         assert b.daemon.event("security")["up"] is False
         assert not is_up()
         has({"id": 2, "code": "no security"}, b.daemon.ask(id=2, **GBC, payload="02"))
@@ -530,7 +563,9 @@ def test_stopped_entity():
 
 
 def test_answers_are_kept_for_256():
-    with Bench() as b:
+    if has_no_clock():
+        return
+    with Bench(stopped=True) as b:
         for k in range(257):
             b.send(fixed(k))
             b.entity.verify(b.next_of("verify"))
@@ -657,11 +692,13 @@ def test_client_that_is_gone():
 
 def test_end_waits_for_signatures():
     """The end of standard input, and SIGTERM: requests that came before are answered."""
+    if has_no_clock():
+        return
     for how in ("input", "signal"):
         with tempfile.TemporaryDirectory() as room:
             entity = Entity(f"{room}/security")
             d = Daemon([*udp_command(1, OWN_PORT, f"127.0.0.1:{TEST_PORT}"), "--security",
-                        entity.path, *LONG])
+                        entity.path, *LONG], env=stopped_clock(room).environment)
             entity.accept()
             d.put(id=1, **GBC, payload="00")
             asked = entity.request()
@@ -687,8 +724,9 @@ def test_longer_than_the_mtu():
         request = entity.request()
         entity.say(id=request["id"], message="00" * 1600)
         has({"result": "refused", "code": "too long"}, d.answer())
-        counts = d.counts()["link"]
-        assert (counts["dropped"], counts["signed"]) == (1, 1), counts
+        counts = d.counts()  # a beacon may have been signed before
+        assert counts["link"]["dropped"] == 1, counts
+        assert counts["link"]["signed"] == 1 + counts["sent"]["beacons"], counts
         entity.end()
 
 
@@ -774,7 +812,7 @@ def test_options():
 
 def test_metrics_of_signed_packets():
     """The counts for Prometheus, with the same numbers."""
-    with Bench("--metrics", "/run/geostation-metrics") as b:
+    with Bench(*LONG, "--metrics", "/run/geostation-metrics") as b:
         b.send(gbc(1))
         b.send(secured(gbc(1)))
         b.entity.verify(b.next_of("verify"))
