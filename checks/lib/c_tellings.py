@@ -50,6 +50,21 @@ def check_bindings(sources):
     return wrong
 
 
+def check_sums(sources):
+    """Each count is added in ns-3, for a station that was replaced, and the daemon has each one in an
+    answer and in its metrics."""
+    path = "ns3/geostation-ns3.hpp"
+    body = re.search(r"void AddCounts\(.*?\n    \}", sources.text(path), re.S)[0]
+    found = re.findall(r"sum\.([\w.]+) \+= more\.([\w.]+);", body)
+    names = [it.named() for it in layout.leaves("counts", structs_of(sources))]
+    wrong = [f"{path}: {one} is added to {other}" for one, other in found if one != other]
+    lost = [name for name in names if (name, name) not in found]
+    wrong += [f"{path}: AddCounts lacks {name}" for name in lost]
+    path = "c/link/counts.c"
+    used = re.findall(r"\b(?:c->|counts\.)([\w.]+)", sources.text(path))
+    return wrong + [f"{path}: {name} is not there twice" for name in names if used.count(name) < 2]
+
+
 def cases_in(text, function):
     """The texts that a function of C returns for each status."""
     body = re.search(rf"\b{function}\(int status\) \{{\n(.*?)^\}}", text, re.M | re.S)[1]
