@@ -11,6 +11,7 @@ import options
 from c_layout import header_constants
 from planting import Mistake, Sources, unnamed
 
+HEADER = "c/geostation.h"
 HELP = "c/link/arguments.c"
 SETTINGS = "c/link/settings.c"
 PAGE = "docs/LINK.md"
@@ -18,6 +19,7 @@ COMMANDS = "docs/commands"
 FIELD = "crates/cmd_captures/src/field.rt"
 FORMS = "crates/cmd_arguments/src/forms.rt"
 JSON = "docs/formats/json.md"
+TABLE = "install/geostation.options"
 CODE = re.compile(r"`([^`]+)`")
 # The first cell of a row of a table.
 HEAD = re.compile(r"^\| ([^|]+) \|", re.M)
@@ -33,15 +35,17 @@ def daemon_help(sources):
 
 
 def daemon_ranges(sources):
-    """The least and the greatest value of each number that the daemon reads."""
-    most = header_constants(sources.text("c/geostation.h"))
-    asked = re.search(r"VERIFIES_ASKED = (\d+)", sources.text("c/link/security.h"))[1]
-    text = sources.text(SETTINGS).replace("VERIFIES_ASKED", asked)
+    """The least and the greatest value of each number that the daemon reads, by its option, and the
+    options whose row has other words for them."""
+    named = {f"GEOSTATION_{it}": n for it, n in header_constants(sources.text(HEADER)).items()}
+    named |= dict(re.findall(r"\b(VERIFIES_ASKED) = (\d+)", sources.text("c/link/security.h")))
+    text = re.sub(r"\w+", lambda it: str(named.get(it[0], it[0])), sources.text(SETTINGS))
     numbers = re.findall(r'NUMBER\("([a-z-]+)", \w+, [^,]+, (\d+), (\d+), \d+\)', text)
-    limits = re.findall(r'LIMIT\("([a-z-]+)"', text)
-    rows = {f"--{name}": (least, upper) for name, least, upper in numbers}
-    rows |= {f"--{name}": ("0", str(most["RATE_MAX"])) for name in limits}
-    return rows
+    rows = {f"--{name}": (least, most) for name, least, most in numbers}
+    most = str(named["GEOSTATION_RATE_MAX"])
+    rows |= {f"--{name}": ("0", most) for name in re.findall(r'LIMIT\("([a-z-]+)"', text)}
+    listed = re.findall(r'^    NUMBER\("([a-z-]+)"', text, re.M)
+    return rows, [name for name in listed if f"--{name}" not in rows]
 
 
 def check_daemon_page(sources):
@@ -53,7 +57,8 @@ def check_daemon_page(sources):
     if list(rows) != wanted:
         differ = sorted({*rows} ^ {*wanted}) or ["the order"]
         wrong.append(f"{PAGE}: the options are not those of the help: {', '.join(differ)}")
-    ranges = daemon_ranges(sources)
+    ranges, unread = daemon_ranges(sources)
+    wrong += [f"{SETTINGS}: the range of {name} is not two numbers" for name in unread]
     for item in filter(rows.get, wanted):
         limits, usual = (cell.strip() for cell in rows[item])
         default = re.search(r"\[default: ([^\]]+)\]", told[item])
@@ -77,9 +82,27 @@ def check_daemon_files(sources):
     return wrong
 
 
+def check_forms(sources):
+    """The table of completions has the options of the source of the help, each with its text."""
+    texts = {}
+    for call in re.findall(r"Argument::\w+\((.*?)\)[,;]", sources.text(FORMS), re.S):
+        strings = re.findall(r'"((?:[^"\\]|\\.)*)"', call)
+        if strings and re.fullmatch(r"[a-z-]+", strings[0]):
+            texts.setdefault(strings[0], set()).add(strings[-1])
+    wrong, found = [], set()
+    for line in sources.text(TABLE).splitlines():
+        cells = re.split("  +", line)
+        name = re.search(r"--([a-z-]+)", cells[1] if len(cells) == 5 else "")
+        if name and name[1] not in ("help", "version"):
+            found.add(name[1])
+            if cells[4] not in texts.get(name[1], ()):
+                wrong.append(f"{TABLE}: {FORMS} has another text of --{name[1]}: {cells[4]}")
+    return wrong + [f"{TABLE}: no --{name}, which {FORMS} has" for name in sorted({*texts} - found)]
+
+
 def check_program(sources):
     """The page of a command, or one of those that have what is common, has each of its options."""
-    table = options.read_table(sources.text("install/geostation.options"))
+    table = options.read_table(sources.text(TABLE))
     common = sources.text(f"{COMMANDS}/README.md") + sources.text(f"{COMMANDS}/filters.md")
     wrong = []
     for command, (listed, _, _) in table.items():
@@ -115,6 +138,9 @@ MISTAKES = [
     Mistake("c/link/security.h", "VERIFIES_ASKED = 12", "VERIFIES_ASKED = 16", "security-workers"),
     Mistake("install/geostation-link.options", "-  --audit ", "-  --audits ", "--audits"),
     Mistake("install/geostation-link.1", ".It Fl -metrics", ".It Fl -metric", "--metrics"),
+    Mistake(SETTINGS, "FIELD(client_timeout), 0, 86400", "FIELD(client_timeout), 0, DAY", "range"),
+    Mistake(FORMS, '"partial",', '"brief",', "no --brief"),
+    Mistake(FORMS, '"Select refused records"', '"Select records"', "another text of --refused"),
     Mistake("docs/commands/show.md", "`--partial`", "`--cut`", "--partial"),
     Mistake("docs/STATION.md", "| `--remember N` |", "| `--numbers N` |", "--remember"),
     Mistake(FIELD, '=> "vlan"', '=> "tag"', "differ in the key tag"),
@@ -125,7 +151,7 @@ MISTAKES = [
 
 def complaints(sources):
     """All that is wrong."""
-    checks = (check_daemon_page, check_daemon_files, check_program, check_keys)
+    checks = (check_daemon_page, check_daemon_files, check_forms, check_program, check_keys)
     return [line for one in checks for line in one(sources)]
 
 
