@@ -368,6 +368,9 @@ class StationApplication : public ns3::Application {
         sum.sent.single_hop += more.sent.single_hop;
         sum.sent.geobroadcasts += more.sent.geobroadcasts;
         sum.sent.geoanycasts += more.sent.geoanycasts;
+        sum.suppressed += more.suppressed;
+        sum.repeated += more.repeated;
+        sum.over_rate += more.over_rate;
     }
 
     ns3::Ptr<ns3::NetDevice> FindDevice() const {

@@ -308,9 +308,9 @@ def check_package_numbers(sources):
     return wrong + compare_numbers(path, "status", enums["status"], found)
 
 
-def check_constants(sources, named):
-    """The constants of the header. `named` has the name of each in the proved crates: some crate
-    has it. A package has those that it has under the header's name."""
+def check_constants(sources, named, of_c):
+    """The constants of the header. `named` has the name of each in the proved crates, but those
+    of C: some crate has it. A package has those that it has under the header's name."""
     wanted = layout.header_constants(sources.text(HEADER))
     crates = {
         pair
@@ -322,6 +322,8 @@ def check_constants(sources, named):
         for name, it in named.items()
         if (it, wanted.get(name)) not in crates
     ]
+    lost = [name for name in wanted if name not in named and name not in of_c]
+    wrong += [f"{HEADER}: nothing is compared with {name}" for name in lost]
     for path in find(f"{RUST}/*.rs") + find(f"{PYTHON}/*.py"):
         text = sources.text(path)
         is_python = path.endswith(".py")

@@ -13,6 +13,7 @@ from pathlib import Path
 
 from cut_rows import SHAPES
 from file_rows import classic
+from octets_numbers import check_places
 from octets_table import TYPES
 from packet_rows import LINK
 
@@ -226,50 +227,6 @@ def check_link_frames(table, sources, packets):
             changed = values | here
             made.append((kind, changed, table.encode(kind, changed)))
     return sorted(set(wrong)) + same_octets(path, table, made, write)
-
-
-def places_in(table):
-    """Places that some sources have as numbers: texts that each has, with the table's numbers.
-    Most count from the first octet of a frame."""
-    link = len(LINK)
-    at = {key: link + field.start // 8 for key, field in table.places("gbc").items()}
-    beacon = {key: link + field.start // 8 for key, field in table.places("beacon").items()}
-    end, source, other = at["next"], beacon["address"], at["address"]
-    payload = {kind: link + table.payload_start(kind) for kind in ("shb", "gbc", "gac")}
-    shb, area = payload["shb"], payload["gbc"]
-    return {
-        "examples/security/rules.py": [f"{{3: 8 + {area - end - 8}, 4: 8 + {area - end - 8}, "
-                                       f"5: 8 + {shb - end - 8}}}"],
-        "c/link/security.h": [f"BASIC_END = {end},"],
-        "c/link/security.c": [f"r->octets[{link}] == 0x11"],
-        "c/link/test/wire.c": [f"ADDRESS_END = {source + 7}, NUMBER = {at['number']},"],
-        "c/link/test/air.py": [f"frame[{at['number']}:{at['number'] + 2}], "
-                               f"frame[{other}:{other + 8}]"],
-        "crates/its_linkframe/src/fields.rt": [f"MESSAGE: usize = {end};"],
-        "checks/lib/secured.py": [f"LINK, BASIC = {link}, {end - link}"],
-        "checks/lib/dissect_signed.py": [f"LINK, BASIC = {link}, {end - link}"],
-        "checks/lib/signed_rows.py": [
-            f"HOPS_AT, BODY = {at['hops_left']}, {end}",
-            f'{{"shb": {link} + {shb - link}, "gbc": {link} + {area - link}, '
-            f'"gac": {link} + {area - link}}}',
-        ],
-        "viewer/secured.js": [f"MESSAGE = {end};"],
-        "viewer/peek.js": [
-            f"TYPE = {at['type']};",
-            f"{{beacon: {source}, shb: {source}, gbc: {other}, gac: {other}}};",
-            f"{{shb: {shb}, gbc: {area}, gac: {area}}};",
-        ],
-    }  # fmt: skip
-
-
-def check_places(table, sources, packets):
-    """Sources that have places as numbers."""
-    return [
-        f"{path}: there is no {text}, as the table has it"
-        for path, texts in places_in(table).items()
-        for text in texts
-        if text not in sources.text(path)
-    ]
 
 
 # The bits of scapy's fields.

@@ -11,8 +11,8 @@ use Rattle.std.proofs.lemmas.Bool.{ne_eqb, cases_lt}
 use Rattle.std.proofs.lemmas.List.{map-append, get_or-drop, drop_all, take_more, take_rest}
 use Rattle.std.proofs.lemmas.List.{drop-append-le, take-append-le, take_all, nil_from_length}
 use Rattle.sim_moves.specs.declared.fields.Bound.{Bound}
-use Rattle.sim_moves.specs.declared.fields.Part.{Part}
-use Rattle.sim_moves.specs.declared.fields.Part.TheVariants as parts
+use Rattle.sim_moves.specs.declared.fields.FieldPart.{FieldPart}
+use Rattle.sim_moves.specs.declared.fields.FieldPart.TheVariants as parts
 use Rattle.sim_moves.specs.Fields.{cut, effect_of, effect_outside, fields_after, fields_of}
 use Rattle.sim_moves.specs.Fields.{plain_after}
 use Rattle.sim_moves.proofs.Parts.{after_ends, after_stays, rest_at}
@@ -100,13 +100,13 @@ ends_all separator line begin i bounds bounds' over grown is =
     ∙ sym (cut_more line bounds b) ∙ ap (cut line) (sym grown)
 
 -- outside a quotation what is no mark is judged so
-outside : (separator : ℕ) (part : Part) (octet : ℕ) → (part ≡ parts.Begin) ⊎ (part ≡ parts.Open)
+outside : (separator : ℕ) (part : FieldPart) (octet : ℕ) → (part ≡ parts.Begin) ⊎ (part ≡ parts.Open)
     → octet ≢ 34 → effect_of separator part octet ≡ effect_outside separator octet
 outside separator part octet (inl is) other = rw is (rw (ne_eqb octet 34 other) refl)
 outside separator part octet (inr is) other = rw is refl
 
 -- without marks the fields are those that the separators part
-pub plain_from : (separator : ℕ) (part : Part) (field octets : List ℕ)
+pub plain_from : (separator : ℕ) (part : FieldPart) (field octets : List ℕ)
     → (part ≡ parts.Begin) ⊎ (part ≡ parts.Open)
     → ((k : ℕ) → k < length octets → get_or octets k 0 ≢ 34)
     → fields_after separator part field octets ≡ plain_after separator field octets

@@ -4,8 +4,8 @@ use Rattle.std.proofs.Common.{refl, sym, ap, ◌∙◌, arith}
 use Rattle.std.specs.Prelude.{slice_get, Vec}
 use Rattle.std.specs.declared.alloc.Global.{Global}
 use Rattle.sim_moves.specs.Columns.{texts, HasNoneBelow, HasOnceBelow, HasTwiceBelow, IsFoundBelow}
-use Rattle.sim_moves.specs.declared.columns.Found.{Found}
-use Rattle.sim_moves.specs.declared.columns.Found.TheVariants as founds
+use Rattle.sim_moves.specs.declared.columns.Occurrence.{Occurrence}
+use Rattle.sim_moves.specs.declared.columns.Occurrence.TheVariants as founds
 
 -- what the field of a place says
 pub text_at : (fields : List (Vec ℕ Global)) (place : ℕ) (field : Vec ℕ Global)
@@ -54,7 +54,7 @@ once_then names word name n place lt is same once = record {
 }
 
 -- however often it stood, one more name that is another
-pub found_more : (names : List (List ℕ)) (word name : List ℕ) (n : ℕ) (found : Found)
+pub found_more : (names : List (List ℕ)) (word name : List ℕ) (n : ℕ) (found : Occurrence)
     → slice_get names n ≡ Some name → name ≢ word → IsFoundBelow n names word found
     → IsFoundBelow (n + 1) names word found
 found_more names word name n founds.Nowhere is other none =

@@ -5,8 +5,8 @@ use Rattle.std.specs.Prelude.{Vec}
 use Rattle.std.specs.declared.alloc.Global.{Global}
 use Rattle.std.proofs.Math.Seq.{drop-cons}
 use Rattle.std.proofs.lemmas.List.{map-append}
-use Rattle.sim_moves.specs.declared.fields.Part.{Part}
-use Rattle.sim_moves.specs.declared.fields.Part.TheVariants as parts
+use Rattle.sim_moves.specs.declared.fields.FieldPart.{FieldPart}
+use Rattle.sim_moves.specs.declared.fields.FieldPart.TheVariants as parts
 use Rattle.sim_moves.specs.declared.fields.Effect.{Effect}
 use Rattle.sim_moves.specs.declared.fields.Effect.TheVariants as effects
 use Rattle.sim_moves.specs.Columns.{texts}
@@ -24,7 +24,7 @@ fields_by separator field octet octets effect =
     (λ next. fields_after separator next field octets)
     (field ∷ fields_after separator parts.Begin [] octets)
 
-pub after_stays : (separator : ℕ) (part next : Part) (field : List ℕ) (octet : ℕ) (octets : List ℕ)
+pub after_stays : (separator : ℕ) (part next : FieldPart) (field : List ℕ) (octet : ℕ) (octets : List ℕ)
     → effect_of separator part octet ≡ effects.Stays next
     → fields_after separator part field (octet ∷ octets)
     ≡ fields_after separator next (field ++ octet ∷ []) octets
@@ -32,14 +32,14 @@ unfolding fields_by
 after_stays separator part next field octet octets is =
     ap (fields_by separator field octet octets) is
 
-pub after_goes : (separator : ℕ) (part next : Part) (field : List ℕ) (octet : ℕ) (octets : List ℕ)
+pub after_goes : (separator : ℕ) (part next : FieldPart) (field : List ℕ) (octet : ℕ) (octets : List ℕ)
     → effect_of separator part octet ≡ effects.Goes next
     → fields_after separator part field (octet ∷ octets) ≡ fields_after separator next field octets
 unfolding fields_by
 after_goes separator part next field octet octets is =
     ap (fields_by separator field octet octets) is
 
-pub after_ends : (separator : ℕ) (part : Part) (field : List ℕ) (octet : ℕ) (octets : List ℕ)
+pub after_ends : (separator : ℕ) (part : FieldPart) (field : List ℕ) (octet : ℕ) (octets : List ℕ)
     → effect_of separator part octet ≡ effects.Ends
     → fields_after separator part field (octet ∷ octets)
     ≡ field ∷ fields_after separator parts.Begin [] octets
@@ -48,7 +48,7 @@ after_ends separator part field octet octets is =
     ap (fields_by separator field octet octets) is
 
 -- what the loop over a line keeps, one octet further
-pub kept_stays : (separator : ℕ) (part next : Part) (line : List ℕ) (i : ℕ)
+pub kept_stays : (separator : ℕ) (part next : FieldPart) (line : List ℕ) (i : ℕ)
     (fields : List (Vec ℕ Global)) (field field' : List ℕ) → i < length line
     → effect_of separator part (get_or line i 0) ≡ effects.Stays next
     → field' ≡ field ++ get_or line i 0 ∷ []
@@ -60,7 +60,7 @@ kept_stays separator part next line i fields field field' lt is grown =
     (after_stays separator part next field (get_or line i 0) (drop (i + 1) line) is
     ∙ ap (λ (l : List ℕ). fields_after separator next l (drop (i + 1) line)) (sym grown))
 
-pub kept_goes : (separator : ℕ) (part next : Part) (line : List ℕ) (i : ℕ)
+pub kept_goes : (separator : ℕ) (part next : FieldPart) (line : List ℕ) (i : ℕ)
     (fields : List (Vec ℕ Global)) (field : List ℕ) → i < length line
     → effect_of separator part (get_or line i 0) ≡ effects.Goes next
     → texts fields ++ fields_after separator part field (drop i line)
@@ -70,7 +70,7 @@ kept_goes separator part next line i fields field lt is =
     ∙ ap (λ (l : List (List ℕ)). texts fields ++ l)
     (after_goes separator part next field (get_or line i 0) (drop (i + 1) line) is)
 
-pub kept_ends : (separator : ℕ) (part : Part) (line : List ℕ) (i : ℕ)
+pub kept_ends : (separator : ℕ) (part : FieldPart) (line : List ℕ) (i : ℕ)
     (fields fields' : List (Vec ℕ Global)) (field : Vec ℕ Global) (fresh : List ℕ)
     → i < length line → effect_of separator part (get_or line i 0) ≡ effects.Ends
     → fields' ≡ fields ++ field ∷ [] → fresh ≡ []

@@ -6,8 +6,8 @@ use Rattle.std.specs.declared.alloc.Global.{Global}
 use Rattle.sim_moves.specs.declared.columns.Column.{Column}
 use Rattle.sim_moves.specs.declared.columns.Column.TheVariants as columns
 use Rattle.sim_moves.specs.declared.columns.Columns.{Columns}
-use Rattle.sim_moves.specs.declared.columns.Found.{Found}
-use Rattle.sim_moves.specs.declared.columns.Found.TheVariants as founds
+use Rattle.sim_moves.specs.declared.columns.Occurrence.{Occurrence}
+use Rattle.sim_moves.specs.declared.columns.Occurrence.TheVariants as founds
 use Rattle.sim_moves.specs.declared.columns.Notation.{Notation}
 use Rattle.sim_moves.specs.declared.columns.Notation.TheVariants as notations
 
@@ -123,11 +123,11 @@ IsHeader names c = IsHeaderIn c.notation names c × HasNoName names (other_of c.
 -- ---- words of private functions
 
 -- how often a name stands among the first names
-abbrev pub IsFoundBelow : ℕ → List (List ℕ) → List ℕ → Found → Type 0
+abbrev pub IsFoundBelow : ℕ → List (List ℕ) → List ℕ → Occurrence → Type 0
 IsFoundBelow count names word founds.Nowhere = HasNoneBelow count names word
 IsFoundBelow count names word (founds.Once place) = HasOnceBelow count names word place
 IsFoundBelow count names word founds.Twice = HasTwiceBelow count names word
 
 -- how often a name stands
-abbrev pub IsFound : List (List ℕ) → List ℕ → Found → Type 0
+abbrev pub IsFound : List (List ℕ) → List ℕ → Occurrence → Type 0
 IsFound names word found = IsFoundBelow (length names) names word found

@@ -1,8 +1,8 @@
 -- The fields of a line (RFC 4180, but that a row is one line).
 use Rattle.std.specs.Prelude.{◌==◌, ℕ, List, [], ◌∷◌, ◌++◌, if◌then◌else◌, map, slice_range}
 use Rattle.sim_moves.specs.declared.fields.Bound.{Bound}
-use Rattle.sim_moves.specs.declared.fields.Part.{Part}
-use Rattle.sim_moves.specs.declared.fields.Part.TheVariants as parts
+use Rattle.sim_moves.specs.declared.fields.FieldPart.{FieldPart}
+use Rattle.sim_moves.specs.declared.fields.FieldPart.TheVariants as parts
 use Rattle.sim_moves.specs.declared.fields.Effect.{Effect}
 use Rattle.sim_moves.specs.declared.fields.Effect.TheVariants as effects
 
@@ -13,7 +13,7 @@ effect_outside separator octet =
 
 -- What an octet does in a part of a field: a mark at the begin of a field opens a quotation; in it
 -- two marks are one, and one alone ends it.
-abbrev pub effect_of : ℕ → Part → ℕ → Effect
+abbrev pub effect_of : ℕ → FieldPart → ℕ → Effect
 effect_of separator parts.Begin octet =
     if octet == 34 then effects.Goes parts.Quoted else effect_outside separator octet
 effect_of separator parts.Open octet = effect_outside separator octet
@@ -23,14 +23,14 @@ effect_of separator parts.Marked octet =
     if octet == 34 then effects.Stays parts.Quoted else effect_outside separator octet
 
 -- the fields that follow, by what an octet did: it stays in the field, or goes, or ends it
-abbrev pub going_on : Effect → (Part → List (List ℕ)) → (Part → List (List ℕ))
+abbrev pub going_on : Effect → (FieldPart → List (List ℕ)) → (FieldPart → List (List ℕ))
     → List (List ℕ) → List (List ℕ)
 going_on (effects.Stays next) stays goes ends = stays next
 going_on (effects.Goes next) stays goes ends = goes next
 going_on effects.Ends stays goes ends = ends
 
 -- the fields of the octets that follow in a part of a field of which this stands already
-abbrev pub fields_after : ℕ → Part → List ℕ → List ℕ → List (List ℕ)
+abbrev pub fields_after : ℕ → FieldPart → List ℕ → List ℕ → List (List ℕ)
 fields_after separator part field [] = field ∷ []
 fields_after separator part field (octet ∷ octets) =
     going_on (effect_of separator part octet)

@@ -11,10 +11,10 @@ use Rattle.sim_moves.specs.declared.columns.Notation.{Notation}
 use Rattle.sim_moves.specs.declared.columns.Notation.TheVariants as notations
 use Rattle.sim_moves.specs.declared.fault.Word.{Word}
 use Rattle.sim_moves.specs.declared.fault.Word.TheVariants as words
-use Rattle.sim_moves.specs.declared.row.Numbers.{Numbers}
+use Rattle.sim_moves.specs.declared.row.RowNumbers.{RowNumbers}
 use Rattle.sim_moves.specs.declared.row.Row.{Row}
-use Rattle.sim_moves.specs.declared.rows.Reached.{Reached}
-use Rattle.sim_moves.specs.declared.rows.Reached.TheVariants as reaches
+use Rattle.sim_moves.specs.declared.rows.LineContent.{LineContent}
+use Rattle.sim_moves.specs.declared.rows.LineContent.TheVariants as reaches
 use Rattle.its_gnvalue.specs.Values.{IsSpeed}
 use Rattle.std.specs.Prelude.{string_bytes}
 
@@ -50,7 +50,7 @@ may_field fields (Some place) = Some (field_at fields place)
 may_field fields None = None
 
 -- the fields are as many as the columns, and say these numbers, the moment not below another
-pub record AreNumbers (c : Columns) (fields : List (List ℕ)) (before : ℕ) (n : Numbers)
+pub record AreNumbers (c : Columns) (fields : List (List ℕ)) (before : ℕ) (n : RowNumbers)
     : Type 0 where
   pub count : length fields ≡ c.count
   pub at : IsMoment c.notation before (field_at fields c.at) n.at
@@ -122,11 +122,11 @@ IsWordOfPlace notation lat lon words.Lon =
 IsWordOfPlace notation lat lon word = ⊥
 
 -- what a line gives is a row, if it gives one
-abbrev pub ReachesRow : Reached → Type 0
+abbrev pub ReachesRow : LineContent → Type 0
 ReachesRow (reaches.Row row) = IsRow row
 ReachesRow reached = Unit {0}
 
 -- what a line gives is a row between, if it gives one
-abbrev pub ReachesBetween : ℕ → ℕ → ℕ → Reached → Type 0
+abbrev pub ReachesBetween : ℕ → ℕ → ℕ → LineContent → Type 0
 ReachesBetween begin before after (reaches.Row row) = IsRowBetween begin before after row
 ReachesBetween begin before after reached = Unit {0}

@@ -134,7 +134,7 @@ impl Columns {
 
 /// How often a name stands among others.
 #[derive(Clone, Copy, Debug, PartialEq, Eq)]
-pub(crate) enum Found {
+pub(crate) enum Occurrence {
     /// Nowhere.
     Nowhere,
     /// At this place alone.
@@ -144,15 +144,15 @@ pub(crate) enum Found {
 }
 
 /// How often a column's name stands among these.
-pub(crate) fn find(names: &[Vec<u8>], word: &str) -> Found
+pub(crate) fn find(names: &[Vec<u8>], word: &str) -> Occurrence
     ensures { IsFound (texts names.now) word.now result }
 {
-    let mut found = Found::Nowhere;
+    let mut found = Occurrence::Nowhere;
     for (place, name) in names.iter().enumerate() {
         if is_named(name, word) {
             match found {
-                Found::Nowhere => found = Found::Once(place),
-                Found::Once(_) | Found::Twice => return Found::Twice,
+                Occurrence::Nowhere => found = Occurrence::Once(place),
+                Occurrence::Once(_) | Occurrence::Twice => return Occurrence::Twice,
             }
         }
     }
@@ -173,8 +173,8 @@ fn required(names: &[Vec<u8>], notation: Notation, column: Column) -> Option<usi
         ¬ HasOnce (texts names.now) (word_of notation column) place) }
 {
     match find(names, column.word(notation)) {
-        Found::Once(place) => Some(place),
-        Found::Nowhere | Found::Twice => None,
+        Occurrence::Once(place) => Some(place),
+        Occurrence::Nowhere | Occurrence::Twice => None,
     }
 }
 
@@ -185,9 +185,9 @@ fn optional(names: &[Vec<u8>], notation: Notation, column: Column) -> Option<Opt
         ¬ MayStand (texts names.now) (word_of notation column) place) }
 {
     match find(names, column.word(notation)) {
-        Found::Once(place) => Some(Some(place)),
-        Found::Nowhere => Some(None),
-        Found::Twice => None,
+        Occurrence::Once(place) => Some(Some(place)),
+        Occurrence::Nowhere => Some(None),
+        Occurrence::Twice => None,
     }
 }
 
@@ -208,8 +208,8 @@ fn is_absent(names: &[Vec<u8>], notation: Notation, column: Column) -> bool
     ensures { IsTrue result ↔ HasNone (texts names.now) (word_of notation column) }
 {
     match find(names, column.word(notation)) {
-        Found::Nowhere => true,
-        Found::Once(_) | Found::Twice => false,
+        Occurrence::Nowhere => true,
+        Occurrence::Once(_) | Occurrence::Twice => false,
     }
 }
 

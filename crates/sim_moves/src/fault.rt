@@ -114,14 +114,14 @@ impl fmt::Display for WordReason {
 /// Why a reader failed: the number of the system's error, if it has one. The error itself is large,
 /// and each row returns a result that may hold one.
 #[derive(Clone, Copy, Debug, PartialEq, Eq)]
-pub struct ReadFault {
+pub struct MovesReadFault {
     number: Option<i32>,
 }
 
-impl ReadFault {
+impl MovesReadFault {
     /// Returns that of an error.
-    pub(crate) fn of(error: &io::Error) -> ReadFault {
-        ReadFault {
+    pub(crate) fn of(error: &io::Error) -> MovesReadFault {
+        MovesReadFault {
             number: error.raw_os_error(),
         }
     }
@@ -141,7 +141,7 @@ pub enum MovesFault {
     /// The line of this number, from 1, is refused by this word: the first of an empty file too.
     Line(u64, Word),
     /// The reader failed, by this error.
-    Read(ReadFault),
+    Read(MovesReadFault),
     /// An allocation failed.
     NoMemory,
 }
@@ -160,31 +160,31 @@ impl Error for MovesFault {}
 
 /// Why a line gives no row.
 #[derive(Clone, Copy, Debug, PartialEq, Eq)]
-pub(crate) enum LineFault {
+pub(crate) enum MovesLineFault {
     /// It is refused by this word.
     Refused(Word),
     /// An allocation failed.
     NoMemory,
 }
 
-impl LineFault {
+impl MovesLineFault {
     /// The fault of the line of this number.
     pub(crate) fn at_line(self, number: u64) -> MovesFault {
         match self {
-            LineFault::Refused(word) => MovesFault::Line(number, word),
-            LineFault::NoMemory => MovesFault::NoMemory,
+            MovesLineFault::Refused(word) => MovesFault::Line(number, word),
+            MovesLineFault::NoMemory => MovesFault::NoMemory,
         }
     }
 }
 
-impl From<AllocError> for LineFault {
-    fn from(_: AllocError) -> LineFault {
-        LineFault::NoMemory
+impl From<AllocError> for MovesLineFault {
+    fn from(_: AllocError) -> MovesLineFault {
+        MovesLineFault::NoMemory
     }
 }
 
-impl<T: Drop> From<AllocFailed<T>> for LineFault {
-    fn from(_: AllocFailed<T>) -> LineFault {
-        LineFault::NoMemory
+impl<T: Drop> From<AllocFailed<T>> for MovesLineFault {
+    fn from(_: AllocFailed<T>) -> MovesLineFault {
+        MovesLineFault::NoMemory
     }
 }

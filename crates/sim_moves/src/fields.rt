@@ -9,7 +9,7 @@ use std::mem;
 
 /// Where in a field an octet stands.
 #[derive(Clone, Copy, Debug, PartialEq, Eq)]
-pub(crate) enum Part {
+pub(crate) enum FieldPart {
     /// At its begin.
     Begin,
     /// Behind that, in no quotation.
@@ -24,23 +24,23 @@ pub(crate) enum Part {
 #[derive(Clone, Copy, Debug, PartialEq, Eq)]
 pub(crate) enum Effect {
     /// It is one of the field, which goes on so.
-    Stays(Part),
+    Stays(FieldPart),
     /// It is a mark: the field goes on so without it.
-    Goes(Part),
+    Goes(FieldPart),
     /// It ends the field.
     Ends,
 }
 
 /// What an octet does in a part of a field.
-fn effect_in(separator: u8, part: Part, octet: u8) -> Effect
+fn effect_in(separator: u8, part: FieldPart, octet: u8) -> Effect
     ensures { result ≡ effect_of separator part octet }
 {
     match part {
-        Part::Begin if octet == b'"' => Effect::Goes(Part::Quoted),
-        Part::Quoted if octet == b'"' => Effect::Goes(Part::Marked),
-        Part::Quoted => Effect::Stays(Part::Quoted),
-        Part::Marked if octet == b'"' => Effect::Stays(Part::Quoted),
-        Part::Begin | Part::Open | Part::Marked => outside(separator, octet),
+        FieldPart::Begin if octet == b'"' => Effect::Goes(FieldPart::Quoted),
+        FieldPart::Quoted if octet == b'"' => Effect::Goes(FieldPart::Marked),
+        FieldPart::Quoted => Effect::Stays(FieldPart::Quoted),
+        FieldPart::Marked if octet == b'"' => Effect::Stays(FieldPart::Quoted),
+        FieldPart::Begin | FieldPart::Open | FieldPart::Marked => outside(separator, octet),
     }
 }
 
@@ -51,7 +51,7 @@ fn outside(separator: u8, octet: u8) -> Effect
     if octet == separator {
         Effect::Ends
     } else {
-        Effect::Stays(Part::Open)
+        Effect::Stays(FieldPart::Open)
     }
 }
 
@@ -64,7 +64,7 @@ pub(crate) fn split(alloc: Global, separator: u8, line: &[u8]) -> Result<Vec<Vec
 {
     let mut fields: Vec<Vec<u8>> = Vec::new(alloc);
     let mut field: Vec<u8> = Vec::new(alloc);
-    let mut part = Part::Begin;
+    let mut part = FieldPart::Begin;
     for octet in line {
         match effect_in(separator, part, *octet) {
             Effect::Stays(next) => {
@@ -74,7 +74,7 @@ pub(crate) fn split(alloc: Global, separator: u8, line: &[u8]) -> Result<Vec<Vec
             Effect::Goes(next) => part = next,
             Effect::Ends => {
                 fields.push(mem::replace(&mut field, Vec::new(alloc)))?;
-                part = Part::Begin;
+                part = FieldPart::Begin;
             }
         }
     }

@@ -24,6 +24,6 @@ mod row;
 mod rows;
 
 pub use columns::{Column, Columns, Notation};
-pub use fault::{HeaderFault, MovesFault, ReadFault, Word, WordReason};
+pub use fault::{HeaderFault, MovesFault, MovesReadFault, Word, WordReason};
 pub use row::Row;
 pub use rows::{LONGEST_LINE, Rows};

@@ -112,7 +112,7 @@ fn turn_of(columns: &Columns, octets: Option<&[u8]>) -> Result<u16, Word>
 
 /// The numbers of a row.
 #[derive(Clone, Copy, Debug, PartialEq, Eq)]
-pub(crate) struct Numbers {
+pub(crate) struct RowNumbers {
     /// The moment, of the file's own clock.
     pub(crate) at: u64,
     /// The place.
@@ -130,7 +130,7 @@ pub(crate) fn numbers_of(
     octets: &[u8],
     bounds: &[Bound],
     before: u64,
-) -> Result<Numbers, Word>
+) -> Result<RowNumbers, Word>
     ensures ok { IfOk result (AreNumbers columns.now (cut octets.now bounds.now) before) }
     ensures ranges { IfOk result (λ numbers. IsSpeed numbers.speed
         × (numbers.heading < 3600) × (numbers.at ≤ 2 ^ 62)) }
@@ -152,7 +152,7 @@ pub(crate) fn numbers_of(
     )?;
     let speed = speed_of(columns, optional_field(octets, bounds, columns.speed))?;
     let turn = turn_of(columns, optional_field(octets, bounds, columns.heading))?;
-    Ok(Numbers {
+    Ok(RowNumbers {
         at,
         place,
         speed,

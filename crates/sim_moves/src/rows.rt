@@ -5,8 +5,8 @@ ghost use Rattle.sim_moves.specs.Fields.{cut};
 ghost use Rattle.its_words.specs.Ids.{IsId};
 ghost use Rattle.sim_moves.specs.Rows.{IsRow, IsRowBetween, ReachesBetween, ReachesRow, field_at};
 
-use crate::columns::{Column, Columns, Found, Notation, columns_of, find, names_none};
-use crate::fault::{HeaderFault, LineFault, MovesFault, ReadFault, Word};
+use crate::columns::{Column, Columns, Notation, Occurrence, columns_of, find, names_none};
+use crate::fault::{HeaderFault, MovesFault, MovesLineFault, MovesReadFault, Word};
 use crate::fields::{Bound, find_bounds, join, split};
 use crate::row::{Row, field, numbers_of};
 use cmd_text::lines::GZIP;
@@ -51,7 +51,7 @@ enum State {
 
 /// What a line gives.
 #[derive(Drop)]
-enum Reached {
+enum LineContent {
     /// A row.
     Row(Row),
     /// A line without a row: it is skipped.
@@ -149,16 +149,16 @@ impl<R: BufRead + Drop> Rows<R> {
     {
         for _ in 0..u64::MAX {
             match self.read_one()? {
-                Reached::Row(row) => return Ok(Some(row)),
-                Reached::Passed => {}
-                Reached::End => return Ok(None),
+                LineContent::Row(row) => return Ok(Some(row)),
+                LineContent::Passed => {}
+                LineContent::End => return Ok(None),
             }
         }
         Ok(None)
     }
 
     /// Reads a line.
-    fn read_one(&mut self) -> Result<Reached, MovesFault>
+    fn read_one(&mut self) -> Result<LineContent, MovesFault>
         ensures begin { self.new.begin ≡ self.old.begin }
         ensures row { IfOk result ReachesRow }
         ensures before { self.old.before ≤ self.new.before }
@@ -166,7 +166,7 @@ impl<R: BufRead + Drop> Rows<R> {
             (ReachesBetween self.old.begin self.old.before self.new.before) }
     {
         if !read_line(&mut self.reader, &mut self.line)? {
-            return Ok(Reached::End);
+            return Ok(LineContent::End);
         }
         self.number = self.number.saturating_add(1);
         match self.row_of_line() {
@@ -176,7 +176,7 @@ impl<R: BufRead + Drop> Rows<R> {
     }
 
     /// The row of the line that was read.
-    fn row_of_line(&mut self) -> Result<Reached, LineFault>
+    fn row_of_line(&mut self) -> Result<LineContent, MovesLineFault>
         ensures begin { self.new.begin ≡ self.old.begin }
         ensures row { IfOk result ReachesRow }
         ensures before { self.old.before ≤ self.new.before }
@@ -185,7 +185,7 @@ impl<R: BufRead + Drop> Rows<R> {
     {
         let octets = trimmed(&self.line)?;
         if octets.is_empty() {
-            return Ok(Reached::Passed);
+            return Ok(LineContent::Passed);
         }
         if find_bounds(self.separator, octets, &mut self.bounds)? {
             return row_of(
@@ -219,23 +219,23 @@ fn row_of(
     before: &mut u64,
     octets: &[u8],
     bounds: &[Bound],
-) -> Result<Reached, LineFault>
+) -> Result<LineContent, MovesLineFault>
     ensures row { IfOk result ReachesRow }
     ensures before { before.old ≤ before.new }
     ensures order { IfOk result (ReachesBetween begin before.old before.new) }
 {
     if is_passed_over(columns, octets, bounds) {
-        return Ok(Reached::Passed);
+        return Ok(LineContent::Passed);
     }
     let numbers = match numbers_of(columns, octets, bounds, *before) {
         Ok(numbers) => numbers,
-        Err(word) => return Err(LineFault::Refused(word)),
+        Err(word) => return Err(MovesLineFault::Refused(word)),
     };
     *before = numbers.at;
     if numbers.at < begin {
-        return Ok(Reached::Passed);
+        return Ok(LineContent::Passed);
     }
-    Ok(Reached::Row(Row {
+    Ok(LineContent::Row(Row {
         moment: numbers.at - begin,
         id: id_of(alloc, columns, octets, bounds)?,
         place: numbers.place,
@@ -250,7 +250,7 @@ fn id_of(
     columns: &Columns,
     octets: &[u8],
     bounds: &[Bound],
-) -> Result<String, LineFault>
+) -> Result<String, MovesLineFault>
     requires { IsId (field_at (cut octets.now bounds.now) columns.now.id) }
     ensures { IfOk result (λ id.
         string_bytes id ≡ field_at (cut octets.now bounds.now) columns.now.id) }
@@ -284,28 +284,28 @@ fn read_line<R: BufRead>(reader: &mut Take<R>, line: &mut Vec<u8>) -> Result<boo
     match reader.read_until(b'\n', line) {
         Ok(count) => Ok(count > 0),
         Err(error) if error.kind() == io::ErrorKind::OutOfMemory => Err(MovesFault::NoMemory),
-        Err(error) => Err(MovesFault::Read(ReadFault::of(&error))),
+        Err(error) => Err(MovesFault::Read(MovesReadFault::of(&error))),
     }
 }
 
 /// A line without its line feed and the carriage return before that.
-fn trimmed(line: &[u8]) -> Result<&[u8], LineFault> {
+fn trimmed(line: &[u8]) -> Result<&[u8], MovesLineFault> {
     let octets = line.strip_suffix(b"\n").unwrap_or(line);
     if octets.len() > LONGEST_LINE {
-        return Err(LineFault::Refused(Word::Length));
+        return Err(MovesLineFault::Refused(Word::Length));
     }
     Ok(octets.strip_suffix(b"\r").unwrap_or(octets))
 }
 
 /// The separator and the columns of a first line.
-fn header_of(alloc: Global, line: &[u8]) -> Result<(u8, Columns), LineFault> {
+fn header_of(alloc: Global, line: &[u8]) -> Result<(u8, Columns), MovesLineFault> {
     let octets = trimmed(line)?;
     let octets = octets.strip_prefix(BYTE_ORDER_MARK).unwrap_or(octets);
     let separator = if octets.contains(&b';') { b';' } else { b',' };
     let names = split(alloc, separator, octets)?;
     match columns_of(&names) {
         Some(columns) => Ok((separator, columns)),
-        None => Err(LineFault::Refused(Word::Header(header_fault(octets, &names)))),
+        None => Err(MovesLineFault::Refused(Word::Header(header_fault(octets, &names)))),
     }
 }
 
@@ -330,7 +330,7 @@ fn header_fault(octets: &[u8], names: &[Vec<u8>]) -> HeaderFault {
 fn fault_in(names: &[Vec<u8>], notation: Notation) -> HeaderFault {
     let needed = [Column::At, Column::Id, Column::Lat, Column::Lon];
     let missing = needed.iter().find(|column| {
-        matches!(find(names, column.word(notation)), Found::Nowhere)
+        matches!(find(names, column.word(notation)), Occurrence::Nowhere)
     });
     match missing {
         Some(column) => HeaderFault::Missing(notation, *column),
@@ -348,7 +348,7 @@ fn twice_in(names: &[Vec<u8>], notation: Notation) -> Column {
         Column::Speed,
     ];
     let twice = others.iter().find(|column| {
-        matches!(find(names, column.word(notation)), Found::Twice)
+        matches!(find(names, column.word(notation)), Occurrence::Twice)
     });
     match twice {
         Some(column) => *column,

@@ -1,7 +1,7 @@
 use Rattle.std.proofs.Common.{◌≡◌, ◌≢◌, ◌+◌, List, ℕ, Some, subst, sym, ◌∙◌, arith}
 use Rattle.std.specs.Prelude.{slice_get}
 use Rattle.sim_moves.specs.Columns.{IsFoundBelow, texts}
-use Rattle.sim_moves.specs.declared.columns.Found.{Found}
+use Rattle.sim_moves.specs.declared.columns.Occurrence.{Occurrence}
 use Rattle.sim_moves.proofs.Names.{text_at, none_then, found_more}
 use Rattle.sim_moves.proofs.columns.find.Goals as goal
 use Rattle.sim_moves.proofs.columns.find.Goals.{then-is_named+in-Nowhere, else-is_named}
@@ -18,9 +18,9 @@ loop-place-preserved c =
       | then-is_named+in-Nowhere w ↦
           let same : name ≡ c.args.word.now =
           sym c.deref.ensures.value ∙ c.is_named.ensures.0 w.if-is_named.true in
-          subst (λ (f : Found). IsFoundBelow (n + 1) names c.args.word.now f) (sym w.found-is)
+          subst (λ (f : Occurrence). IsFoundBelow (n + 1) names c.args.word.now f) (sym w.found-is)
           (none_then names c.args.word.now name n here same
-          (subst (λ (f : Found). IsFoundBelow n names c.args.word.now f) w.in-Nowhere.is
+          (subst (λ (f : Occurrence). IsFoundBelow n names c.args.word.now f) w.in-Nowhere.is
           c.loop-place.invariant))
       | else-is_named w ↦
           let other : name ≢ c.args.word.now =
@@ -31,7 +31,7 @@ loop-place-preserved c =
             c.is_named.ensures.1,
             w.if-is_named.false,
           ) in
-          subst (λ (f : Found). IsFoundBelow (n + 1) names c.args.word.now f) (sym w.found-is)
+          subst (λ (f : Occurrence). IsFoundBelow (n + 1) names c.args.word.now f) (sym w.found-is)
           (found_more names c.args.word.now name n c.loop-place.found here other
           c.loop-place.invariant)
     ]
