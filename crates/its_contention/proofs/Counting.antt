@@ -1,16 +1,15 @@
 -- Each frame that began to wait is counted once when it leaves.
-use Rattle.std.proofs.Common.{◌≡◌, ◌≤◌, ◌<◌, ◌+◌, ◌-◌, ◌^◌, ℕ, Bool, true, false, not, cond}
-use Rattle.std.proofs.Common.{List, [], ◌∷◌, ◌++◌, length, map, filter, remove, min, arith, refl, sym}
-use Rattle.std.proofs.Common.{ap, ◌∙◌, subst, Option, Some, None, is_some}
+use Rattle.std.proofs.Common.{◌≡◌, ◌<◌, ◌+◌, ◌-◌, ◌^◌, ℕ, Bool, true, false, not, cond}
+use Rattle.std.proofs.Common.{List, [], ◌∷◌, ◌++◌, length, map, filter, remove, min, arith, refl}
+use Rattle.std.proofs.Common.{ap, ◌∙◌, Option, Some, None, is_some}
 use Rattle.std.proofs.lemmas.Bool.{false≢true}
 use Rattle.std.proofs.lemmas.List.Edits.{length-remove}
 use Rattle.std.proofs.lemmas.Option.{slice_get_within}
 use Rattle.std.specs.Prelude.{slice_get, nat_le}
 use Rattle.std.specs.Option.{option_map}
 use Rattle.its_model.specs.Contention.{ContentionRule, HeldFrame, after_copy, after_due, cancelled_by}
-use Rattle.its_model.specs.Contention.{counted, first_due, frame_at, kept_at, place_due, stays, without}
-use Rattle.its_contention.specs.Buffer.{Buffer, empty, after_drop, after_hearing, after_late}
-use Rattle.its_contention.specs.Buffer.{after_release, with_frame}
+use Rattle.its_model.specs.Contention.{counted, first_due, frame_at, place_due, stays, without}
+use Rattle.its_contention.specs.Buffer.{Buffer, empty, after_hearing, after_late, with_frame}
 use Rattle.its_contention.specs.Counted.{AreCounted, BufferCall, after_call, after_calls}
 
 -- the two parts of a list

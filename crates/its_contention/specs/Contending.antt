@@ -1,5 +1,5 @@
 -- What a station that contends does with a frame that it would send, and with one that came.
-use Rattle.std.specs.Prelude.{ℕ, Bool, true, false, List, Option, Some, None}
+use Rattle.std.specs.Prelude.{ℕ, Bool, true, false, List, Some}
 use Rattle.its_model.specs.Packet.{Transmission}
 use Rattle.its_model.specs.Station.{StationModel}
 use Rattle.its_model.specs.Contention.{Fate, fate, contends_for}
@@ -7,10 +7,6 @@ use Rattle.its_linkframe.specs.Copies.{is_copy}
 use Rattle.its_contention.specs.Buffer.{Buffer, with_frame, with_full, after_hearing}
 use Rattle.its_contention.specs.Waiting.{Waiting}
 use Rattle.its_contention.specs.declared.fate.RelayFate.{RelayFate}
-
--- the second frame is the first, sent to all by another station than this one
-abbrev pub is_copy_of : ℕ → Waiting → Waiting → Bool
-is_copy_of own held heard = is_copy own held.octets heard.octets
 
 -- after an acceptance, by whether its frame contends, and its fate: one that contends goes at once
 -- if no place is free, and that is counted
