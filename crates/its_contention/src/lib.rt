@@ -3,35 +3,42 @@
 //!
 //! A station that contends doesn't send the frame of a GBC inside its area at once. It holds it for
 //! `ContentionRule::wait`, and drops it if enough other stations send the same frame in that time.
-//! Nothing that ships contends so far: a caller puts these parts behind a `Station`.
+//! `Contention` does this for a `Station`. Nothing that ships contends so far. `HeldFrames` holds
+//! frames of any type, for other callers.
 //!
 //! ```
 //! let rule = ContentionRule::new(1, 100, 1000, 2).ok_or("not in range")?;
-//! let mut held = HeldFrames::new(alloc, rule)?;
+//! let mut contention = Contention::new(alloc, rule)?;
 //!
-//! // A frame that the station would send, of a GBC whose area holds the station.
-//! let sender = sender_place(&station, now, view.from);
-//! held.hold(frame, now + u64::from(rule.wait(own_place, sender, own_mid, number)));
+//! match station.receive_frame(now, &view)? {
+//!     Outcome::Accepted { sent: Some(octets), .. } => {
+//!         let frame = WaitingFrame::new(octets, view.packet.vector().address(), number, known);
+//!         if let RelayFate::Goes(frame) = contention.contend(now, &station, &view, frame) {
+//!             send(frame.octets());
+//!         }
+//!     }
+//!     Outcome::Ignored(Why::Duplicate) => {
+//!         contention.hear(octets, view.from, station.address().mid());
+//!     }
+//!     _ => {}
+//! }
 //!
-//! // A duplicate: it may cancel frames that wait.
-//! held.hear(view.from, |waiting| is_copy(waiting.as_slice(), octets, own_mid));
-//!
-//! // At `held.next_due()`:
-//! held.drop_late(now);
-//! while let Some(frame) = held.take_due(now) {
-//!     send(frame);
+//! // At `contention.next_due()`:
+//! contention.drop_late(now);
+//! while let Some(frame) = contention.take_due(now) {
+//!     send(frame.octets());
 //! }
 //! ```
 //!
 //! - **A copy** is the very frame that waits, sent to all by another station:
 //!   `its_linkframe::is_copy`. Annex F.3 has any copy of the packet cancel.
-//! - **Memory** is taken by `HeldFrames::new` alone: places for 64 frames.
+//! - **Memory** is taken by `new` alone: places for 64 frames.
 //!
 //! # What is proved
 //!
 //! The clauses hold for every rule, every buffer, every time and all positions. The conditions:
-//! there is room for a frame that is held (`has_room`), and a time for `sender_place` is at most
-//! 2^62 ms.
+//! there is room for a frame that is held (`HeldFrames::hold`), and a time for `sender_place` is at
+//! most 2^62 ms.
 //!
 //! - **The rule** has its values in range by its type (`IsRule`), and `new` refuses exactly the
 //!   others.
@@ -42,21 +49,32 @@
 //!   written (`specs/Buffer.antt`). For `hear` that holds with any test that `is_copy` computes of
 //!   the frames that wait (`AreTested`).
 //!
+//! - **The fate** of an accepted packet's frame (`contend`) is the one of the written rule (`fate`):
+//!   a GBC's waits inside its area if fewer than 64 frames do, and others go at once. Only a copy
+//!   of a frame cancels it (`hear`, `is_copy`).
+//!
 //! # Only tested
 //!
-//! - `test_stations::contention`: a station with these parts behind it, row by row; that calls
-//!   succeed if memory is there.
+//! - `test_stations::contention`: a station with a `Contention`, row by row; that calls succeed if
+//!   memory is there.
 #![tactic(auto)]
 
 mod buffer;
+mod contention;
 mod counts;
 mod due;
+mod fate;
 mod held;
+pub mod laws;
 mod place;
 mod rule;
 mod senders;
+mod waiting;
 
 pub use buffer::HeldFrames;
+pub use contention::Contention;
 pub use counts::ContentionCounts;
+pub use fate::RelayFate;
 pub use place::sender_place;
 pub use rule::ContentionRule;
+pub use waiting::WaitingFrame;

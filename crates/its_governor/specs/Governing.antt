@@ -19,7 +19,7 @@ use Rattle.its_governor.specs.Memory.{MemoryState, is_held, end_of_life, with_pa
 use Rattle.its_governor.specs.declared.rate.Rate.{Rate}
 use Rattle.its_governor.specs.declared.receiver.Receiver.{Receiver}
 use Rattle.its_governor.specs.Shares.{ShareState, with_frame}
-use Rattle.its_governor.specs.Pressure.{is_pressed, has_share}
+use Rattle.its_governor.specs.Pressure.{is_pressed, has_share, has_share_of}
 
 -- ---- the limits
 
@@ -84,6 +84,17 @@ has_room_for g r now t =
 -- whether it may be forwarded
 abbrev pub may_forward : Governor → Receiver → ℕ → Transmission → Bool
 may_forward g r now t = not (is_echo g.delivered now t) && has_room_for g r now t
+
+-- whether nothing but the buckets can withhold it: it was not delivered before, and it has no more
+-- hops left than the greatest
+abbrev pub admits : Governor → ℕ → Transmission → Bool
+admits g now t = not (is_echo g.delivered now t) && nat_le t.hops_left g.hop_cap
+
+-- whether the buckets have room for a frame of a packet from this source, with this number
+abbrev pub has_room_of : Governor → Receiver → ℕ → ℕ → Option ℕ → Bool
+has_room_of g r now source number =
+    room_in g.forward now && source_room g.sources source now
+    && has_share_of g.forward g.shares r now source number
 
 -- what passes of a packet, by whether the station delivers it and would forward it
 abbrev pub passed_of : Governor → Receiver → ℕ → Transmission → Bool → Bool → Passed

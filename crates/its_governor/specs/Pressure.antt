@@ -32,18 +32,30 @@ turn_of rate address t =
     turn_in (turns_of rate) address t.pdu.vector.address (number_in t.pdu.body)
 
 -- its turn has come: the bucket holds more frames than that
-abbrev pub is_its_turn : Bucket → ℕ → ℕ → Transmission → Bool
-is_its_turn b address now t = nat_lt (1000 * turn_of b.rate address t) (parts_at b now)
+abbrev pub is_turn_of : Bucket → ℕ → ℕ → ℕ → Option ℕ → Bool
+is_turn_of b address now source number =
+    nat_lt (1000 * turn_in (turns_of b.rate) address source number) (parts_at b now)
 
--- A frame keeps the rules of a bucket under pressure: the receiver knew its source before, the source
--- is within its share, and the frame's turn has come.
+abbrev pub is_its_turn : Bucket → ℕ → ℕ → Transmission → Bool
+is_its_turn b address now t =
+    is_turn_of b address now t.pdu.vector.address (number_in t.pdu.body)
+
+-- A frame of a source, with this sequence number, keeps the rules of a bucket under pressure: the
+-- receiver knew its source before, the source is within its share, and the frame's turn has come.
+abbrev pub may_share_of : Bucket → ShareState → Receiver → ℕ → ℕ → Option ℕ → Bool
+may_share_of b s r now source number =
+    r.knew_source && is_within_share b.rate s.frames source now
+    && is_turn_of b r.address now source number
+
 abbrev pub may_share : Bucket → ShareState → Receiver → ℕ → Transmission → Bool
-may_share b s r now t =
-    r.knew_source && is_within_share b.rate s.frames t.pdu.vector.address now
-    && is_its_turn b r.address now t
+may_share b s r now t = may_share_of b s r now t.pdu.vector.address (number_in t.pdu.body)
 
 -- a frame keeps the rules, or there is no pressure
+abbrev pub has_share_of : Option Bucket → Option ShareState → Receiver → ℕ → ℕ → Option ℕ → Bool
+has_share_of None s r now source number = true
+has_share_of (Some b) None r now source number = true
+has_share_of (Some b) (Some s) r now source number =
+    not (is_low b now) || may_share_of b s r now source number
+
 abbrev pub has_share : Option Bucket → Option ShareState → Receiver → ℕ → Transmission → Bool
-has_share None s r now t = true
-has_share (Some b) None r now t = true
-has_share (Some b) (Some s) r now t = not (is_low b now) || may_share b s r now t
+has_share b s r now t = has_share_of b s r now t.pdu.vector.address (number_in t.pdu.body)

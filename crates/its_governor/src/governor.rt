@@ -1,13 +1,16 @@
 //! What passes a governor.
 
-ghost use Rattle.std.specs.Prelude.{◌≡◌, Bool, true, false, IfOk, IsTrue, IsFalse, Option, None};
+ghost use Rattle.std.specs.Prelude.{◌≡◌, ◌&&◌, Bool, true, false, IfOk, IsTrue, IsFalse, Option};
+ghost use Rattle.std.specs.Prelude.{None};
+ghost use Rattle.its_model.specs.Packet.{number_in};
 ghost use Rattle.its_headers.specs.Seen.{Seen};
 ghost use Rattle.its_governor.specs.Governing.{IsNewGovernor, room_in, draw_from, source_room};
 ghost use Rattle.its_governor.specs.Governing.{source_drawn, is_echo, may_forward, passed_of};
 ghost use Rattle.its_governor.specs.Governing.{after_forwarding, after_delivery, after_judging};
 ghost use Rattle.its_governor.specs.Governing.{IsDraw, IsDrawOf, has_room_for, id_of};
 ghost use Rattle.its_governor.specs.Governing.{is_over_rate, after_refusal, after_sent};
-ghost use Rattle.its_governor.specs.Pressure.{is_pressed, has_share, may_share};
+ghost use Rattle.its_governor.specs.Governing.{admits, has_room_of};
+ghost use Rattle.its_governor.specs.Pressure.{is_pressed, has_share_of, may_share_of};
 
 use crate::bucket::{Bucket, turns_of};
 use crate::memory::{DeliveryMemory, PacketId};
@@ -151,6 +154,41 @@ impl Governor {
         }
     }
 
+    /// Whether nothing but the buckets can withhold a packet: it wasn't delivered before, and it has
+    /// no more hops left than the greatest. A frame that may wait before it is forwarded is judged by
+    /// this when its packet is accepted, and by `forward` when it is released. It takes nothing from
+    /// the buckets.
+    ///
+    /// - `split`: a packet may be forwarded if it is admitted and the buckets have room.
+    pub fn admits<'a, F: ReceivedFrame<'a>>(&self, now: u64, frame: &F) -> bool
+        ensures value { result ≡ admits self.now now (F.frame frame.now) }
+        ensures split { (r : Receiver) → may_forward self.now r now (F.frame frame.now)
+            ≡ (result && has_room_of self.now r now (F.frame frame.now).pdu.vector.address
+            (number_in (F.frame frame.now).pdu.body)) }
+    {
+        !self.is_echo(now, frame) && frame.hops_left() <= self.hop_cap
+    }
+
+    /// Judges a frame that waited and is to be sent at this time, by the source and the sequence
+    /// number of its packet: whether the buckets have room. Then it takes the frame out of them;
+    /// otherwise the frame is counted as suppressed.
+    pub fn forward(
+        &mut self,
+        now: u64,
+        receiver: &Receiver,
+        source: GnAddress,
+        number: Option<u16>,
+    ) -> bool
+        ensures passed { result ≡ has_room_of self.old receiver.now now source number }
+        ensures state { self.new ≡ after_forwarding self.old now source true result }
+        ensures room { IsDraw self.old.forward result now self.new.forward }
+        ensures source { IsDrawOf self.old.sources source result now self.new.sources }
+    {
+        let forwards = self.has_room_of(now, receiver, source, number);
+        self.note_forwarding(now, source, true, forwards);
+        forwards
+    }
+
     /// Whether the limits have room for a packet that is to be forwarded.
     fn has_room_for<'a, F: ReceivedFrame<'a>>(
         &self,
@@ -161,19 +199,38 @@ impl Governor {
         ensures { result ≡ has_room_for self.now receiver.now now (F.frame frame.now) }
     {
         frame.hops_left() <= self.hop_cap
-            && has_room(&self.forward, now)
-            && self.source_has_room(now, frame.vector().address())
-            && self.has_share(now, receiver, frame)
+            && self.has_room_of(now, receiver, frame.vector().address(), frame.number())
+    }
+
+    /// Whether the buckets have room for a frame of a packet from this source, with this number.
+    fn has_room_of(
+        &self,
+        now: u64,
+        receiver: &Receiver,
+        source: GnAddress,
+        number: Option<u16>,
+    ) -> bool
+        ensures { result ≡ has_room_of self.now receiver.now now source number }
+    {
+        has_room(&self.forward, now)
+            && self.source_has_room(now, source)
+            && self.has_share(now, receiver, source, number)
     }
 
     /// Whether a frame keeps the rules of a bucket under pressure, or there is no pressure.
-    fn has_share<'a, F: ReceivedFrame<'a>>(&self, now: u64, receiver: &Receiver, frame: &F) -> bool
-        ensures { result ≡ has_share self.now.forward self.now.shares receiver.now now
-            (F.frame frame.now) }
+    fn has_share(
+        &self,
+        now: u64,
+        receiver: &Receiver,
+        source: GnAddress,
+        number: Option<u16>,
+    ) -> bool
+        ensures { result ≡ has_share_of self.now.forward self.now.shares receiver.now now source
+            number }
     {
         match (&self.forward, &self.shares) {
             (Some(bucket), Some(shares)) => {
-                !bucket.is_low(now) || may_share(bucket, shares, now, receiver, frame)
+                !bucket.is_low(now) || may_share(bucket, shares, now, receiver, source, number)
             }
             _ => true,
         }
@@ -293,18 +350,18 @@ fn id_of<'a, F: ReceivedFrame<'a>>(frame: &F) -> Option<PacketId>
     }
 }
 
-/// Whether a frame keeps the rules of a bucket under pressure.
-fn may_share<'a, F: ReceivedFrame<'a>>(
+/// Whether a frame of a packet keeps the rules of a bucket under pressure.
+fn may_share(
     bucket: &Bucket,
     shares: &Shares,
     now: u64,
     receiver: &Receiver,
-    frame: &F,
+    source: GnAddress,
+    number: Option<u16>,
 ) -> bool
-    ensures { result ≡ may_share bucket.now shares.now receiver.now now (F.frame frame.now) }
+    ensures { result ≡ may_share_of bucket.now shares.now receiver.now now source number }
 {
-    let source = frame.vector().address();
-    let turn = receiver.turn_in(turns_of(bucket.rate()), source, frame.number());
+    let turn = receiver.turn_in(turns_of(bucket.rate()), source, number);
     receiver.knew_source
         && shares.is_within_share(bucket.rate(), source, now)
         && bucket.holds_more_than(turn, now)

@@ -10,7 +10,8 @@
 //! before, is within its share, and the frame's turn has come (`may_share`).
 //!
 //! A caller asks `judge` about each packet that its station accepted, and `is_over_rate` before each
-//! own packet. `its_unit` does so.
+//! own packet. A frame that may wait is asked about twice: `admits` when its packet is accepted, and
+//! `forward` when it is released. `its_unit` does so.
 //!
 //! - **The bound.** In every list of calls, at most `burst + per_second * t / 1000` frames are
 //!   forwarded in each stretch of `t` milliseconds (`laws`: `forwards_are_bounded`).

@@ -1,10 +1,8 @@
 //! A station that contends: the station, and the frames that it holds.
 
-use its_contention::{ContentionRule, HeldFrames, sender_place};
-use its_geometry::contains;
+use its_contention::{Contention, ContentionRule, RelayFate, WaitingFrame};
 use its_gnvalue::{GnAddress, Place};
-use its_headers::Kind;
-use its_linkframe::{FrameView, is_copy, read_frame};
+use its_linkframe::{FrameView, read_frame};
 use its_loctable::SortedTable;
 use its_station::{LAST_MOMENT, Outcome, Refused, Station, Why};
 use std::alloc::Global;
@@ -81,7 +79,7 @@ impl Reaction {
 #[derive(Drop)]
 pub(crate) struct Contender {
     pub(crate) station: Station<SortedTable>,
-    pub(crate) held: HeldFrames<Vec<u8>>,
+    pub(crate) held: Contention,
 }
 
 impl Contender {
@@ -100,7 +98,7 @@ impl Contender {
         let address = GnAddress::from_u64(SECOND).ok()?;
         let mut station = Station::new(alloc, address, place, 64, remember).ok()?;
         station.open(0, PORT).ok()?;
-        let held = HeldFrames::new(alloc, rule?).ok()?;
+        let held = Contention::new(alloc, rule?).ok()?;
         Some(Contender { station, held })
     }
 
@@ -121,11 +119,10 @@ impl Contender {
 
     /// Counts a frame at those of which it is a copy. Returns how many it cancels.
     fn hear(&mut self, octets: &[u8]) -> usize {
-        let own = self.station.address().mid();
         match read_frame(octets) {
             Ok(view) => self
                 .held
-                .hear(view.from, |held| is_copy(held.as_slice(), octets, own)),
+                .hear(octets, view.from, self.station.address().mid()),
             Err(_) => 0,
         }
     }
@@ -143,53 +140,18 @@ impl Contender {
             sent: None,
             due: None,
         };
-        let Some(frame) = sent else {
-            return reply;
-        };
-        let Some(due) = self.due_of(now, octets) else {
-            reply.sent = Some(frame);
-            return reply;
-        };
-        if !self.held.has_room() {
-            self.held.note_full();
-            reply.sent = Some(frame);
-            return reply;
+        if let (Some(frame), Ok(view)) = (sent, read_frame(octets)) {
+            let frame = waiting(frame, &view);
+            match self.held.contend(now, &self.station, &view, frame) {
+                RelayFate::Goes(frame) => reply.sent = Some(frame.into_octets()),
+                RelayFate::Waits(due) => reply.due = Some(due),
+            }
         }
-        self.held.hold(frame, due);
-        reply.due = Some(due);
         reply
     }
 
-    /// When a frame that is sent now is due, if it is one that waits.
-    fn due_of(&self, now: u64, octets: &[u8]) -> Option<u64> {
-        let Ok(view) = read_frame(octets) else {
-            return None;
-        };
-        if !self.is_inside(&view) {
-            return None;
-        }
-        Some(now.saturating_add(u64::from(self.wait(now, &view))))
-    }
-
-    /// Whether the packet of a frame is a geobroadcast whose area holds the station.
-    fn is_inside(&self, view: &FrameView<'_>) -> bool {
-        match (view.packet.kind(), view.packet.area()) {
-            (Kind::Gbc, Some(area)) => contains(&area, self.station.vector().place()),
-            _ => false,
-        }
-    }
-
-    /// How long the frame of a packet waits.
-    fn wait(&self, now: u64, view: &FrameView<'_>) -> u16 {
-        let own = self.station.vector().place();
-        let place = sender_place(&self.station, now.min(LAST_MOMENT), view.from);
-        let number = view.packet.number().unwrap_or(0);
-        let mid = self.station.address().mid();
-        self.held.rule().wait(own, place, mid, number)
-    }
-
     /// The frame that is due first at this time. Late ones are dropped.
-    pub(crate) fn release(&mut self, now: u64) -> Result<Option<Vec<u8>>, Refused> {
+    pub(crate) fn release(&mut self, now: u64) -> Result<Option<WaitingFrame>, Refused> {
         if now < self.station.clock() {
             return Err(Refused::MomentEarlier);
         }
@@ -203,7 +165,7 @@ impl Contender {
     /// Whether this very frame is released at this time.
     pub(crate) fn releases(&mut self, now: u64, octets: &[u8]) -> bool {
         match self.release(now) {
-            Ok(Some(frame)) => frame.as_slice() == octets,
+            Ok(Some(frame)) => frame.octets() == octets,
             _ => false,
         }
     }
@@ -229,4 +191,10 @@ impl Contender {
             Err(_) => false,
         }
     }
+}
+
+/// A frame that may wait, of a packet that came in this one.
+fn waiting(frame: Vec<u8>, view: &FrameView<'_>) -> WaitingFrame {
+    let packet = &view.packet;
+    WaitingFrame::new(frame, packet.vector().address(), packet.number(), true)
 }
