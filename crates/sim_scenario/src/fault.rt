@@ -5,10 +5,10 @@ ghost use Rattle.sim_scenario.specs.Documents.{IsPastToml};
 ghost use Rattle.sim_scenario.specs.Faults.{fault_of};
 ghost use Rattle.sim_scenario.specs.declared.fault.ScenarioFault.TheVariants.{OutOfMemory};
 
-use crate::found::Found;
+use crate::found::FoundValue;
 use crate::part::Part;
 use crate::position::TomlFault;
-use crate::reason::Reason;
+use crate::reason::FaultReason;
 use crate::unknown::{Misspelled, UnknownKey};
 use its_words::keys::{Key, KeyFault, Wrong};
 use its_world::WorldFault;
@@ -26,7 +26,7 @@ pub enum ScenarioFault {
     /// `station`, `event`, `every` or `expect` is no array of tables, or `air` or `moves` no table.
     /// With what stands there instead.
     #[error("scenario: {0}")]
-    Kind(Key, Option<Found>),
+    Kind(Key, Option<FoundValue>),
     /// `air` is missing, which the command needs.
     #[error("scenario: air")]
     NoAir,
@@ -35,7 +35,7 @@ pub enum ScenarioFault {
     TooManyStations,
     /// A key of a table is missing, of another kind or out of range. With its value.
     #[error("scenario: {0}: {1}")]
-    Key(Part, Key, Wrong, Option<Found>),
+    Key(Part, Key, Wrong, Option<FoundValue>),
     /// A key is missing, and one that is none of the words of its table may mean it.
     #[error("scenario: {0}")]
     Misspelled(Misspelled),
@@ -53,8 +53,8 @@ pub enum ScenarioFault {
 
 impl ScenarioFault {
     /// What was wrong, as a sentence.
-    pub fn reason(&self) -> Reason<'_> {
-        Reason(self)
+    pub fn reason(&self) -> FaultReason<'_> {
+        FaultReason(self)
     }
 
     /// Returns the scenario's fault for a key's fault in this part, whose table is given.
@@ -79,8 +79,8 @@ impl ScenarioFault {
         ensures { IsPastToml result }
     {
         let found = match key {
-            Key::Air | Key::Moves => Found::under(alloc, key, document),
-            _ => Found::under_no_array(alloc, key, document),
+            Key::Air | Key::Moves => FoundValue::under(alloc, key, document),
+            _ => FoundValue::under_no_array(alloc, key, document),
         };
         match found {
             Ok(found) => ScenarioFault::Kind(key, found),
@@ -112,10 +112,10 @@ fn found_under(
     key: Key,
     wrong: Wrong,
     table: &Table,
-) -> Result<Option<Found>, AllocError> {
+) -> Result<Option<FoundValue>, AllocError> {
     match (key, wrong) {
         (Key::Ports, Wrong::Value) => Ok(None),
-        _ => Found::under(alloc, key, table),
+        _ => FoundValue::under(alloc, key, table),
     }
 }
 

@@ -10,17 +10,17 @@ use toml::{Table, Value};
 /// A value of a scenario's document, as a message shows it: a text in quotation marks, cut after 40
 /// characters, an array or a table by its kind. It prints as `"wide"`, `20.5`, `a table`.
 #[derive(Debug, Drop, PartialEq, Eq)]
-pub struct Found(String);
+pub struct FoundValue(String);
 
-impl Found {
+impl FoundValue {
     /// Returns what is shown of the value under this key of a table. `None` for a missing key.
     pub(crate) fn under(
         alloc: Global,
         key: Key,
         table: &Table,
-    ) -> Result<Option<Found>, AllocError> {
+    ) -> Result<Option<FoundValue>, AllocError> {
         match value_of(table, key.word()) {
-            Some(value) => Ok(Some(Found::of(alloc, value)?)),
+            Some(value) => Ok(Some(FoundValue::of(alloc, value)?)),
             None => Ok(None),
         }
     }
@@ -30,16 +30,16 @@ impl Found {
         alloc: Global,
         key: Key,
         table: &Table,
-    ) -> Result<Option<Found>, AllocError> {
+    ) -> Result<Option<FoundValue>, AllocError> {
         match value_of(table, key.word()) {
             Some(Value::Array(_)) => Ok(None),
-            _ => Found::under(alloc, key, table),
+            _ => FoundValue::under(alloc, key, table),
         }
     }
 
     /// Returns what is shown of a value.
-    fn of(alloc: Global, value: &Value) -> Result<Found, AllocError> {
-        Ok(Found(match value {
+    fn of(alloc: Global, value: &Value) -> Result<FoundValue, AllocError> {
+        Ok(FoundValue(match value {
             Value::Array(_) => String::from_str(alloc, "an array")?,
             Value::Table(_) => String::from_str(alloc, "a table")?,
             Value::String(text) => format!(in alloc; "{}", Quoted(text.as_str()))?,
@@ -48,7 +48,7 @@ impl Found {
     }
 }
 
-impl fmt::Display for Found {
+impl fmt::Display for FoundValue {
     fn fmt<W: fmt::Write>(&self, f: &mut fmt::Formatter<W>) -> fmt::Result {
         f.write_str(self.0.as_str())
     }

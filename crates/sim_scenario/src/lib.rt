@@ -41,11 +41,11 @@ mod timeline;
 mod unknown;
 
 pub use fault::ScenarioFault;
-pub use found::Found;
+pub use found::FoundValue;
 pub use part::Part;
 pub use position::TomlFault;
 pub use reading::{AirTable, Reading};
-pub use reason::Reason;
+pub use reason::FaultReason;
 pub use scenario::{MOST_STATIONS, Scenario};
 pub use timeline::{AirTimeline, MovesTimeline, PlainTimeline, Timeline};
 pub use unknown::{Misspelled, Tip, UnknownKey};

@@ -1,16 +1,16 @@
 //! What was wrong with a scenario, as a sentence.
 
 use crate::fault::ScenarioFault;
-use crate::found::Found;
+use crate::found::FoundValue;
 use its_words::keys::{Key, NotOneOf, WrongOf, WrongValue};
 use std::fmt;
 
 /// The sentence of a scenario's fault, for a person: what was wrong and, in a text that is no TOML,
 /// where. Its place in the scenario is told by the fault itself.
 #[derive(Clone, Copy, Debug)]
-pub struct Reason<'a>(pub &'a ScenarioFault);
+pub struct FaultReason<'a>(pub &'a ScenarioFault);
 
-impl fmt::Display for Reason<'_> {
+impl fmt::Display for FaultReason<'_> {
     fn fmt<W: fmt::Write>(&self, f: &mut fmt::Formatter<W>) -> fmt::Result {
         match self.0 {
             ScenarioFault::NotToml(fault) => write!(f, "{fault}"),
@@ -37,7 +37,7 @@ impl fmt::Display for Reason<'_> {
 fn write_wrong<W: fmt::Write>(
     f: &mut fmt::Formatter<W>,
     wrong: WrongOf,
-    found: &Option<Found>,
+    found: &Option<FoundValue>,
 ) -> fmt::Result {
     let value = found.as_ref();
     write!(f, "{}", WrongValue { wrong, value })
@@ -47,7 +47,7 @@ fn write_wrong<W: fmt::Write>(
 fn write_kind<W: fmt::Write>(
     f: &mut fmt::Formatter<W>,
     key: Key,
-    found: Option<&Found>,
+    found: Option<&FoundValue>,
 ) -> fmt::Result {
     if let Some(found) = found {
         write!(f, "{found} is ")?;
