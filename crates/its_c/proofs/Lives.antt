@@ -23,7 +23,6 @@ use Rattle.its_unit.specs.Runs.{IsLawful, UnitCallAt, unit_run}
 use Rattle.its_unit.specs.Steps.{IsStepOf, IsSendOf, IsRefusedStep}
 use Rattle.its_unit.specs.declared.unsent.Unsent.{Unsent}
 use Rattle.its_unit.specs.declared.unsent.Unsent.TheVariants as unsent
-use Rattle.its_c.specs.Held.{counts_in}
 use Rattle.its_c.specs.Open.{HoldsUnit}
 use Rattle.its_c.specs.Status.{status_of, status_in, status_sent}
 use Rattle.its_c.specs.declared.handle.Geostation.{Geostation}
