@@ -5,3 +5,4 @@ pub mod Restarts
 pub mod Lookups
 pub mod Messages
 pub mod Sealed
+pub mod Lives

@@ -3,7 +3,6 @@ use Rattle.std.proofs.Common.{◌≡◌, ℕ, Some, None, Option, refl, sym, sub
 use mathlib.Core.Bool.{Bool-set}
 use Rattle.std.proofs.Math.Logic.{∥∥₁_map, ∥∥₁_elim}
 use Rattle.std.proofs.lemmas.Grind.{merely}
-use Rattle.std.proofs.lemmas.Option.{same_Some}
 use Rattle.std.specs.Prelude.{Result, Ok, Err, IsSome, IfOk, OnErr, Vec}
 use Rattle.its_lines.specs.Knowing.{Counted}
 use Rattle.its_lines.specs.Serving.{RepresentsCounted}
@@ -17,10 +16,7 @@ use Rattle.its_unit.specs.Steps.{IsStepOf, IsSendOf, IsSameUnit}
 use Rattle.its_unit.specs.declared.unsent.Unsent.{Unsent}
 use Rattle.its_unit.specs.declared.unsent.Unsent.TheVariants as unsent
 use Rattle.its_model.specs.Station.{StationModel}
-use Rattle.its_governor.specs.declared.rate.Limits.{Limits}
-use Rattle.its_governor.specs.Governing.{IsNewGovernor}
-use Rattle.its_unit.specs.Runs.{IsLawful}
-use Rattle.its_c.specs.Open.{HoldsNew, HoldsUnit, IsOpen}
+use Rattle.its_c.specs.Open.{HoldsUnit, IsOpen}
 
 -- of a unit that is held
 pub held_unit : (held : Option UnitState) (st : UnitState) (u : UnitModel)
@@ -149,14 +145,8 @@ counts_held count said held after old new was now is =
     option_map (count said) (option_map (λ (st : UnitState). st.counts) h)) was)
 
 -- a new unit that is held
-pub new_unit : (held : Option UnitState) (st : UnitState) (m : StationModel) (limits : Limits)
-    → held ≡ Some st → RepresentsStation st.station m → IsNewGovernor limits st.governor
-    → ((u : UnitModel) → IsNewGovernor limits u.governor → IsLawful limits u)
-    → HoldsNew held m limits
-new_unit held st m limits is rep new laws = record {
-  governor = st.governor;
-  limits_are = new;
-  holds = unit_held held st (record { station = m; governor = st.governor }) is
-      (record { station = rep; governor = refl });
-  lawful = laws (record { station = m; governor = st.governor }) new;
-}
+pub new_open : (held : Option UnitState) (st : UnitState) (m : StationModel) → held ≡ Some st
+    → RepresentsStation st.station m → IsOpen held
+new_open held st m is rep =
+    let u : UnitModel = record { station = m; governor = st.governor } in
+    is_open held u (unit_held held st u is (record { station = rep; governor = refl }))

@@ -1,10 +1,9 @@
 -- What a handle holds before and after a call.
-use Rattle.std.specs.Prelude.{◌≡◌, Option, Some}
+use Rattle.std.specs.Prelude.{◌≡◌, Option}
 use Rattle.std.specs.Option.{option_map}
 use Rattle.its_station.specs.State.{StationState}
 use Rattle.its_station.specs.declared.counts.Counts.{Counts}
 use Rattle.its_governor.specs.declared.governor.Governor.{Governor}
-use Rattle.its_unit.specs.Unit.{UnitState}
 use Rattle.its_c.specs.declared.handle.Geostation.{Geostation}
 
 -- the station, the limits and the counts of its unit

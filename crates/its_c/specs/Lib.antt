@@ -4,6 +4,7 @@ pub mod Counted
 pub mod Frames
 pub mod Held
 pub mod Handles
+pub mod Life
 pub mod Lookups
 pub mod Open
 pub mod Ownership

@@ -9,19 +9,19 @@ use Rattle.its_faults.specs.declared.secured.SecuredFault.{SecuredFault}
 use Rattle.its_faults.specs.declared.secured.SecuredFault.TheVariants as secured
 use Rattle.its_faults.specs.declared.packet.FaultKind.{FaultKind}
 use Rattle.its_faults.specs.declared.packet.FaultKind.TheVariants as kinds
-use Rattle.its_model.specs.Packet.{Transmission, number_in}
+use Rattle.its_model.specs.Packet.{number_in}
 use Rattle.its_model.specs.Calls as model
-use Rattle.its_model.specs.Calls.{Answer, Call}
+use Rattle.its_model.specs.Calls.{Call}
 use Rattle.its_headers.specs.Fields.{kind_of_body}
+use Rattle.its_headers.specs.Seen.{Seen}
+use Rattle.its_linkframe.specs.Secured.{seen_on_air}
 use Rattle.its_headers.specs.declared.kind.Kind.{Kind}
 use Rattle.its_headers.specs.declared.kind.Kind.TheVariants as kinds_of
 use Rattle.its_unit.specs.Unit.{UnitState, UnitStep}
-use Rattle.its_unit.specs.Steps.{IsStepOf, SaysPassed}
 use Rattle.its_unit.specs.declared.outcome.UnitOutcome.{UnitOutcome}
 use Rattle.its_unit.specs.declared.outcome.UnitOutcome.TheVariants as units
 use Rattle.its_unit.specs.declared.unsent.Unsent.{Unsent}
 use Rattle.its_station.specs.Receiving.{VerifiedCall}
-use Rattle.its_station.specs.Counting.{counted_done}
 use Rattle.its_station.specs.declared.counts.Counts.{Counts}
 use Rattle.its_station.specs.declared.outcome.Handed.{Handed}
 use Rattle.its_station.specs.declared.outcome.Outcome.{Outcome}
@@ -30,11 +30,9 @@ use Rattle.its_station.specs.declared.outcome.Why.{Why}
 use Rattle.its_station.specs.declared.outcome.Why.TheVariants as why
 use Rattle.its_station.specs.declared.refused.Refused.{Refused}
 use Rattle.its_station.specs.declared.refused.Refused.TheVariants as refused
-use Rattle.its_station.specs.Steps.{Says}
 use Rattle.its_c.specs.Held.{counts_in}
 use Rattle.its_c.specs.declared.handle.Geostation.{Geostation}
 use Rattle.its_c.specs.declared.layout.Reception.{Reception}
-use Rattle.its_c.specs.Status.{status_in}
 
 -- A call was made of the unit that the handle holds: C is told what the library answered, that answer
 -- and the unit afterwards are those of the step, and the answer is counted.
@@ -52,12 +50,6 @@ pub record IsTold {X E : Type 0} (IsDone : Result X E → UnitState → UnitStep
 -- nothing is shown but the status
 abbrev pub ShowsNothing : {X : Type 0} → X → Type 0
 ShowsNothing x = Unit {0}
-
--- a call that tells nothing but its status
-abbrev pub IsToldDone : Answer Transmission → ℤ → Geostation → Geostation → UnitStep → Type 0
-IsToldDone answer =
-    IsTold {X = Unit {0}} {E = Refused} (IsStepOf (SaysPassed (Says answer))) ShowsNothing
-    counted_done status_in
 
 -- the buffer begins with these octets, and so many they are
 abbrev pub Holds : ℕ → List ℕ → List ℕ → Type 0
@@ -111,15 +103,15 @@ abbrev pub shown_number : Option ℕ → ℕ
 shown_number None = 0
 shown_number (Some number) = number
 
--- what is told of each frame that isn't refused: of its packet the source, the kind, the sequence
--- number, the traffic class and the hops that are left
-abbrev pub reception_of : Transmission → Reception
-reception_of t = record nothing_received {
-  source = t.pdu.vector.address;
-  kind = kind_number (kind_of_body t.pdu.body);
-  number = shown_number (number_in t.pdu.body);
-  traffic_class = t.pdu.class;
-  hops_left = t.hops_left;
+-- what is told of each packet that isn't refused: the source, the kind, the sequence number, the
+-- traffic class and the hops that are left
+abbrev pub reception_of : Seen → Reception
+reception_of p = record nothing_received {
+  source = p.pdu.vector.address;
+  kind = kind_number (kind_of_body p.pdu.body);
+  number = shown_number (number_in p.pdu.body);
+  traffic_class = p.pdu.class;
+  hops_left = p.left;
 }
 
 -- a reception that tells no more than that, and why the frame is ignored
@@ -136,12 +128,12 @@ IsHeard r = r ≡ record nothing_received {
 -- what is told of octets that come to the model as this call, where they aren't refused
 abbrev pub reception_in : Call → Reception
 reception_in (model.Call.Own call) = nothing_received
-reception_in (model.Call.Receive t) = reception_of t
+reception_in (model.Call.Receive t) = reception_of (seen_on_air t)
 reception_in (model.Call.Junk fault) = nothing_received
 
 -- the same of a secured frame that came with its plain part
 abbrev pub verified_reception_in : VerifiedCall → Reception
-verified_reception_in (VerifiedCall.Came v) = reception_of v.frame
+verified_reception_in (VerifiedCall.Came v) = reception_of (seen_on_air v.frame)
 verified_reception_in (VerifiedCall.Faulty fault) = nothing_received
 
 -- the number of a reason

@@ -1,13 +1,9 @@
 //! The calls that tell C nothing but their status.
 
-ghost use Rattle.std.specs.Prelude.{◌≡◌, ◌≢◌, pos, not, nat_eq};
-ghost use Rattle.its_model.specs.Calls.{Moved, Opened, Closed, Restarted};
-ghost use Rattle.its_model.specs.Calls.OwnCall.{Move, Open, Close, Restart};
-ghost use Rattle.its_unit.specs.Unit.{UnitModel, unit_step, Own, MoveAt};
-ghost use Rattle.its_c.specs.Arguments.{AreForMove, place_of};
+ghost use Rattle.std.specs.Prelude.{◌≡◌, ◌≢◌, pos};
 ghost use Rattle.its_c.specs.Held.{IsSame, limits_in};
-ghost use Rattle.its_c.specs.Open.{HoldsUnit};
-ghost use Rattle.its_c.specs.Told.{IsToldDone};
+ghost use Rattle.its_c.specs.Life.{CallStep};
+ghost use Rattle.its_c.specs.Life.HandleCall.{Move, MoveAt, OpenPort, ClosePort, Restart};
 
 use crate::handle::Geostation;
 use crate::status::BAD_ARGUMENT;
@@ -29,12 +25,8 @@ pub extern "C" fn geostation_move(
     speed: i16,
     heading: u16,
 ) -> i32
-    ensures step { (u : UnitModel) → HoldsUnit s.old.held.unit u → result ≢ pos 20 →
-        IsToldDone Moved result s.old s.new (unit_step u now
-        (Own (Move (place_of latitude longitude) (not (nat_eq accurate 0)) speed heading))) }
-    ensures refused { result ≡ pos 20 → AreForMove latitude longitude speed → ⊥ }
-    ensures taken { result ≢ pos 20 → AreForMove latitude longitude speed }
-    ensures nothing { result ≡ pos 20 → s.new ≡ s.old }
+    ensures step { CallStep (Move now latitude longitude accurate speed heading result)
+        s.old s.new }
     ensures limits { limits_in s.new ≡ limits_in s.old }
     ensures unchanged { result ≢ pos 0 → IsSame s.old s.new }
     ensures memory { result ≢ pos 5 }
@@ -65,12 +57,8 @@ pub extern "C" fn geostation_move_at(
     speed: i16,
     heading: u16,
 ) -> i32
-    ensures step { (u : UnitModel) → HoldsUnit s.old.held.unit u → result ≢ pos 20 →
-        IsToldDone Moved result s.old s.new (unit_step u now (MoveAt timestamp
-        (place_of latitude longitude) (not (nat_eq accurate 0)) speed heading)) }
-    ensures refused { result ≡ pos 20 → AreForMove latitude longitude speed → ⊥ }
-    ensures taken { result ≢ pos 20 → AreForMove latitude longitude speed }
-    ensures nothing { result ≡ pos 20 → s.new ≡ s.old }
+    ensures step { CallStep (MoveAt now timestamp latitude longitude accurate speed heading result)
+        s.old s.new }
     ensures limits { limits_in s.new ≡ limits_in s.old }
     ensures unchanged { result ≢ pos 0 → IsSame s.old s.new }
     ensures memory { result ≢ pos 5 }
@@ -96,8 +84,7 @@ pub extern "C" fn geostation_open_port(
     now: u64,
     port: u16,
 ) -> i32
-    ensures step { (u : UnitModel) → HoldsUnit s.old.held.unit u →
-        IsToldDone Opened result s.old s.new (unit_step u now (Own (Open port))) }
+    ensures step { CallStep (OpenPort now port result) s.old s.new }
     ensures limits { limits_in s.new ≡ limits_in s.old }
     ensures unchanged { result ≢ pos 0 → IsSame s.old s.new }
     ensures memory { result ≢ pos 5 }
@@ -116,8 +103,7 @@ pub extern "C" fn geostation_close_port(
     now: u64,
     port: u16,
 ) -> i32
-    ensures step { (u : UnitModel) → HoldsUnit s.old.held.unit u →
-        IsToldDone Closed result s.old s.new (unit_step u now (Own (Close port))) }
+    ensures step { CallStep (ClosePort now port result) s.old s.new }
     ensures limits { limits_in s.new ≡ limits_in s.old }
     ensures unchanged { result ≢ pos 0 → IsSame s.old s.new }
     ensures memory { result ≢ pos 5 }
@@ -137,9 +123,7 @@ pub extern "C" fn geostation_restart(
     now: u64,
     number: u16,
 ) -> i32
-    ensures step { (u : UnitModel) → HoldsUnit s.old.held.unit u →
-        IsToldDone Restarted result s.old s.new
-        (unit_step u now (Own (Restart number))) }
+    ensures step { CallStep (Restart now number result) s.old s.new }
     ensures limits { limits_in s.new ≡ limits_in s.old }
     ensures unchanged { result ≢ pos 0 → IsSame s.old s.new }
     ensures memory { result ≢ pos 5 }

@@ -3,6 +3,8 @@
 ghost use Rattle.std.specs.Prelude.{◌≡◌, Some};
 ghost use Rattle.its_unit.specs.Unit.{UnitState};
 ghost use Rattle.its_c.specs.Counted.{counts_of, withheld_in};
+ghost use Rattle.its_c.specs.Life.{CallStep};
+ghost use Rattle.its_c.specs.Life.HandleCall.{Read};
 
 use crate::handle::Geostation;
 use crate::layout::{AllCounts, ToldCounts};
@@ -18,7 +20,7 @@ pub extern "C" fn geostation_counts(alloc: Global, s: &mut Geostation, counts: &
         counts_of counts.new.told ≡ st.counts }
     ensures withheld { (st : UnitState) → s.old.held.unit ≡ Some st →
         withheld_in counts.new ≡ st.governor.counts }
-    ensures unchanged { s.new.held.unit ≡ s.old.held.unit }
+    ensures unchanged { CallStep Read s.old s.new }
 {
     let unit = s.held.take(alloc);
     let told = told_counts(&unit.counts());

@@ -1,14 +1,12 @@
 //! Handles on the heap: how one is made, and how its memory is given back.
 
 ghost use Rattle.std.specs.Borrow.{sem};
-ghost use Rattle.std.specs.Prelude.{◌≡◌, ◌≢◌, ◌⊎◌, pos, IfSome, IsSomeAnd, None, Some};
-ghost use Rattle.its_station.specs.Counting.{nothing};
+ghost use Rattle.std.specs.Prelude.{◌≡◌, ◌≢◌, ◌⊎◌, pos, IfSome, IsSomeAnd, None};
 ghost use Rattle.its_c.specs.Arguments.{AreForNew, place_of};
 ghost use Rattle.its_c.specs.Configs.{IsForNew, HasSizes, HasLimits, station_for, station_at};
 ghost use Rattle.its_c.specs.Configs.{limits_of, usual_config};
 ghost use Rattle.its_c.specs.Handles.{handle_owns};
-ghost use Rattle.its_c.specs.Held.{counts_in};
-ghost use Rattle.its_c.specs.Open.{HoldsNew};
+ghost use Rattle.its_c.specs.Life.{HoldsNew};
 ghost use Rattle.its_model.specs.Station.{new_station};
 ghost use Rattle.its_c.specs.declared.handle.Geostation.{Geostation as Handle};
 
@@ -40,11 +38,9 @@ pub extern "C" fn geostation_new(
     capacity: u16,
     remember: u8,
 ) -> i32
-    ensures new { result ≡ pos 0 → IsSomeAnd out.new.handle (λ h. HoldsNew h.held.unit
+    ensures new { result ≡ pos 0 → IsSomeAnd out.new.handle (λ h. HoldsNew h
         (new_station address (place_of latitude longitude) capacity remember)
         (limits_of usual_config)) }
-    ensures counts { result ≡ pos 0 → IsSomeAnd out.new.handle (λ h.
-        counts_in h ≡ Some nothing) }
     ensures none { result ≢ pos 0 → out.new.handle ≡ None }
     ensures only { (result ≡ pos 0) ⊎ (result ≡ pos 5) ⊎ (result ≡ pos 20) }
     ensures refused { result ≡ pos 20 →
@@ -72,10 +68,8 @@ pub extern "C" fn geostation_new_from_config(
     out: &mut HandleOut,
     config: &Config,
 ) -> i32
-    ensures new { result ≡ pos 0 → IsSomeAnd out.new.handle (λ h. HoldsNew h.held.unit
+    ensures new { result ≡ pos 0 → IsSomeAnd out.new.handle (λ h. HoldsNew h
         (station_for config.now) (limits_of config.now)) }
-    ensures counts { result ≡ pos 0 → IsSomeAnd out.new.handle (λ h.
-        counts_in h ≡ Some nothing) }
     ensures none { result ≢ pos 0 → out.new.handle ≡ None }
     ensures only { (result ≡ pos 0) ⊎ (result ≡ pos 5) ⊎ (result ≡ pos 20) }
     ensures refused { result ≡ pos 20 → IsForNew config.now → ⊥ }
@@ -106,9 +100,8 @@ pub extern "C" fn geostation_new_from_config(
 fn make(alloc: Global, address: GnAddress, place: Place, config: &Config) -> Option<Box<Geostation>>
     requires sizes { HasSizes config.now }
     requires limits { HasLimits config.now }
-    ensures unit { IfSome result (λ h. HoldsNew h.value.held.unit
+    ensures unit { IfSome result (λ h. HoldsNew h.value
         (station_at address place config.now) (limits_of config.now)) }
-    ensures counts { IfSome result (λ h. counts_in h.value ≡ Some nothing) }
 {
     // The laws of a unit, for the proof alone.
     units_are_lawful();

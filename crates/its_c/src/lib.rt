@@ -22,10 +22,11 @@
 //!   that of its answer, and the unit afterwards is that of the step. The C caller finds the answer in
 //!   its memory: the bytes of the frame at the front of the buffer, and their number; why
 //!   a frame is ignored; port, info and position of a delivered payload; the fault of a bad frame.
-//! - **Errors.** `NO_ROOM` is returned if a buffer has fewer than 1468 octets (`room`). Otherwise
-//!   `BAD_ARGUMENT` is returned if and only if an argument is out of its range (`refused`,
-//!   `taken`); for a request for an area, if its numbers describe no area. In `geostation_seal` a
-//!   bad frame comes first (`argument`). `NO_MEMORY` is returned only if the step of the model
+//! - **Errors.** `NO_ROOM` is returned if a buffer has fewer than 1468 octets (`step`: `HasRoom`).
+//!   Otherwise `BAD_ARGUMENT` is returned if and only if an argument is out of its range (`step`:
+//!   `HasRanges`; in `geostation_new` `refused` and `taken`); for a request for an area, if its
+//!   numbers describe no area. In both cases the handle is unchanged (`step`). In `geostation_seal`
+//!   a bad frame comes first (`argument`). `NO_MEMORY` is returned only if the step of the model
 //!   needs memory (`memory`). If the status is not 0, the station is unchanged (`unchanged`) and
 //!   the lengths are 0 (`nothing`).
 //! - **Beacons.** `geostation_beacon_at` returns the earliest time at which the model's `tick` with
@@ -37,16 +38,20 @@
 //!   60 octets (`IsUnpadded`). For each frame that is not refused it writes what the packet says
 //!   (`reception_of`). The payload ends where the frame ends. `geostation_frame_length` returns the
 //!   length of the one prefix that is a frame, or 0 (`found`, `only`).
-//! - **Counts.** Each answer is counted as Rust's `Counts` does, from 0 (`counts`, and in `step`).
+//! - **Counts.** Each answer is counted as Rust's `Counts` does, from 0 (`new`, and in `step`).
 //!   `geostation_counts` writes them, and what the limits withheld (`withheld`).
 //! - **Limits.** The step of the unit is the station's, of whose answer that is kept which the limits let
 //!   pass. A call that sends an own packet, and did not fail with `NO_ROOM` or `BAD_ARGUMENT`, fails
 //!   with `OVER_RATE` if and only if its bucket has no room, at a time that the station accepts
 //!   (`over_rate`, `limit`).
-//! - **A handle's life.** Of the unit of a new handle all laws of a unit hold (`new`, `IsLawful` of
-//!   `its_unit`), in every list of calls: its station makes those very calls, what is forwarded and sent
-//!   is within the limits, and a message is delivered if no copy of its packet was. As each call of C
-//!   but a line of JSON is a step of that unit, they hold of every list of such calls of a handle.
+//! - **A handle's life** (`new`: `HoldsNew`). For every list of calls between `geostation_new` or
+//!   `geostation_new_from_config` and `geostation_free`, each status, struct and buffer is the one of a
+//!   run of the unit (`lives`, `IsRun`), and all laws of a unit hold of that run (`lawful`, `IsLawful` of
+//!   `its_unit`). The list says of each call what its export promises, by the same name (`CallStep`, in
+//!   `step`, or in `unchanged` if it only reads). The unit makes these calls, but those that are refused
+//!   for a buffer, an argument or want of memory. After each call the handle stands for the unit of the
+//!   run, so what a call reads is read of that unit. A line of JSON passes no limit, and is not among
+//!   these calls.
 //! - **JSON.** `geostation_handle_json` answers as the model's station does to the request
 //!   (`served`). It writes compact JSON, or nothing if none could be printed. Its memory is
 //!   allocated before the call is made. That its text says what was answered is tested.

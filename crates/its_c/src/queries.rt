@@ -12,6 +12,8 @@ ghost use Rattle.its_station.specs.State.{RepresentsStation};
 ghost use Rattle.its_c.specs.Lookups.{IsMoment, neighbour_above, source_at, shown_vector};
 ghost use Rattle.its_c.specs.Lookups.{no_vector, TellsFound};
 ghost use Rattle.its_unit.specs.Unit.{UnitModel};
+ghost use Rattle.its_c.specs.Life.{CallStep};
+ghost use Rattle.its_c.specs.Life.HandleCall.{Read};
 ghost use Rattle.its_c.specs.Open.{HoldsUnit};
 
 use crate::handle::Geostation;
@@ -37,7 +39,7 @@ pub extern "C" fn geostation_beacon_at(alloc: Global, s: &mut Geostation, jitter
         ((station_step u.station now (Own (Tick jitter))).answer ≡ Quiet)
         ⊎ ((station_step u.station now (Own (Tick jitter))).answer ≡ IsRefused MomentEarlier) }
     ensures never { 750 < jitter → result ≡ 2 ^ 64 - 1 }
-    ensures unchanged { s.new.held.unit ≡ s.old.held.unit }
+    ensures unchanged { CallStep Read s.old s.new }
 {
     let unit = s.held.take(alloc);
     let due = unit.station().beacon_at(jitter);
@@ -50,7 +52,7 @@ pub extern "C" fn geostation_beacon_at(alloc: Global, s: &mut Geostation, jitter
 pub extern "C" fn geostation_next_number(alloc: Global, s: &mut Geostation) -> u16
     ensures number { (u : UnitModel) → HoldsUnit s.old.held.unit u →
         result ≡ u.station.next_number }
-    ensures unchanged { s.new.held.unit ≡ s.old.held.unit }
+    ensures unchanged { CallStep Read s.old s.new }
 {
     let unit = s.held.take(alloc);
     let number = unit.station().next_number();
@@ -70,7 +72,7 @@ pub extern "C" fn geostation_next_beacon(alloc: Global, s: &mut Geostation) -> u
         now < result → now ≤ 2 ^ 62 →
         ((station_step u.station now (Own (Tick 0))).answer ≡ Quiet)
         ⊎ ((station_step u.station now (Own (Tick 0))).answer ≡ IsRefused MomentEarlier) }
-    ensures unchanged { s.new.held.unit ≡ s.old.held.unit }
+    ensures unchanged { CallStep Read s.old s.new }
 {
     let unit = s.held.take(alloc);
     let due = unit.station().next_beacon();
@@ -93,7 +95,7 @@ pub extern "C" fn geostation_neighbour(
         TellsFound (neighbour_above u.station now after) result vector.new }
     ensures none { (u : UnitModel) → HoldsUnit s.old.held.unit u → ¬ IsMoment u.station now →
         TellsFound None result vector.new }
-    ensures unchanged { s.new.held.unit ≡ s.old.held.unit }
+    ensures unchanged { CallStep Read s.old s.new }
 {
     let unit = s.held.take(alloc);
     let found = tell_neighbour(unit.station(), now, after, vector);
@@ -116,7 +118,7 @@ pub extern "C" fn geostation_look_up(
     ensures none { (u : UnitModel) → HoldsUnit s.old.held.unit u → ¬ IsMoment u.station now →
         TellsFound None result vector.new }
     ensures group { IsGroup address → TellsFound None result vector.new }
-    ensures unchanged { s.new.held.unit ≡ s.old.held.unit }
+    ensures unchanged { CallStep Read s.old s.new }
 {
     let unit = s.held.take(alloc);
     let found = tell_source(unit.station(), now, address, vector);

@@ -1,32 +1,28 @@
 //! The calls that take a frame, or a beginning of octets that is one.
 
-ghost use Rattle.std.specs.Prelude.{◌≡◌, ◌≢◌, ◌≤◌, ◌<◌, ℕ, pos, length, List};
-ghost use Rattle.its_linkframe.specs.Frames.{EncodesFrame, transmission_of};
+ghost use Rattle.std.specs.Prelude.{◌≡◌, ◌≢◌, ℕ, pos, List};
+ghost use Rattle.its_linkframe.specs.Frames.{EncodesFrame};
 ghost use Rattle.its_linkframe.specs.Padding.{IsFrameEnd, IsUnpadded};
-ghost use Rattle.its_linkframe.specs.Secured.{Verified, EncodesVerified, seen_on_air};
-ghost use Rattle.its_model.specs.Calls.{Call};
+ghost use Rattle.its_linkframe.specs.Secured.{Verified, EncodesVerified};
 ghost use Rattle.its_model.specs.Packet.{Transmission};
 ghost use Rattle.its_model.specs.Station as stations;
 ghost use Rattle.its_model.specs.Station.{verdict};
-ghost use Rattle.its_station.specs.Receiving.{IsFrameCall, TakesMemory, Tells, TellsBy};
-ghost use Rattle.its_station.specs.Receiving.{VerifiedCall, IsVerifiedCall, sealed_by};
-ghost use Rattle.its_unit.specs.Unit.{UnitModel, unit_step, Receive, ReceiveVerified};
-ghost use Rattle.its_unit.specs.Steps.{IsStepOf, TellsUnit, counted_received};
+ghost use Rattle.its_station.specs.Receiving.{TakesMemory};
+ghost use Rattle.its_unit.specs.Unit.{UnitModel};
 ghost use Rattle.its_c.specs.Held.{IsSame};
+ghost use Rattle.its_c.specs.Life.{CallStep};
+ghost use Rattle.its_c.specs.Life.HandleCall.{Receive, ReceiveVerified};
 ghost use Rattle.its_c.specs.Open.{HoldsUnit};
-ghost use Rattle.its_c.specs.Status.{status_in};
-ghost use Rattle.its_c.specs.Told.{IsTold, ShowsReceived, nothing_received, reception_in};
-ghost use Rattle.its_c.specs.Told.{reception_of, verified_reception_in};
+ghost use Rattle.its_c.specs.Told.{nothing_received, reception_of};
 
 use crate::handle::Geostation;
 use crate::layout::Reception;
 use crate::reading::kind_number;
 use crate::status::NO_ROOM;
 use crate::told::told_outcome;
-use its_headers::InnerPacketView;
+use its_headers::{Head, PacketView};
 use its_linkframe::{
-    FrameView, LONGEST_FRAME, LONGEST_SECURED_FRAME, Unpadded, VerifiedFrame, frame_length,
-    read_unpadded,
+    LONGEST_FRAME, LONGEST_SECURED_FRAME, Unpadded, VerifiedFrame, frame_length, read_unpadded,
 };
 use std::alloc::Global;
 
@@ -55,13 +51,8 @@ pub extern "C" fn geostation_receive(
     reception: &mut Reception,
     relay: &mut [u8],
 ) -> i32
-    ensures room { length relay.old < 1468 → (result ≡ pos 21) × (s.new ≡ s.old) }
-    ensures step { 1468 ≤ length relay.old → (w : List ℕ) × IsUnpadded frame.now w
-        × (call : Call) × IsFrameCall w call
-        × ((u : UnitModel) → HoldsUnit s.old.held.unit u →
-        IsTold (IsStepOf (TellsUnit Tells))
-        (ShowsReceived w (reception_in call) reception.new relay.new) counted_received status_in
-        result s.old s.new (unit_step u now (Receive call))) }
+    ensures step { CallStep (Receive now frame.now relay.old result reception.new relay.new)
+        s.old s.new }
     ensures unchanged { result ≢ pos 0 → IsSame s.old s.new }
     ensures nothing { result ≢ pos 0 → result ≢ pos 3 → reception.new ≡ nothing_received }
     ensures memory { result ≡ pos 5 → (w : List ℕ) × IsUnpadded frame.now w
@@ -79,7 +70,8 @@ pub extern "C" fn geostation_receive(
             let mut unit = s.held.take(alloc);
             let said = unit.receive_frame(now, &view);
             s.held.put(unit);
-            told_outcome(said, reception_of(&view), octets, reception, relay)
+            let heard = reception_of(&view.packet);
+            told_outcome(said, heard, octets, reception, relay)
         }
         Err(fault) => {
             let mut unit = s.held.take(alloc);
@@ -106,13 +98,9 @@ pub extern "C" fn geostation_receive_verified(
     reception: &mut Reception,
     relay: &mut [u8],
 ) -> i32
-    ensures room { length relay.old < 2310 → (result ≡ pos 21) × (s.new ≡ s.old) }
-    ensures step { 2310 ≤ length relay.old → (call : VerifiedCall)
-        × IsVerifiedCall frame.now plain.now call
-        × ((u : UnitModel) → HoldsUnit s.old.held.unit u →
-        IsTold (IsStepOf (TellsUnit (TellsBy (sealed_by call))))
-        (ShowsReceived plain.now (verified_reception_in call) reception.new relay.new)
-        counted_received status_in result s.old s.new (unit_step u now (ReceiveVerified call))) }
+    ensures step { CallStep
+        (ReceiveVerified now frame.now plain.now relay.old result reception.new relay.new)
+        s.old s.new }
     ensures unchanged { result ≢ pos 0 → IsSame s.old s.new }
     ensures nothing { result ≢ pos 0 → result ≢ pos 3 → reception.new ≡ nothing_received }
     ensures memory { result ≡ pos 5 → (v : Verified) × EncodesVerified v frame.now plain.now
@@ -129,7 +117,7 @@ pub extern "C" fn geostation_receive_verified(
             let mut unit = s.held.take(alloc);
             let said = unit.receive_frame(now, &verified);
             s.held.put(unit);
-            let heard = reception_of_packet(verified.packet());
+            let heard = reception_of(verified.packet());
             told_outcome(said, heard, plain, reception, relay)
         }
         Err(fault) => {
@@ -141,9 +129,10 @@ pub extern "C" fn geostation_receive_verified(
     }
 }
 
-/// What a reception says of each verified packet that isn't refused.
-fn reception_of_packet(packet: &InnerPacketView<'_>) -> Reception
-    ensures { (t : Transmission) → packet.now ≡ seen_on_air t → result ≡ reception_of t }
+/// What a reception says of each packet that isn't refused: one of a frame, or the verified one of a
+/// secured frame.
+fn reception_of<H: Head>(packet: &PacketView<'_, H>) -> Reception
+    ensures { result ≡ reception_of packet.now }
 {
     Reception {
         source: packet.vector().address().as_u64(),
@@ -151,21 +140,6 @@ fn reception_of_packet(packet: &InnerPacketView<'_>) -> Reception
         number: packet.number().unwrap_or(0),
         traffic_class: packet.class().octet(),
         hops_left: packet.left(),
-        ..Reception::NOTHING
-    }
-}
-
-/// What a reception says of each frame that isn't refused.
-fn reception_of(view: &FrameView<'_>) -> Reception
-    ensures { result ≡ reception_of (transmission_of view.now) }
-{
-    let packet = &view.packet;
-    Reception {
-        source: packet.vector().address().as_u64(),
-        kind: kind_number(packet.kind()),
-        number: packet.number().unwrap_or(0),
-        traffic_class: packet.class().octet(),
-        hops_left: packet.hops().left(),
         ..Reception::NOTHING
     }
 }

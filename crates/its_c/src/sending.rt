@@ -1,28 +1,24 @@
 //! The calls that send to all in reach: beacons and single-hop broadcasts, written into the
 //! caller's buffer.
 
-ghost use Rattle.std.specs.Prelude.{◌≡◌, ◌≢◌, ◌≤◌, ◌<◌, ◌+◌, pos, length, IsTrue, nat_le, None};
-ghost use Rattle.std.specs.Prelude.{Some};
+ghost use Rattle.std.specs.Prelude.{◌≡◌, ◌≢◌, ◌≤◌, ◌+◌, pos, length, IsTrue, nat_le, None};
 ghost use Rattle.its_governor.specs.Governing.{is_over_rate};
-ghost use Rattle.its_model.specs.Calls.OwnCall.{Tick, SendShb};
+ghost use Rattle.its_model.specs.Calls as model;
 ghost use Rattle.its_model.specs.Station.{first, moment_refusal, own_refusal};
-ghost use Rattle.its_station.specs.Counting.{counted_tick};
 ghost use Rattle.its_station.specs.Beside.{shb_refusal};
-ghost use Rattle.its_station.specs.Requests.{TellsTick, shb_request};
-ghost use Rattle.its_unit.specs.Unit.{UnitModel, unit_step, Own, SendShbFor};
-ghost use Rattle.its_unit.specs.Steps.{IsStepOf, IsSendOf, SaysPassed, counted_request};
+ghost use Rattle.its_station.specs.Requests.{shb_request};
+ghost use Rattle.its_unit.specs.Unit.{UnitModel};
 ghost use Rattle.its_c.specs.Arguments.{shb_asked};
 ghost use Rattle.its_c.specs.Held.{IsSame, limits_in, station_in};
+ghost use Rattle.its_c.specs.Life.{CallStep};
+ghost use Rattle.its_c.specs.Life.HandleCall.{Tick, SendShb, SendShbFor};
 ghost use Rattle.its_c.specs.Open.{HoldsUnit};
-ghost use Rattle.its_c.specs.Status.{status_in, status_sent};
-ghost use Rattle.its_c.specs.Told.{IsTold, ShowsBeacon, ShowsFrame};
 
 use crate::handle::Geostation;
 use crate::layout::ShbRequest;
 use crate::status::NO_ROOM;
 use crate::told::{told_beacon, told_frame};
 use its_gnvalue::{Lifetime, TrafficClass};
-use its_headers::Kind;
 use its_linkframe::LONGEST_FRAME;
 use its_station::ShbRequest as StationShbRequest;
 use std::alloc::Global;
@@ -39,16 +35,12 @@ pub extern "C" fn geostation_tick(
     frame: &mut [u8],
     written: &mut usize,
 ) -> i32
-    ensures room { length frame.old < 1468 → (result ≡ pos 21) × (s.new ≡ s.old) }
-    ensures step { (u : UnitModel) → 1468 ≤ length frame.old →
-        HoldsUnit s.old.held.unit u →
-        IsTold (IsStepOf (SaysPassed TellsTick)) (ShowsBeacon written.new frame.new) counted_tick
-        status_in result s.old s.new (unit_step u now (Own (Tick jitter))) }
+    ensures step { CallStep (Tick now jitter frame.old result written.new frame.new) s.old s.new }
     ensures limits { limits_in s.new ≡ limits_in s.old }
     ensures unchanged { result ≢ pos 0 → IsSame s.old s.new }
     ensures nothing { result ≢ pos 0 → written.new ≡ 0 }
     ensures memory { (u : UnitModel) → HoldsUnit s.old.held.unit u → result ≡ pos 5 →
-        (first (moment_refusal u.station now) (own_refusal u.station (Tick jitter)) ≡ None)
+        (first (moment_refusal u.station now) (own_refusal u.station (model.OwnCall.Tick jitter)) ≡ None)
         × IsTrue (nat_le (u.station.beacon_from + jitter) now) }
 {
     *written = 0;
@@ -74,12 +66,8 @@ pub extern "C" fn geostation_send_shb(
     frame: &mut [u8],
     written: &mut usize,
 ) -> i32
-    ensures room { length frame.old < 1468 → (result ≡ pos 21) × (s.new ≡ s.old) }
-    ensures step { (u : UnitModel) → 1468 ≤ length frame.old →
-        HoldsUnit s.old.held.unit u →
-        IsTold IsSendOf (ShowsFrame written.new frame.new) (counted_request Kind.Shb) status_sent
-        result s.old s.new
-        (unit_step u now (Own (SendShb (shb_asked request.now payload.now)))) }
+    ensures step { CallStep
+        (SendShb now request.now payload.now frame.old result written.new frame.new) s.old s.new }
     ensures over_rate { (u : UnitModel) → HoldsUnit s.old.held.unit u → result ≡ pos 22 →
         IsTrue (is_over_rate u.governor u.station.clock now) }
     ensures limit { (u : UnitModel) → 1468 ≤ length frame.old → HoldsUnit s.old.held.unit u →
@@ -89,7 +77,7 @@ pub extern "C" fn geostation_send_shb(
     ensures nothing { result ≢ pos 0 → written.new ≡ 0 }
     ensures memory { (u : UnitModel) → HoldsUnit s.old.held.unit u → result ≡ pos 5 →
         first (moment_refusal u.station now)
-        (own_refusal u.station (SendShb (shb_asked request.now payload.now))) ≡ None }
+        (own_refusal u.station (model.OwnCall.SendShb (shb_asked request.now payload.now))) ≡ None }
 {
     *written = 0;
     if frame.len() < LONGEST_FRAME {
@@ -115,12 +103,9 @@ pub extern "C" fn geostation_send_shb_with_lifetime(
     frame: &mut [u8],
     written: &mut usize,
 ) -> i32
-    ensures room { length frame.old < 1468 → (result ≡ pos 21) × (s.new ≡ s.old) }
-    ensures step { (u : UnitModel) → 1468 ≤ length frame.old →
-        HoldsUnit s.old.held.unit u →
-        IsTold IsSendOf (ShowsFrame written.new frame.new) (counted_request Kind.Shb) status_sent
-        result s.old s.new
-        (unit_step u now (SendShbFor lifetime (shb_asked request.now payload.now))) }
+    ensures step { CallStep
+        (SendShbFor now request.now lifetime payload.now frame.old result written.new frame.new)
+        s.old s.new }
     ensures over_rate { (u : UnitModel) → HoldsUnit s.old.held.unit u → result ≡ pos 22 →
         IsTrue (is_over_rate u.governor u.station.clock now) }
     ensures limit { (u : UnitModel) → 1468 ≤ length frame.old → HoldsUnit s.old.held.unit u →

@@ -1,21 +1,19 @@
 //! The calls that send to an area: geobroadcasts and geoanycasts, written into the caller's buffer.
 
-ghost use Rattle.std.specs.Prelude.{◌≡◌, ◌≢◌, ◌≤◌, ◌<◌, pos, length};
+ghost use Rattle.std.specs.Prelude.{◌≡◌, ◌≢◌, ◌≤◌, pos, length};
 ghost use Rattle.std.specs.Prelude.{None, Some, IfSome, IsTrue};
 ghost use Rattle.its_governor.specs.Governing.{is_over_rate};
 ghost use Rattle.its_geometry.specs.Area.{GeoArea};
-ghost use Rattle.its_headers.specs.declared.kind.Kind.TheVariants as kinds;
 ghost use Rattle.its_model.specs.Calls.{area_call};
 ghost use Rattle.its_model.specs.Calls.OwnCall.{SendGbc, SendGac};
 ghost use Rattle.its_model.specs.Station.{first, moment_refusal, own_refusal};
-ghost use Rattle.its_station.specs.Requests.{gbc_request, kind_cast, kind_of_cast};
-ghost use Rattle.its_unit.specs.Unit.{UnitModel, unit_step, Own};
-ghost use Rattle.its_unit.specs.Steps.{IsSendOf, counted_request};
+ghost use Rattle.its_station.specs.Requests.{gbc_request, kind_of_cast};
+ghost use Rattle.its_unit.specs.Unit.{UnitModel};
 ghost use Rattle.its_c.specs.Arguments.{IsAreaOf, gbc_asked};
 ghost use Rattle.its_c.specs.Held.{IsSame, station_in};
+ghost use Rattle.its_c.specs.Life.{CallStep};
+ghost use Rattle.its_c.specs.Life.HandleCall.{SendToArea};
 ghost use Rattle.its_c.specs.Open.{HoldsUnit};
-ghost use Rattle.its_c.specs.Status.{status_sent};
-ghost use Rattle.its_c.specs.Told.{IsTold, ShowsFrame};
 
 use crate::handle::Geostation;
 use crate::layout::AreaRequest;
@@ -41,15 +39,8 @@ pub extern "C" fn geostation_send_gbc(
     frame: &mut [u8],
     written: &mut usize,
 ) -> i32
-    ensures room { length frame.old < 1468 → (result ≡ pos 21) × (s.new ≡ s.old) }
-    ensures step { (u : UnitModel) → 1468 ≤ length frame.old →
-        HoldsUnit s.old.held.unit u → result ≢ pos 20 →
-        (area : GeoArea) × IsAreaOf request.now area ×
-        IsTold IsSendOf (ShowsFrame written.new frame.new) (counted_request kinds.Gbc) status_sent
-        result s.old s.new
-        (unit_step u now (Own (SendGbc (gbc_asked request.now area payload.now)))) }
-    ensures refused { result ≡ pos 20 → (area : GeoArea) → IsAreaOf request.now area → ⊥ }
-    ensures argument { result ≡ pos 20 → s.new ≡ s.old }
+    ensures step { CallStep (SendToArea now AreaCast.Geobroadcast request.now payload.now frame.old
+        result written.new frame.new) s.old s.new }
     ensures over_rate { (u : UnitModel) → HoldsUnit s.old.held.unit u → result ≡ pos 22 →
         IsTrue (is_over_rate u.governor u.station.clock now) }
     ensures limit { (u : UnitModel) → 1468 ≤ length frame.old → HoldsUnit s.old.held.unit u →
@@ -86,15 +77,8 @@ pub extern "C" fn geostation_send_gac(
     frame: &mut [u8],
     written: &mut usize,
 ) -> i32
-    ensures room { length frame.old < 1468 → (result ≡ pos 21) × (s.new ≡ s.old) }
-    ensures step { (u : UnitModel) → 1468 ≤ length frame.old →
-        HoldsUnit s.old.held.unit u → result ≢ pos 20 →
-        (area : GeoArea) × IsAreaOf request.now area ×
-        IsTold IsSendOf (ShowsFrame written.new frame.new) (counted_request kinds.Gac) status_sent
-        result s.old s.new
-        (unit_step u now (Own (SendGac (gbc_asked request.now area payload.now)))) }
-    ensures refused { result ≡ pos 20 → (area : GeoArea) → IsAreaOf request.now area → ⊥ }
-    ensures argument { result ≡ pos 20 → s.new ≡ s.old }
+    ensures step { CallStep (SendToArea now AreaCast.Geoanycast request.now payload.now frame.old
+        result written.new frame.new) s.old s.new }
     ensures over_rate { (u : UnitModel) → HoldsUnit s.old.held.unit u → result ≡ pos 22 →
         IsTrue (is_over_rate u.governor u.station.clock now) }
     ensures limit { (u : UnitModel) → 1468 ≤ length frame.old → HoldsUnit s.old.held.unit u →
@@ -131,16 +115,9 @@ fn send_to_area(
     frame: &mut [u8],
     written: &mut usize,
 ) -> i32
-    ensures room { length frame.old < 1468 → (result ≡ pos 21) × (s.new ≡ s.old) }
-    ensures step { (u : UnitModel) → 1468 ≤ length frame.old →
-        HoldsUnit s.old.held.unit u → result ≢ pos 20 →
-        (area : GeoArea) × IsAreaOf request.now area ×
-        IsTold IsSendOf (ShowsFrame written.new frame.new) (counted_request (kind_cast cast))
-        status_sent result s.old s.new
-        (unit_step u now
-        (Own (area_call (kind_of_cast cast) (gbc_asked request.now area payload.now)))) }
-    ensures refused { result ≡ pos 20 → (area : GeoArea) → IsAreaOf request.now area → ⊥ }
-    ensures argument { result ≡ pos 20 → s.new ≡ s.old }
+    ensures step { CallStep
+        (SendToArea now cast request.now payload.now frame.old result written.new frame.new)
+        s.old s.new }
     ensures over_rate { (u : UnitModel) → HoldsUnit s.old.held.unit u → result ≡ pos 22 →
         IsTrue (is_over_rate u.governor u.station.clock now) }
     ensures limit { (u : UnitModel) → 1468 ≤ length frame.old → HoldsUnit s.old.held.unit u →

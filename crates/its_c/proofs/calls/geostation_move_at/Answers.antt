@@ -19,3 +19,12 @@ invariant_of-s c =
           c.put.new.self.unit c.move_at-said.ensures.step c.move_at-said.ensures.unchanged
           (search rules) (search rules) c.args.s.now.represents;
     }
+
+pub returns-clause-step : goal.returns-clause-step
+returns-clause-step c =
+    record {
+      refused = search rules;
+      outside = search rules;
+      taken = search rules;
+      inside = λ fine. record { step = search rules; memory = search rules };
+    }

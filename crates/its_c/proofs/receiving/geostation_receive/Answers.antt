@@ -28,28 +28,37 @@ told_outcome-requires-clause-end c =
     c.receive_frame-said.ensures.payload
 
 pub returns-in-Ok-clause-step : goal.returns-in-Ok-clause-step
-returns-in-Ok-clause-step c = λ long.
+returns-in-Ok-clause-step c =
     let w = c.read_unpadded-frame.result.octets.now in
-    let said = c.receive_frame-said.result in (
-      w,
-      c.read_unpadded-frame.ensures.octets,
-      IsReceived (transmission_of c.in-Ok.view),
-      (rw c.in-Ok.is at c.read_unpadded-frame.ensures.found),
-      λ u holds.
-          let rep = held_unit c.args.s.now.held.unit c.deref_mut.result.now u (search rules) holds in
-          record {
-            said = said;
-            after = c.receive_frame-said.new.self;
-            held = search rules;
-            done = c.receive_frame-said.ensures.step u rep;
-            code = search rules;
-            shown = subst (λ (r : Reception). ShowsReceived w r c.told_outcome.new.reception
-                c.told_outcome.new.relay said) c.reception_of.ensures c.told_outcome.ensures.shown;
-            counts = counts_held counted_received said c.args.s.now.held.unit c.put.new.self.unit
-                c.deref_mut.result.now c.receive_frame-said.new.self (search rules) (search rules)
-                c.receive_frame-said.ensures.counts;
-          },
-    )
+    let said = c.receive_frame-said.result in
+    record {
+      short = search rules;
+      enough = λ long. (
+        w,
+        c.read_unpadded-frame.ensures.octets,
+        IsReceived (transmission_of c.in-Ok.view),
+        (rw c.in-Ok.is at c.read_unpadded-frame.ensures.found),
+        record {
+          step = λ u holds.
+              let rep = held_unit c.args.s.now.held.unit c.deref_mut.result.now u (search rules)
+              holds in
+              record {
+                said = said;
+                after = c.receive_frame-said.new.self;
+                held = search rules;
+                done = c.receive_frame-said.ensures.step u rep;
+                code = search rules;
+                shown = subst (λ (r : Reception). ShowsReceived w r c.told_outcome.new.reception
+                    c.told_outcome.new.relay said) c.reception_of-heard.ensures
+                    c.told_outcome.ensures.shown;
+                counts = counts_held counted_received said c.args.s.now.held.unit
+                    c.put.new.self.unit c.deref_mut.result.now c.receive_frame-said.new.self
+                    (search rules) (search rules) c.receive_frame-said.ensures.counts;
+              };
+          memory = search rules;
+        },
+      );
+    }
 
 pub returns-in-Ok-clause-memory : goal.returns-in-Ok-clause-memory
 returns-in-Ok-clause-memory c = λ is. (
@@ -72,25 +81,32 @@ invariant_of-s-in-Err c =
     }
 
 pub returns-in-Err-clause-step : goal.returns-in-Err-clause-step
-returns-in-Err-clause-step c = λ long.
-    let refused = c.refuse_frame-refused.result in (
-      c.read_unpadded-frame.result.octets.now,
-      c.read_unpadded-frame.ensures.octets,
-      Junk c.in-Err.fault,
-      (rw c.in-Err.is at c.read_unpadded-frame.ensures.fault),
-      λ u holds.
-          let rep = held_unit c.args.s.now.held.unit c.deref_mut-in-Err.result.now u (search rules)
-          holds in
-          record {
-            said = Err refused;
-            after = c.refuse_frame-refused.new.self;
-            held = search rules;
-            done = c.refuse_frame-refused.ensures.step u rep;
-            code = search rules;
-            shown = c.told_outcome-in-Err.ensures.shown;
-            counts = counts_held counted_received (Err refused) c.args.s.now.held.unit
-                c.put-in-Err.new.self.unit c.deref_mut-in-Err.result.now
-                c.refuse_frame-refused.new.self (search rules) (search rules)
-                c.refuse_frame-refused.ensures.counts;
-          },
-    )
+returns-in-Err-clause-step c =
+    let refused = c.refuse_frame-refused.result in
+    record {
+      short = search rules;
+      enough = λ long. (
+        c.read_unpadded-frame.result.octets.now,
+        c.read_unpadded-frame.ensures.octets,
+        Junk c.in-Err.fault,
+        (rw c.in-Err.is at c.read_unpadded-frame.ensures.fault),
+        record {
+          step = λ u holds.
+              let rep = held_unit c.args.s.now.held.unit c.deref_mut-in-Err.result.now u
+              (search rules) holds in
+              record {
+                said = Err refused;
+                after = c.refuse_frame-refused.new.self;
+                held = search rules;
+                done = c.refuse_frame-refused.ensures.step u rep;
+                code = search rules;
+                shown = c.told_outcome-in-Err.ensures.shown;
+                counts = counts_held counted_received (Err refused) c.args.s.now.held.unit
+                    c.put-in-Err.new.self.unit c.deref_mut-in-Err.result.now
+                    c.refuse_frame-refused.new.self (search rules) (search rules)
+                    c.refuse_frame-refused.ensures.counts;
+              };
+          memory = search rules;
+        },
+      );
+    }

@@ -1,11 +1,11 @@
-use Rattle.std.proofs.Common.{refl, rules, subst, sym, Err}
+use Rattle.std.proofs.Common.{refl, rules, subst, sym, ap, ◌∙◌, Err}
 use Rattle.its_model.specs.Calls.Call.{Receive as IsReceived}
 use Rattle.its_station.specs.Receiving.{EncodesSealed, TellsBy}
 use Rattle.its_station.specs.Receiving.VerifiedCall.{Came, Faulty}
 use Rattle.its_unit.specs.Unit.{unit_step, Receive}
 use Rattle.its_unit.specs.Steps.{TellsUnit, counted_received}
 use Rattle.its_unit.proofs.Passing.{verified_passed_end}
-use Rattle.its_c.specs.Told.{IsHeard, ShowsReceived}
+use Rattle.its_c.specs.Told.{IsHeard, ShowsReceived, reception_of}
 use Rattle.its_c.specs.declared.layout.Reception.{Reception}
 use Rattle.its_c.proofs.Opens.{counts_held, held_unit, same_open, stays_open}
 use Rattle.its_c.proofs.receiving.geostation_receive_verified.Goals as goal
@@ -24,8 +24,7 @@ invariant_of-s c =
 
 pub told_outcome-requires-clause-heard : goal.told_outcome-requires-clause-heard
 told_outcome-requires-clause-heard c =
-    subst (λ (r : Reception). IsHeard r)
-    (sym (c.reception_of_packet-heard.ensures c.in-Ok.verified.frame c.packet.ensures)) refl
+    subst (λ (r : Reception). IsHeard r) (sym c.reception_of-heard.ensures) refl
 
 pub told_outcome-requires-clause-end : goal.told_outcome-requires-clause-end
 told_outcome-requires-clause-end c =
@@ -33,28 +32,36 @@ told_outcome-requires-clause-end c =
     c.receive_frame-said.result c.receive_frame-said.ensures.payload
 
 pub returns-in-Ok-clause-step : goal.returns-in-Ok-clause-step
-returns-in-Ok-clause-step c = λ long.
+returns-in-Ok-clause-step c =
     let v = c.in-Ok.verified in
-    let said = c.receive_frame-said.result in (
-      Came v,
-      c.in-Ok.ensures.found,
-      λ u holds.
-          let rep = held_unit c.args.s.now.held.unit c.deref_mut.result.now u (search rules) holds in
-          record {
-            said = said;
-            after = c.receive_frame-said.new.self;
-            held = search rules;
-            done = c.receive_frame-said.ensures.step u rep;
-            code = search rules;
-            shown = subst (λ (r : Reception). ShowsReceived c.args.plain.now r
-                c.told_outcome.new.reception c.told_outcome.new.relay said)
-                (c.reception_of_packet-heard.ensures v.frame c.packet.ensures)
-                c.told_outcome.ensures.shown;
-            counts = counts_held counted_received said c.args.s.now.held.unit c.put.new.self.unit
-                c.deref_mut.result.now c.receive_frame-said.new.self (search rules) (search rules)
-                c.receive_frame-said.ensures.counts;
-          },
-    )
+    let said = c.receive_frame-said.result in
+    record {
+      short = search rules;
+      enough = λ long. (
+        Came v,
+        c.in-Ok.ensures.found,
+        record {
+          step = λ u holds.
+              let rep = held_unit c.args.s.now.held.unit c.deref_mut.result.now u (search rules)
+              holds in
+              record {
+                said = said;
+                after = c.receive_frame-said.new.self;
+                held = search rules;
+                done = c.receive_frame-said.ensures.step u rep;
+                code = search rules;
+                shown = subst (λ (r : Reception). ShowsReceived c.args.plain.now r
+                    c.told_outcome.new.reception c.told_outcome.new.relay said)
+                    (c.reception_of-heard.ensures ∙ ap reception_of c.packet.ensures)
+                    c.told_outcome.ensures.shown;
+                counts = counts_held counted_received said c.args.s.now.held.unit
+                    c.put.new.self.unit c.deref_mut.result.now c.receive_frame-said.new.self
+                    (search rules) (search rules) c.receive_frame-said.ensures.counts;
+              };
+          memory = search rules;
+        },
+      );
+    }
 
 pub returns-in-Ok-clause-memory : goal.returns-in-Ok-clause-memory
 returns-in-Ok-clause-memory c = λ is. (
@@ -76,23 +83,30 @@ invariant_of-s-in-Err c =
     }
 
 pub returns-in-Err-clause-step : goal.returns-in-Err-clause-step
-returns-in-Err-clause-step c = λ long.
-    let refused = c.refuse_secured-refused.result in (
-      Faulty c.in-Err.fault,
-      c.in-Err.ensures.fault,
-      λ u holds.
-          let rep = held_unit c.args.s.now.held.unit c.deref_mut-in-Err.result.now u (search rules)
-          holds in
-          record {
-            said = Err refused;
-            after = c.refuse_secured-refused.new.self;
-            held = search rules;
-            done = c.refuse_secured-refused.ensures.step u rep;
-            code = search rules;
-            shown = c.told_outcome-in-Err.ensures.shown;
-            counts = counts_held counted_received (Err refused) c.args.s.now.held.unit
-                c.put-in-Err.new.self.unit c.deref_mut-in-Err.result.now
-                c.refuse_secured-refused.new.self (search rules) (search rules)
-                c.refuse_secured-refused.ensures.counts;
-          },
-    )
+returns-in-Err-clause-step c =
+    let refused = c.refuse_secured-refused.result in
+    record {
+      short = search rules;
+      enough = λ long. (
+        Faulty c.in-Err.fault,
+        c.in-Err.ensures.fault,
+        record {
+          step = λ u holds.
+              let rep = held_unit c.args.s.now.held.unit c.deref_mut-in-Err.result.now u
+              (search rules) holds in
+              record {
+                said = Err refused;
+                after = c.refuse_secured-refused.new.self;
+                held = search rules;
+                done = c.refuse_secured-refused.ensures.step u rep;
+                code = search rules;
+                shown = c.told_outcome-in-Err.ensures.shown;
+                counts = counts_held counted_received (Err refused) c.args.s.now.held.unit
+                    c.put-in-Err.new.self.unit c.deref_mut-in-Err.result.now
+                    c.refuse_secured-refused.new.self (search rules) (search rules)
+                    c.refuse_secured-refused.ensures.counts;
+              };
+          memory = search rules;
+        },
+      );
+    }

@@ -18,18 +18,26 @@ invariant_of-s c =
     }
 
 pub returns-clause-step : goal.returns-clause-step
-returns-clause-step c = λ u long holds.
-    let rep = held_unit c.args.s.now.held.unit c.deref_mut.result.now u (search rules) holds in
+returns-clause-step c =
     record {
-      said = c.send_shb-said.result;
-      after = c.send_shb-said.new.self;
-      held = search rules;
-      done = subst (λ (asked : ShbRequest). IsSendOf c.send_shb-said.result c.send_shb-said.new.self
-          (unit_step u c.args.now (Own (SendShb asked)))) c.single_hop_request-r.ensures
-          (c.send_shb-said.ensures.step u rep);
-      code = search rules;
-      shown = c.told_frame.ensures.shown;
-      counts = counts_held (counted_request kinds.Shb) c.send_shb-said.result c.args.s.now.held.unit
-          c.put.new.self.unit c.deref_mut.result.now c.send_shb-said.new.self (search rules)
-          (search rules) c.send_shb-said.ensures.counts;
+      short = search rules;
+      enough = λ long. record {
+        step = λ u holds.
+            let rep = held_unit c.args.s.now.held.unit c.deref_mut.result.now u (search rules) holds in
+            record {
+              said = c.send_shb-said.result;
+              after = c.send_shb-said.new.self;
+              held = search rules;
+              done = subst (λ (asked : ShbRequest). IsSendOf c.send_shb-said.result
+                  c.send_shb-said.new.self (unit_step u c.args.now (Own (SendShb asked))))
+                  c.single_hop_request-r.ensures (c.send_shb-said.ensures.step u rep);
+              code = search rules;
+              shown = c.told_frame.ensures.shown;
+              counts = counts_held (counted_request kinds.Shb) c.send_shb-said.result
+                  c.args.s.now.held.unit c.put.new.self.unit c.deref_mut.result.now
+                  c.send_shb-said.new.self (search rules) (search rules)
+                  c.send_shb-said.ensures.counts;
+            };
+        memory = search rules;
+      };
     }

@@ -20,24 +20,31 @@ invariant_of-s c =
     }
 
 pub returns-clause-step : goal.returns-clause-step
-returns-clause-step c = λ u long holds.
+returns-clause-step c =
     let said = c.send_shb_for-said.result in
     let after = c.send_shb_for-said.new.self in
-    let rep = held_unit c.args.s.now.held.unit c.deref_mut.result.now u (search rules) holds in
     let same : c.from_octet.result ≡ c.args.lifetime = search rules in
     record {
-      said = said;
-      after = after;
-      held = search rules;
-      done = subst (λ (asked : ShbRequest). IsSendOf said after
-          (unit_step u c.args.now (SendShbFor c.args.lifetime asked)))
-          c.single_hop_request-r.ensures
-          (subst (λ (l : ℕ). IsSendOf said after (unit_step u c.args.now
-          (SendShbFor l (shb_request c.single_hop_request-r.result)))) same
-          (c.send_shb_for-said.ensures.step u rep));
-      code = search rules;
-      shown = c.told_frame.ensures.shown;
-      counts = counts_held (counted_request kinds.Shb) said c.args.s.now.held.unit
-          c.put.new.self.unit c.deref_mut.result.now after (search rules)
-          (search rules) c.send_shb_for-said.ensures.counts;
+      short = search rules;
+      enough = λ long. record {
+        step = λ u holds.
+            let rep = held_unit c.args.s.now.held.unit c.deref_mut.result.now u (search rules) holds in
+            record {
+              said = said;
+              after = after;
+              held = search rules;
+              done = subst (λ (asked : ShbRequest). IsSendOf said after
+                  (unit_step u c.args.now (SendShbFor c.args.lifetime asked)))
+                  c.single_hop_request-r.ensures
+                  (subst (λ (l : ℕ). IsSendOf said after (unit_step u c.args.now
+                  (SendShbFor l (shb_request c.single_hop_request-r.result)))) same
+                  (c.send_shb_for-said.ensures.step u rep));
+              code = search rules;
+              shown = c.told_frame.ensures.shown;
+              counts = counts_held (counted_request kinds.Shb) said c.args.s.now.held.unit
+                  c.put.new.self.unit c.deref_mut.result.now after (search rules)
+                  (search rules) c.send_shb_for-said.ensures.counts;
+            };
+        memory = search rules;
+      };
     }

@@ -18,16 +18,23 @@ invariant_of-s c =
     }
 
 pub returns-clause-step : goal.returns-clause-step
-returns-clause-step c = λ u long holds.
-    let rep = held_unit c.args.s.now.held.unit c.deref_mut.result.now u (search rules) holds in
+returns-clause-step c =
     record {
-      said = c.tick-said.result;
-      after = c.tick-said.new.self;
-      held = search rules;
-      done = c.tick-said.ensures.step u rep;
-      code = search rules;
-      shown = c.told_beacon.ensures.shown;
-      counts = counts_held counted_tick c.tick-said.result c.args.s.now.held.unit
-          c.put.new.self.unit c.deref_mut.result.now c.tick-said.new.self (search rules)
-          (search rules) c.tick-said.ensures.counts;
+      short = search rules;
+      enough = λ long. record {
+        step = λ u holds.
+            let rep = held_unit c.args.s.now.held.unit c.deref_mut.result.now u (search rules) holds in
+            record {
+              said = c.tick-said.result;
+              after = c.tick-said.new.self;
+              held = search rules;
+              done = c.tick-said.ensures.step u rep;
+              code = search rules;
+              shown = c.told_beacon.ensures.shown;
+              counts = counts_held counted_tick c.tick-said.result c.args.s.now.held.unit
+                  c.put.new.self.unit c.deref_mut.result.now c.tick-said.new.self (search rules)
+                  (search rules) c.tick-said.ensures.counts;
+            };
+        memory = search rules;
+      };
     }

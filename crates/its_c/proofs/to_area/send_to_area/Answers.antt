@@ -20,25 +20,38 @@ invariant_of-s c =
     }
 
 pub returns-clause-step : goal.returns-clause-step
-returns-clause-step c = λ u long holds fine.
-    let rep = held_unit c.args.s.now.held.unit c.deref_mut.result.now u (search rules) holds in
-    let area = c.in-Some.area in
-    let made : IsAreaOf c.args.request.now area = search rules in (
-      area,
-      made,
-      record {
-        said = c.send_to_area-said.result;
-        after = c.send_to_area-said.new.self;
-        held = search rules;
-        done = subst (λ (k : GbcRequest). IsSendOf c.send_to_area-said.result
-            c.send_to_area-said.new.self
-            (unit_step u c.args.now (Own (area_call (kind_of_cast c.args.cast) k))))
-            c.area_request-r.ensures (c.send_to_area-said.ensures.step u rep);
-        code = search rules;
-        shown = c.told_frame.ensures.shown;
-        counts = counts_held (counted_request (kind_cast c.args.cast)) c.send_to_area-said.result
-            c.args.s.now.held.unit c.put.new.self.unit c.deref_mut.result.now
-            c.send_to_area-said.new.self (search rules) (search rules)
-            c.send_to_area-said.ensures.counts;
-      },
-    )
+returns-clause-step c =
+    let made : IsAreaOf c.args.request.now c.in-Some.area = search rules in
+    record {
+      short = search rules;
+      enough = λ long. record {
+        refused = search rules;
+        outside = search rules;
+        taken = λ fine. (c.in-Some.area, made);
+        inside = λ fine. (
+          c.in-Some.area,
+          made,
+          record {
+            step = λ u holds.
+                let rep = held_unit c.args.s.now.held.unit c.deref_mut.result.now u (search rules)
+                holds in
+                record {
+                  said = c.send_to_area-said.result;
+                  after = c.send_to_area-said.new.self;
+                  held = search rules;
+                  done = subst (λ (k : GbcRequest). IsSendOf c.send_to_area-said.result
+                      c.send_to_area-said.new.self
+                      (unit_step u c.args.now (Own (area_call (kind_of_cast c.args.cast) k))))
+                      c.area_request-r.ensures (c.send_to_area-said.ensures.step u rep);
+                  code = search rules;
+                  shown = c.told_frame.ensures.shown;
+                  counts = counts_held (counted_request (kind_cast c.args.cast))
+                      c.send_to_area-said.result c.args.s.now.held.unit c.put.new.self.unit
+                      c.deref_mut.result.now c.send_to_area-said.new.self (search rules)
+                      (search rules) c.send_to_area-said.ensures.counts;
+                };
+            memory = search rules;
+          },
+        );
+      };
+    }
