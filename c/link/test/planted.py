@@ -1,0 +1,71 @@
+#!/usr/bin/env python3
+"""Builds daemons with a mistake in what they do with an entity's answers. A forger has to be seen to
+gain by each.
+
+    planted.py PREFIX    PREFIX has the library and its header; CC is the compiler
+"""
+
+import os
+import shutil
+import subprocess
+import sys
+import tempfile
+from pathlib import Path
+
+TEST = Path(__file__).resolve().parent
+
+# A name, a file, what stands there once, and what is planted.
+MISTAKES = [
+    ("an answer kept for another message", "kept.c",
+     "k->hash == hash && k->length == n\n            && memcmp(k->message, message, n) == 0",
+     "(k->hash == hash || k->length == n) && message != NULL"),
+    ("a frame delivered that the entity refused", "requests.c",
+     "    if (!good) {\n        a->kind = NOT_DONE;\n    }",
+     "    if (!good && r->kind == VERIFY && part_length(r) > 1) {\n"
+     "        a->kind = PLAIN_PART;\n"
+     "        a->length = part_length(r) - 1;\n"
+     "        memcpy(a->octets, part_of(r) + 1, a->length);\n"
+     "    } else if (!good) {\n        a->kind = NOT_DONE;\n    }"),
+    ("another message forwarded", "station.c",
+     "    forward(s, got.relay_length, since);\n    conflict_look(s, &got, frame + MAC_AT, a->",
+     "    s->frame[got.relay_length > 0 ? got.relay_length - 1 : 0] ^= 1;\n"
+     "    forward(s, got.relay_length, since);\n    conflict_look(s, &got, frame + MAC_AT, a->"),
+]
+
+
+def plant(source, old, new):
+    text = source.read_text()
+    assert text.count(old) == 1, f"{source.name} has {text.count(old)} times: {old}"
+    source.write_text(text.replace(old, new))
+
+
+def build(prefix, room, name, old, new):
+    """The daemon with this mistake."""
+    shutil.copytree(TEST.parent, room / "link")
+    plant(room / "link" / name, old, new)
+    for folder in ("lib", "include"):
+        (room / folder).symlink_to(Path(prefix).resolve() / folder)
+    subprocess.run([room / "link/build", room], check=True, stdout=subprocess.DEVNULL)
+    return room / "bin/geostation-link"
+
+
+def is_seen(program):
+    run = subprocess.run([sys.executable, TEST / "test_link.py", program, "test_forger"],
+                         capture_output=True, text=True, check=False)
+    return run.returncode == 1 and run.stdout.endswith("failed: test_forger\n"), run
+
+
+def main(prefix):
+    os.environ["PYTHONDONTWRITEBYTECODE"] = "1"
+    for mistake, name, old, new in MISTAKES:
+        with tempfile.TemporaryDirectory() as room:
+            seen, run = is_seen(build(prefix, Path(room), name, old, new))
+        if not seen:
+            print(f"nobody saw {mistake}:\n{run.stdout}{run.stderr}")
+            return 1
+    print(f"{len(MISTAKES)} daemons with a planted mistake give a forger something")
+    return 0
+
+
+if __name__ == "__main__":
+    sys.exit(main(*sys.argv[1:]))
