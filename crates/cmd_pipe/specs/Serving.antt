@@ -31,6 +31,9 @@ ended_of (responses.Fault id line fault ∷ told) = ends.Refused
 -- the same after one more
 abbrev pub then_ended : Ended → Response → Ended
 then_ended ended (responses.Reply id at source reply) = ended
+then_ended ended (responses.Repeated id at) = ended
+then_ended ended (responses.OverRate id at) = ended
+then_ended ended (responses.NotAllowed id at) = ended
 then_ended ended (responses.Known id at known) = ended
 then_ended ended (responses.Fault id line fault) = ends.Refused
 
