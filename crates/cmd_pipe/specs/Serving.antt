@@ -25,6 +25,9 @@ TellsLines s n (line ∷ lines) told end =
 abbrev pub ended_of : List Response → Ended
 ended_of [] = ends.Done
 ended_of (responses.Reply id at source reply ∷ told) = ended_of told
+ended_of (responses.Repeated id at ∷ told) = ended_of told
+ended_of (responses.OverRate id at ∷ told) = ended_of told
+ended_of (responses.NotAllowed id at ∷ told) = ended_of told
 ended_of (responses.Known id at known ∷ told) = ended_of told
 ended_of (responses.Fault id line fault ∷ told) = ends.Refused
 
