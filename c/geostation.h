@@ -230,6 +230,57 @@ enum geostation_kind {
     GEOSTATION_GAC = 4
 };
 
+/** The command of a line of JSON, its `do`. */
+enum geostation_command {
+    GEOSTATION_COMMAND_MOVE = 1,         /**< `move` */
+    GEOSTATION_COMMAND_OPEN = 2,         /**< `open` */
+    GEOSTATION_COMMAND_CLOSE = 3,        /**< `close` */
+    GEOSTATION_COMMAND_TICK = 4,         /**< `tick` */
+    GEOSTATION_COMMAND_SHB = 5,          /**< `shb` */
+    GEOSTATION_COMMAND_GBC = 6,          /**< `gbc` */
+    GEOSTATION_COMMAND_GAC = 7,          /**< `gac` */
+    GEOSTATION_COMMAND_RESTART = 8,      /**< `restart` */
+    GEOSTATION_COMMAND_RECEIVE = 9,      /**< `receive` */
+    GEOSTATION_COMMAND_NEXT_BEACON = 10, /**< `next_beacon` */
+    GEOSTATION_COMMAND_NEIGHBOURS = 11,  /**< `neighbours` */
+    GEOSTATION_COMMAND_LOOK_UP = 12,     /**< `look_up` */
+    GEOSTATION_COMMAND_READ_FRAME = 13,  /**< `read_frame` */
+    GEOSTATION_COMMAND_COUNTS = 14,      /**< `counts` */
+    GEOSTATION_COMMAND_SEAL = 15         /**< `seal` */
+};
+
+/** The outcome of a line of JSON. */
+enum geostation_outcome {
+    /** The line is blank. There is no answer. */
+    GEOSTATION_OUTCOME_BLANK = 0,
+    /** It was executed. */
+    GEOSTATION_OUTCOME_DONE = 1,
+    /** It lacks the right that its command needs. Nothing changed. */
+    GEOSTATION_OUTCOME_NOT_ALLOWED = 2,
+    /** It was refused: see `status`. */
+    GEOSTATION_OUTCOME_REFUSED = 3,
+    /** Its command is missing or unknown. */
+    GEOSTATION_OUTCOME_UNKNOWN_COMMAND = 4,
+    /** It can't be read for another reason. */
+    GEOSTATION_OUTCOME_MALFORMED = 5
+};
+
+/** A right that a line of JSON needs. Add those that it has. */
+enum geostation_right {
+    /** To send a packet: `shb`, `gbc`, `gac`, and `tick`. */
+    GEOSTATION_RIGHT_SEND = 1,
+    /** To receive a frame: `receive`. */
+    GEOSTATION_RIGHT_RECEIVE = 2,
+    /** To move the station: `move`. */
+    GEOSTATION_RIGHT_MOVE = 4,
+    /** To open and close ports: `open`, `close`. */
+    GEOSTATION_RIGHT_PORTS = 8,
+    /** To restart the station: `restart`. */
+    GEOSTATION_RIGHT_RESTART = 16,
+    /** All of them. */
+    GEOSTATION_RIGHTS_ALL = 31
+};
+
 /**
  * @typedef geostation_handle
  * An opaque station handle.
@@ -392,6 +443,21 @@ struct geostation_message {
     size_t payload_length; /**< length of the payload, in bytes */
     uint16_t port;         /**< destination port (BTP-B) */
     uint16_t info;         /**< destination port info */
+};
+
+/** What a line of JSON asked for, and the outcome: see geostation_handle_line(). */
+struct geostation_line_result {
+    uint32_t command;      /**< its command (enum geostation_command), or 0 if it has none */
+    uint32_t outcome;      /**< the outcome (enum geostation_outcome) */
+    int32_t status;        /**< why it was refused (enum geostation_status), otherwise 0 */
+    uint16_t port;         /**< port that it opens or closes, or to which it sends; otherwise 0 */
+    uint16_t number;       /**< sequence number of the GBC or GAC that it sent, otherwise 0 */
+    size_t payload_length; /**< length of the payload that it sends or would send, otherwise 0 */
+    size_t answer_length;  /**< length of the answer, 0 for a blank line */
+    size_t id_length;      /**< length of the value of `id` in the answer, or 0. If there is one,
+                                it begins after the 6 bytes `{"id":` */
+    size_t frame_length;   /**< length of the frame to send, or that was sealed, or 0 */
+    struct geostation_vector vector; /**< position vector of the station after the line */
 };
 
 /** All fields of a frame. If the bytes are not a valid frame, all is 0 except the fault fields. */
@@ -995,7 +1061,8 @@ void geostation_counts(const geostation_handle *s, struct geostation_counts *out
  * calls and malformed lines are reported inside the answer. `answer` and `frame` are not terminated
  * by 0. A thread that calls this function should have 96 KB of stack.
  *
- * The limits of the station do not apply to a line: it is executed at any rate.
+ * The limits of the station do not apply to a line: it is executed at any rate. With
+ * geostation_handle_line() they do.
  *
  * @param s                   the station
  * @param now                 time, in ms
@@ -1017,6 +1084,34 @@ int geostation_handle_json(geostation_handle *s, uint64_t now, uint64_t number,
                            uint8_t *answer, size_t answer_room, size_t *answer_length,
                            uint8_t *frame, size_t frame_room, size_t *frame_length)
     GEOSTATION_NODISCARD;
+
+/**
+ * Executes one JSON request at time `now` as geostation_handle_json() does, with three differences:
+ *
+ * - The limits of the station apply: own packets have their rate, and frames that pass no limit are
+ *   not forwarded.
+ * - The line needs the rights in `rights`, a sum of #geostation_right. Without its right it changes
+ *   nothing, and its answer has the code `not allowed`. Queries need no right. With 0 the call finds
+ *   out what a line asks for.
+ * - A struct says what was asked, and the outcome.
+ *
+ * @param s             the station
+ * @param now           time, in ms
+ * @param number        line number, for the answer to a malformed line
+ * @param line          the line; may be NULL if `line_length` is 0
+ * @param line_length   length of `line`; above #GEOSTATION_LINE_MAX the line is malformed
+ * @param rights        what the line may do: a sum of #geostation_right
+ * @param[out] answer   the answer: one JSON object without a line feed
+ * @param answer_room   size of `answer`, at least #GEOSTATION_ANSWER_MAX
+ * @param[out] frame    the frame to send, or the one that was sealed
+ * @param frame_room    size of `frame`, as for geostation_handle_json()
+ * @param[out] out      what was asked, and the outcome; zeros if the status is not 0
+ * @return #GEOSTATION_OK, #GEOSTATION_NO_MEMORY or #GEOSTATION_NO_ROOM
+ */
+int geostation_handle_line(geostation_handle *s, uint64_t now, uint64_t number,
+                           const uint8_t *line, size_t line_length, uint32_t rights,
+                           uint8_t *answer, size_t answer_room, uint8_t *frame, size_t frame_room,
+                           struct geostation_line_result *out) GEOSTATION_NODISCARD;
 /** Deprecated: the former name of geostation_handle_json(). */
 #define geostation_serve geostation_handle_json
 
@@ -1133,6 +1228,16 @@ GEOSTATION_AT(area_request, longitude, 12);
 GEOSTATION_AT(area_request, a, 16);
 GEOSTATION_AT(area_request, b, 18);
 GEOSTATION_AT(area_request, angle, 20);
+GEOSTATION_SIZE(line_result, 80);
+GEOSTATION_AT(line_result, outcome, 4);
+GEOSTATION_AT(line_result, status, 8);
+GEOSTATION_AT(line_result, port, 12);
+GEOSTATION_AT(line_result, number, 14);
+GEOSTATION_AT(line_result, payload_length, 16);
+GEOSTATION_AT(line_result, answer_length, 24);
+GEOSTATION_AT(line_result, id_length, 32);
+GEOSTATION_AT(line_result, frame_length, 40);
+GEOSTATION_AT(line_result, vector, 48);
 GEOSTATION_SIZE(area, 16);
 GEOSTATION_AT(area, longitude, 4);
 GEOSTATION_AT(area, a, 8);

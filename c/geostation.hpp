@@ -354,6 +354,19 @@ class Station {
             answer.octets.size(), &answer.size, frame.octets.data(), frame.octets.size(),
             &frame.size));
     }
+    /// Executes one JSON request at time `now` within the limits and with these rights, a sum of
+    /// geostation_right: geostation_handle_line(). A line without its right changes nothing.
+    /// @return Ok or NoMemory
+    Status handle_line(std::uint64_t now, std::uint64_t number, Octets line, std::uint32_t rights,
+                       Answer &answer, SecuredFrame &frame,
+                       struct ::geostation_line_result &out) noexcept {
+        const Status status = Status(geostation_handle_line(
+            handle_, now, number, line.data, line.size, rights, answer.octets.data(),
+            answer.octets.size(), frame.octets.data(), frame.octets.size(), &out));
+        answer.size = out.answer_length;
+        frame.size = out.frame_length;
+        return status;
+    }
     /// The former name of handle_json().
     [[deprecated("use handle_json")]] Status serve(std::uint64_t now, std::uint64_t number,
                                                    Octets line, Answer &answer,

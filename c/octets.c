@@ -35,6 +35,10 @@ int proved_geostation_plain_part(const uint8_t *frame, size_t length, size_t *st
 int proved_geostation_seal(const uint8_t *frame, size_t length,
                            const uint8_t *message, size_t message_length,
                            uint8_t *out, size_t room, size_t *out_length);
+int proved_geostation_handle_line(geostation_handle *s, uint64_t now, uint64_t number,
+                                  const uint8_t *line, size_t line_length, uint32_t rights,
+                                  uint8_t *answer, size_t answer_room, uint8_t *frame,
+                                  size_t frame_room, struct geostation_line_result *out);
 int proved_geostation_handle_json(geostation_handle *s, uint64_t now, uint64_t number,
                                   const uint8_t *line, size_t line_length,
                                   uint8_t *answer, size_t answer_room, size_t *answer_length,
@@ -120,6 +124,14 @@ int geostation_handle_json(geostation_handle *s, uint64_t now, uint64_t number,
     return proved_geostation_handle_json(s, now, number, address(line), line_length, answer,
                                          answer_room, answer_length, frame, frame_room,
                                          frame_length);
+}
+
+int geostation_handle_line(geostation_handle *s, uint64_t now, uint64_t number,
+                           const uint8_t *line, size_t line_length, uint32_t rights,
+                           uint8_t *answer, size_t answer_room, uint8_t *frame, size_t frame_room,
+                           struct geostation_line_result *out) {
+    return proved_geostation_handle_line(s, now, number, address(line), line_length, rights, answer,
+                                         answer_room, frame, frame_room, out);
 }
 
 int geostation_read_frame(const uint8_t *frame, size_t length, struct geostation_packet *out) {

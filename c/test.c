@@ -646,6 +646,112 @@ static void test_lines(void) {
     geostation_free(twin);
 }
 
+static struct geostation_line_result done;
+
+static int handle(struct geostation *s, uint64_t now, const char *line, uint32_t rights) {
+    memset(&done, 99, sizeof done);
+    return geostation_handle_line(s, now, 5, (const uint8_t *)line, strlen(line), rights, answer,
+                                  sizeof answer, frame, ROOM, &done);
+}
+
+/* The line has this command and this outcome, and its answer begins with this text. */
+static int comes_to(struct geostation *s, uint64_t now, const char *line, uint32_t rights,
+                    uint32_t command, uint32_t outcome, const char *text) {
+    return handle(s, now, line, rights) == GEOSTATION_OK && done.command == command
+        && done.outcome == outcome && done.answer_length >= strlen(text)
+        && memcmp(answer, text, strlen(text)) == 0;
+}
+
+static const char NOT_ALLOWED[] = "{\"at\":7,\"result\":\"refused\",\"code\":\"not allowed\"";
+
+/* A line that lacks its right changes nothing, and each right is that of its commands alone. */
+static void test_rights(void) {
+    static const struct { const char *line; uint32_t command, right; } rows[] = {
+        { "{\"do\":\"move\",\"lat\":9,\"lon\":8,\"pai\":true,\"speed\":-7,\"heading\":6}", 1, 4 },
+        { "{\"do\":\"open\",\"port\":2002}", 2, 8 },
+        { "{\"do\":\"close\",\"port\":2002}", 3, 8 },
+        { "{\"do\":\"tick\",\"jitter\":0}", 4, 1 },
+        { "{\"do\":\"shb\",\"port\":7,\"info\":0,\"tc\":0,\"payload\":\"68\"}", 5, 1 },
+        { "{\"do\":\"restart\",\"number\":9}", 8, 16 },
+        { "{\"do\":\"receive\",\"frame\":\"00\"}", 9, 2 },
+    };
+    struct geostation *a = station(A_ADDRESS, 0, 64);
+    for (size_t k = 0; k < sizeof rows / sizeof *rows; k++) {
+        struct geostation_counts before, after;
+        geostation_counts(a, &before);
+        CHECK(comes_to(a, 7, rows[k].line, GEOSTATION_RIGHTS_ALL - rows[k].right, rows[k].command,
+                       GEOSTATION_OUTCOME_NOT_ALLOWED, NOT_ALLOWED));
+        CHECK(done.frame_length == 0 && done.status == GEOSTATION_OK && done.number == 0);
+        geostation_counts(a, &after);
+        CHECK(memcmp(&before, &after, sizeof before) == 0);
+        CHECK(handle(a, 7, rows[k].line, rows[k].right) == GEOSTATION_OK);
+        CHECK(done.outcome != GEOSTATION_OUTCOME_NOT_ALLOWED);
+    }
+    CHECK(comes_to(a, 7, TO_AREA, 0, GEOSTATION_COMMAND_GBC, GEOSTATION_OUTCOME_NOT_ALLOWED,
+                   "{\"id\":\"w\",\"at\":7,\"result\":\"refused\",\"code\":\"not allowed\""));
+    CHECK(done.port == 2002 && done.payload_length == 2 && done.id_length == 3);
+    CHECK(geostation_next_number(a) == 9);
+    geostation_free(a);
+}
+
+/* what a line asked for, and the outcome. */
+static void test_line_results(void) {
+    struct geostation *a = station(A_ADDRESS, 0, 64), *twin = station(A_ADDRESS, 0, 64);
+    size_t n;
+    CHECK(geostation_send_gbc(twin, 7, &AREA, HI, 2, other, ROOM, &n) == GEOSTATION_OK);
+    CHECK(comes_to(a, 7, TO_AREA, GEOSTATION_RIGHT_SEND, GEOSTATION_COMMAND_GBC,
+                   GEOSTATION_OUTCOME_DONE, "{\"id\":\"w\",\"at\":7,\"result\":\"sent\",\"frame\":\""));
+    CHECK(done.frame_length == n && memcmp(frame, other, n) == 0 && done.number == 0);
+    CHECK(n == 74 + done.payload_length);
+    CHECK(comes_to(a, 7, TO_AREA, GEOSTATION_RIGHT_SEND, GEOSTATION_COMMAND_GBC,
+                   GEOSTATION_OUTCOME_DONE, "{\"id\":\"w\",\"at\":7,\"result\":\"sent\""));
+    CHECK(done.number == 1 && geostation_next_number(a) == 2);
+    CHECK(comes_to(a, 8, "{\"do\":\"move\",\"lat\":9,\"lon\":8,\"pai\":true,\"speed\":-7,"
+                   "\"heading\":6}", GEOSTATION_RIGHT_MOVE, GEOSTATION_COMMAND_MOVE,
+                   GEOSTATION_OUTCOME_DONE, "{\"at\":8,\"result\":\"moved\"}"));
+    CHECK(done.vector.address == A_ADDRESS && done.vector.timestamp == 8);
+    CHECK(done.vector.latitude == 9 && done.vector.longitude == 8 && done.vector.accurate == 1);
+    CHECK(done.vector.speed == -7 && done.vector.heading == 6 && done.id_length == 0);
+    CHECK(comes_to(a, 8, "{\"do\":\"close\",\"port\":3}", GEOSTATION_RIGHT_PORTS,
+                   GEOSTATION_COMMAND_CLOSE, GEOSTATION_OUTCOME_REFUSED, "{\"at\":8,"));
+    CHECK(done.status == GEOSTATION_PORT_NOT_OPEN && done.port == 3);
+    CHECK(comes_to(a, 8, "{\"do\":\"fly\"}", 0, 0, GEOSTATION_OUTCOME_UNKNOWN_COMMAND, "{\"line\":5,"));
+    CHECK(comes_to(a, 8, "{}", 0, 0, GEOSTATION_OUTCOME_UNKNOWN_COMMAND, "{\"line\":5,"));
+    CHECK(comes_to(a, 8, "{", 0, 0, GEOSTATION_OUTCOME_MALFORMED, "{\"line\":5,"));
+    CHECK(comes_to(a, 8, "{\"do\":\"open\"}", 0, 0, GEOSTATION_OUTCOME_MALFORMED, "{\"line\":5,"));
+    CHECK(comes_to(a, 8, "{\"id\":12,\"do\":\"counts\"}", 0, GEOSTATION_COMMAND_COUNTS,
+                   GEOSTATION_OUTCOME_DONE, "{\"id\":12,\"at\":8,") && done.id_length == 2);
+    CHECK(comes_to(a, 8, "{\"do\":\"read_frame\",\"frame\":\"00\"}", 0,
+                   GEOSTATION_COMMAND_READ_FRAME, GEOSTATION_OUTCOME_REFUSED, "{\"at\":8,"));
+    CHECK(done.status == GEOSTATION_BAD_FRAME);
+    CHECK(comes_to(a, 8, " ", 0, 0, GEOSTATION_OUTCOME_BLANK, "") && done.answer_length == 0);
+    CHECK(geostation_handle_line(a, 8, 1, NULL, 0, 0, answer, sizeof answer, frame, ROOM, &done)
+              == GEOSTATION_OK && done.outcome == GEOSTATION_OUTCOME_BLANK);
+    done.command = 99;
+    CHECK(geostation_handle_line(a, 8, 1, HI, 2, 0, answer, sizeof answer - 1, frame, ROOM, &done)
+              == GEOSTATION_NO_ROOM && done.command == 0);
+    geostation_free(a);
+    geostation_free(twin);
+}
+
+/* A line is within the rate of own packets, and gets the delivery of a packet once. */
+static void test_limited_lines(void) {
+    static const char shb[] = "{\"do\":\"shb\",\"port\":7,\"info\":0,\"tc\":0,\"payload\":\"68\"}";
+    struct geostation_config c;
+    struct geostation *a;
+    geostation_config_init(&c);
+    c.address = A_ADDRESS;
+    c.own_rate = c.own_burst = 1;
+    CHECK(geostation_new_from_config(&a, &c) == GEOSTATION_OK);
+    CHECK(comes_to(a, 0, shb, 1, 5, GEOSTATION_OUTCOME_DONE, "{\"at\":0,\"result\":\"sent\""));
+    CHECK(comes_to(a, 1, shb, 1, 5, GEOSTATION_OUTCOME_REFUSED,
+                   "{\"at\":1,\"result\":\"refused\",\"code\":\"over rate\",\"reason\":\"own packets "
+                   "are over their rate\"}"));
+    CHECK(done.status == GEOSTATION_OVER_RATE && done.frame_length == 0);
+    CHECK(answers(a, 1, shb, "{\"at\":1,\"result\":\"sent\"", 1, 59));
+    geostation_free(a);
+}
+
 /* The longest answers fit, and an allocation that fails leaves the station unchanged. */
 static void test_large_lines(void) {
     struct geostation *a = station(A_ADDRESS, 0, 64), *s;
@@ -1192,6 +1298,9 @@ int main(int argc, char **argv) {
     test_padding();
     test_counts();
     test_lines();
+    test_rights();
+    test_line_results();
+    test_limited_lines();
     test_large_lines();
     test_sealing();
     test_verified();

@@ -82,6 +82,10 @@ void test_lines(Station &b) {
     CHECK(b.handle_json(12, 1, text(SEAL), answer, frame) == Status::NoRoom && answer.size == 0);
     CHECK(b.handle_json(12, 1, text(SEAL), answer, secured) == Status::Ok && answer.size != 0);
     CHECK(secured.size == 0 && b.handle_json(12, 1, text(OPEN), answer, frame) == Status::Ok);
+    struct ::geostation_line_result done;
+    CHECK(b.handle_line(12, 1, text(OPEN), 0, answer, secured, done) == Status::Ok);
+    CHECK(done.command == GEOSTATION_COMMAND_OPEN && answer.size != 0);
+    CHECK(done.outcome == GEOSTATION_OUTCOME_NOT_ALLOWED && secured.size == 0);
 }
 
 } // namespace

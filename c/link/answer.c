@@ -1,77 +1,66 @@
 /* The text of an answer. The library writes it. What it does not know, such as the state of the
- * link and of the position, is put into the answer afterwards. */
-#define _GNU_SOURCE
+ * link and of the position, replaces what comes after the `id`. */
 #include "parts.h"
+#include <inttypes.h>
+#include <stdarg.h>
 #include <stdio.h>
-#include <string.h>
 
-/* Finds the result in an answer. No text of a client is mistaken for it: in a text, quotation marks
- * have a backslash. */
-static const uint8_t *result_in(const uint8_t *answer, size_t n) {
-    static const char key[] = "\"result\":\"";
-    const uint8_t *at = memmem(answer, n, key, sizeof key - 1);
-    return at == NULL ? NULL : at + sizeof key - 1;
+/* The answer begins with `{`, or with `{"id":`, the value and a comma. */
+void answer_begin(struct held *h, const struct geostation_line_result *got, uint64_t moment) {
+    h->at = moment;
+    h->length = got->answer_length;
+    h->start = got->id_length == 0 ? 1 : sizeof "{\"id\":" - 1 + got->id_length + 1;
 }
 
-bool answer_has_result(const uint8_t *answer, size_t n, const char *word) {
-    const uint8_t *at = result_in(answer, n);
-    size_t length = strlen(word);
-    return at != NULL && (size_t)(answer + n - at) > length && memcmp(at, word, length) == 0
-        && at[length] == '"';
+/* Writes the rest of the answer. */
+__attribute__((format(printf, 2, 3))) static void put(struct held *h, const char *format, ...) {
+    va_list rest;
+    va_start(rest, format);
+    int n = vsnprintf((char *)h->answer + h->start, GEOSTATION_ANSWER_MAX - h->start, format, rest);
+    va_end(rest);
+    h->length = h->start + (size_t)n;
 }
 
-bool answer_has_code(const uint8_t *answer, size_t n, const char *code) {
-    char key[32];
-    int length = snprintf(key, sizeof key, "\"code\":\"%s", code);
-    return memmem(answer, n, key, (size_t)length) != NULL;
+void answer_put_result(struct held *h, const char *result) {
+    put(h, "\"at\":%" PRIu64 ",\"result\":%s}", h->at, result);
 }
 
-size_t answer_refuse(uint8_t *answer, size_t n, const struct refusal *why) {
-    char text[256];
-    size_t kept = (size_t)(result_in(answer, n) - answer);
-    int length = snprintf(text, sizeof text, "refused\",\"code\":\"%s\",\"reason\":\"%s\"}",
-                          why->code, why->reason);
-    memcpy(answer + kept, text, (size_t)length);
-    return kept + (size_t)length;
+void answer_refuse(struct held *h, const struct refusal *why) {
+    put(h, "\"at\":%" PRIu64 ",\"result\":\"refused\",\"code\":\"%s\",\"reason\":\"%s\"}", h->at,
+        why->code, why->reason);
 }
 
-/* In place of the rest, after an `id` if there is one. */
-size_t answer_put_error(uint8_t *answer, size_t n, uint64_t number, const char *key) {
-    static const char first[] = "\"at\":";
-    const uint8_t *at = memmem(answer, n, first, sizeof first - 1);
-    size_t kept = (size_t)(at - answer);
-    return kept + (size_t)sprintf((char *)answer + kept, "\"line\":%llu,\"error\":\"%s\","
-                                  "\"reason\":\"its value is wrong\"}",
-                                  (unsigned long long)number, key);
+void answer_refuse_memory(struct held *h) {
+    h->answer[0] = '{';
+    h->start = 1;
+    answer_put_result(h, "\"refused\",\"code\":\"S5\"");
 }
 
-size_t answer_put_counts(const struct station *s, uint8_t *answer, size_t n) {
-    size_t kept = (size_t)(result_in(answer, n) - answer);
-    return kept + counts_print(s, (char *)answer + kept, GEOSTATION_ANSWER_MAX - kept);
+void answer_put_error(struct held *h, uint64_t number, const char *key, const char *reason) {
+    put(h, "\"line\":%" PRIu64 ",\"error\":\"%s\",\"reason\":\"%s\"}", number, key, reason);
 }
 
-size_t answer_read_frame(const struct held *h, uint8_t *frame, size_t room) {
-    static const char key[] = "sent\",\"frame\":\"", end[] = "\"}";
-    const char *at = (const char *)result_in(h->answer, h->length) + sizeof key - 1;
-    size_t digits = (size_t)((const char *)h->answer + h->length - at) - (sizeof end - 1), n = 0;
-    return hex_read(at, digits, frame, room, &n) ? n : 0;
+void answer_put_counts(struct held *h, const struct station *s) {
+    put(h, "\"at\":%" PRIu64 ",\"result\":\"", h->at);
+    h->length += counts_print(s, (char *)h->answer + h->length,
+                              GEOSTATION_ANSWER_MAX - h->length);
 }
 
-/* Puts the frame that was sent into an answer, in place of the unsecured one, its last key. */
-static size_t put_frame(uint8_t *answer, size_t n, const uint8_t *frame, size_t length) {
-    static const char key[] = "sent\",\"frame\":\"";
-    size_t end = (size_t)(result_in(answer, n) - answer);
-    memcpy(answer + end, key, sizeof key - 1);
-    end += sizeof key - 1;
-    end += hex_write((char *)answer + end, frame, length);
-    memcpy(answer + end, "\"}", 2);
-    return end + 2;
+/* Puts the frame that was sent into an answer, in place of the unsecured one. */
+static void put_frame(struct held *h, const uint8_t *frame, size_t length) {
+    put(h, "\"at\":%" PRIu64 ",\"result\":\"sent\",\"frame\":\"", h->at);
+    h->length += hex_write((char *)h->answer + h->length, frame, length);
+    h->answer[h->length++] = '"';
+    h->answer[h->length++] = '}';
 }
 
 void answer_complete(struct held *h, const uint8_t *frame, size_t length,
                      const struct refusal *why) {
-    h->length = why != NULL ? answer_refuse(h->answer, h->length, why)
-                            : put_frame(h->answer, h->length, frame, length);
+    if (why != NULL) {
+        answer_refuse(h, why);
+    } else {
+        put_frame(h, frame, length);
+    }
     h->waits = false;
     h->used = h->client != NULL;
 }

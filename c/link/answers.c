@@ -1,17 +1,17 @@
-/* Requests of applications. The library reads the line and writes the answer. Before the station is
- * asked, a second one is: a request that can't be done leaves the station as it was. */
+/* Requests of applications. The library reads the line and writes the answer. At first a line has no
+ * rights: queries are answered, and of other lines the library says what they ask for. Only a line
+ * that may be executed now is executed. */
 #include "parts.h"
 #include <inttypes.h>
 #include <stdio.h>
+#include <string.h>
 
-/* What a line would do at a station that is as new. */
-struct intent {
-    bool ticks;       /* it sends a beacon if one is due */
-    bool asks_beacon; /* when the next one is due */
-    bool sends, passes_frame, moves, restarts, opens, closes;
-    bool processes;   /* the frame that it passes is one */
-    size_t length;    /* of the frame that it sends */
-    uint16_t port;    /* to which that goes */
+enum { SHB_HEADERS = 58, AREA_HEADERS = 74 }; /* octets of a frame besides its payload */
+
+struct line {
+    uint64_t now, moment, number;
+    const uint8_t *octets;
+    size_t length;
 };
 
 static const struct refusal not_allowed = { "not allowed",
@@ -20,196 +20,157 @@ static const struct refusal not_verified = {
     "not verified", "frames reach the station only by the link and the security entity"
 };
 
-static size_t serve(geostation_handle *h, struct station *s, uint64_t moment, uint64_t number,
-                    const uint8_t *line, size_t n, uint8_t *answer, size_t *frame_length) {
-    size_t length = 0;
-    int status = geostation_handle_json(h, moment, number, line, n, answer, GEOSTATION_ANSWER_MAX,
-                                        &length, s->frame, sizeof s->frame, frame_length);
-    if (status == GEOSTATION_NO_MEMORY) {
-        return (size_t)snprintf((char *)answer, GEOSTATION_ANSWER_MAX,
-                                "{\"at\":%" PRIu64 ",\"result\":\"refused\",\"code\":\"S5\"}",
-                                moment);
+/* Executes a line with these rights. A frame is in s->frame. */
+static struct geostation_line_result execute(geostation_handle *h, struct station *s,
+                                             const struct line *l, uint32_t rights,
+                                             struct held *to) {
+    struct geostation_line_result got;
+    int status = geostation_handle_line(h, l->moment, l->number, l->octets, l->length, rights,
+                                        to->answer, GEOSTATION_ANSWER_MAX, s->frame,
+                                        sizeof s->frame, &got);
+    answer_begin(to, &got, l->moment);
+    if (status != GEOSTATION_OK) {
+        got.outcome = GEOSTATION_OUTCOME_REFUSED;
+        answer_refuse_memory(to);
     }
-    return length;
+    return got;
 }
 
-static uint32_t kind_of(const uint8_t *frame, size_t length, uint16_t *port) {
-    struct geostation_packet packet;
-    ignore_status(geostation_read_frame(frame, length, &packet));
-    *port = packet.message.port;
-    return packet.kind;
-}
-
-/* Asks the probe, which has no open ports. A received frame is accepted, ignored, or refused by S3
- * or S4. No other call has these codes, and only `close` has S8 B4. */
-static struct intent foresee(struct station *s, uint64_t moment, uint64_t number,
-                             const uint8_t *line, size_t n, struct held *h) {
-    struct intent i = { .length = 0 };
-    ignore_status(geostation_restart(s->probe, moment, 0));
-    h->length = serve(s->probe, s, moment, number, line, n, h->answer, &i.length);
-    const uint8_t *answer = h->answer;
-    size_t end = h->length;
-    i.sends = answer_has_result(answer, end, "sent");
-    i.ticks = answer_has_result(answer, end, "quiet")
-        || (i.sends && kind_of(s->frame, i.length, &i.port) == GEOSTATION_BEACON);
-    i.asks_beacon = answer_has_result(answer, end, "next_beacon");
-    i.processes = answer_has_result(answer, end, "accepted")
-        || answer_has_result(answer, end, "ignored");
-    i.passes_frame = i.processes || answer_has_code(answer, end, "S3")
-        || answer_has_code(answer, end, "S4");
-    i.moves = answer_has_result(answer, end, "moved");
-    i.restarts = answer_has_result(answer, end, "restarted");
-    i.opens = answer_has_result(answer, end, "opened");
-    i.closes = answer_has_code(answer, end, "S8 B4");
-    return i;
-}
-
-/* Is this the port of a line that opens or closes one? The probe finds out. */
-static bool is_port_of(struct station *s, uint64_t moment, const struct intent *i, uint16_t port,
-                       const uint8_t *line, size_t n) {
-    static uint8_t answer[GEOSTATION_ANSWER_MAX];
-    size_t none = 0;
-    if (i->opens) {
-        return geostation_close_port(s->probe, moment, port) == GEOSTATION_OK;
+static uint32_t kind_of(uint32_t command) {
+    switch (command) {
+    case GEOSTATION_COMMAND_TICK: return GEOSTATION_BEACON;
+    case GEOSTATION_COMMAND_SHB: return GEOSTATION_SHB;
+    case GEOSTATION_COMMAND_GBC: return GEOSTATION_GBC;
+    case GEOSTATION_COMMAND_GAC: return GEOSTATION_GAC;
+    default: return 0;
     }
-    ignore_status(geostation_open_port(s->probe, moment, port));
-    size_t length = serve(s->probe, s, moment, 0, line, n, answer, &none);
-    return answer_has_result(answer, length, "closed");
+}
+
+/* The length of the frame that a line asks to send. 0 for `tick`: it may send none. */
+static size_t frame_length(const struct geostation_line_result *asked) {
+    switch (asked->command) {
+    case GEOSTATION_COMMAND_TICK: return 0;
+    case GEOSTATION_COMMAND_SHB: return SHB_HEADERS + asked->payload_length;
+    default: return AREA_HEADERS + asked->payload_length;
+    }
 }
 
 /* Has a client with limited rights the right to this? It may close only ports that it opened. */
-static bool has_right(struct station *s, uint64_t moment, const struct client *c,
-                      const struct intent *i, const uint8_t *line, size_t n) {
-    uint16_t port;
-    if (i->passes_frame || i->moves || i->restarts || i->ticks) {
-        return false;
+static bool has_right(const struct client *c, const struct geostation_line_result *asked) {
+    switch (asked->command) {
+    case GEOSTATION_COMMAND_SHB:
+    case GEOSTATION_COMMAND_GBC:
+    case GEOSTATION_COMMAND_GAC: return rights_to_send(c->rights, asked->port);
+    case GEOSTATION_COMMAND_OPEN: return rights_to_listen(c->rights, asked->port);
+    case GEOSTATION_COMMAND_CLOSE: return ports_have(&c->opened, asked->port);
+    default: return false;
     }
-    if (i->sends) {
-        return rights_to_send(c->rights, i->port);
-    }
-    if (!i->opens && !i->closes) {
-        return true;
-    }
-    return line_port(line, n, &port) && is_port_of(s, moment, i, port, line, n)
-        && (i->opens ? rights_to_listen(c->rights, port) : ports_have(&c->opened, port));
 }
 
-/* Why a line can't be done, or NULL. */
-static const struct refusal *judge(struct station *s, uint64_t now, const struct intent *i) {
-    if (i->passes_frame && s->security != NULL) {
-        return &not_verified;
+/* Why what a line asks for can't be done now, or NULL. */
+static const struct refusal *judge(struct station *s, const struct client *c,
+                                   const struct geostation_line_result *asked) {
+    if (c->rights != NULL && !has_right(c, asked)) {
+        return &not_allowed;
     }
-    if (i->sends || i->ticks) {
-        return own_refusal(s, now, i->length, i->ticks);
+    if (asked->command == GEOSTATION_COMMAND_RECEIVE) {
+        return s->security != NULL ? &not_verified : own_place_refusal(s);
     }
-    return i->processes ? own_place_refusal(s) : NULL;
-}
-
-/* A line moved the station. The probe gets the same line; a packet of it has the new position. */
-static void follow_move(struct station *s, uint64_t now, const uint8_t *line, size_t n) {
-    static uint8_t answer[GEOSTATION_ANSWER_MAX];
-    const struct geostation_shb_request any = { .port = 0 };
-    struct geostation_packet packet;
-    size_t length = 0;
-    (void)serve(s->probe, s, s->last, 0, line, n, answer, &length);
-    ignore_status(geostation_send_shb(s->probe, s->last, &any, NULL, 0, s->frame, sizeof s->frame,
-                                      &length));
-    if (length != 0 && geostation_read_frame(s->frame, length, &packet) == GEOSTATION_OK) {
-        place_take(s->place, &packet.vector, now);
-        place_tell(s->place, s, now);
-    }
+    return kind_of(asked->command) != 0 ? own_refusal(s, frame_length(asked)) : NULL;
 }
 
 /* Gives the station the address that a `restart` has. False: it is wrong. */
-static bool take_address(struct station *s, uint64_t now, uint64_t number, const uint8_t *line,
-                         size_t n, struct held *h) {
+static bool take_address(struct station *s, const struct line *l, struct held *h) {
     uint64_t address;
-    enum readdressing found = readdress_read(line, n, &address);
+    enum readdressing found = readdress_read(l->octets, l->length, &address);
     if (found == WRONG_ADDRESS) {
-        h->length = answer_put_error(h->answer, h->length, number, "address");
+        answer_put_error(h, l->number, "address", "its value is wrong");
     } else if (found == NEW_ADDRESS) {
-        readdress(s, now, address);
+        readdress(s, l->now, address);
     }
     return found != WRONG_ADDRESS;
 }
 
-/* Keeps which client opened a port. A port that can't be read here may be anyone's. */
-static void follow_ports(struct station *s, const struct intent *i, const uint8_t *line, size_t n,
-                         const struct held *h) {
-    uint16_t port;
-    bool is_known = line_port(line, n, &port);
-    if (i->restarts) {
-        clients_forget_ports(s->clients);
-    } else if (i->closes && answer_has_result(h->answer, h->length, "closed")) {
-        if (is_known) {
-            clients_forget_port(s->clients, port);
-        } else {
-            clients_forget_ports(s->clients);
-        }
-    } else if (is_known && answer_has_result(h->answer, h->length, "opened")) {
-        (void)ports_add(&h->client->opened, port);
+static void send_own(struct station *s, size_t length, uint32_t kind, struct held *h) {
+    const struct refusal *why = own_send(s, length, kind, h);
+    if (why != NULL) {
+        answer_refuse(h, why);
     }
 }
 
-static void send_own(struct station *s, size_t length, struct held *h) {
-    uint16_t port;
-    const struct refusal *why = own_send(s, length, kind_of(s->frame, length, &port), h);
-    if (why != NULL) {
-        h->length = answer_refuse(h->answer, h->length, why);
+/* What follows from a line that was executed. */
+static void follow(struct station *s, const struct line *l,
+                   const struct geostation_line_result *done, struct held *h) {
+    switch (done->command) {
+    case GEOSTATION_COMMAND_MOVE:
+        place_take(s->place, &done->vector, l->now);
+        place_tell(s->place, s, l->now);
+        break;
+    case GEOSTATION_COMMAND_OPEN: (void)ports_add(&h->client->opened, done->port); break;
+    case GEOSTATION_COMMAND_CLOSE: clients_forget_port(s->clients, done->port); break;
+    case GEOSTATION_COMMAND_RESTART:
+        ignore_status(geostation_restart(s->beacons, s->last, 0));
+        clients_forget_ports(s->clients);
+        break;
+    case GEOSTATION_COMMAND_RECEIVE:
+        if (done->frame_length != 0) {
+            forwards_put(s->forwards, s->frame, done->frame_length, l->now);
+        }
+        break;
+    default:
+        if (done->frame_length != 0) {
+            send_own(s, done->frame_length, kind_of(done->command), h);
+        }
     }
 }
 
 /* The handle of beacons knows when one is due. */
-static void do_line(struct station *s, uint64_t now, uint64_t number, const uint8_t *line, size_t n,
-                    const struct intent *i, struct held *h) {
-    geostation_handle *asked = i->ticks || i->asks_beacon ? s->beacons : s->handle;
-    size_t length = 0;
-    h->length = serve(asked, s, s->last, number, line, n, h->answer, &length);
-    if (length != 0 && answer_has_result(h->answer, h->length, "sent")) {
-        send_own(s, length, h);
-    } else if (length != 0 && s->security == NULL && i->passes_frame) {
-        forwards_put(s->forwards, s->frame, length, now);
-    } else if (i->moves) {
-        follow_move(s, now, line, n);
-    } else if (i->restarts) {
-        ignore_status(geostation_restart(s->beacons, s->last, 0));
-    } else if (answer_has_result(h->answer, h->length, "counts")) {
-        h->length = answer_put_counts(s, h->answer, h->length);
+static void do_line(struct station *s, const struct line *l, uint32_t command, struct held *h) {
+    bool ticks = command == GEOSTATION_COMMAND_TICK;
+    s->last = l->moment;
+    place_refresh(s->place, s, l->now);
+    struct geostation_line_result done = execute(ticks ? s->beacons : s->handle, s, l,
+                                                 GEOSTATION_RIGHTS_ALL, h);
+    if (done.outcome == GEOSTATION_OUTCOME_DONE) {
+        follow(s, l, &done, h);
     }
-    if (i->ticks || i->restarts) {
+    if (ticks || command == GEOSTATION_COMMAND_RESTART) {
         station_plan_beacon(s);
-    }
-    if (i->opens || i->closes || i->restarts) {
-        follow_ports(s, i, line, n, h);
     }
 }
 
-void station_answer(struct station *s, uint64_t now, uint64_t number, const uint8_t *line, size_t n,
-                    struct held *h) {
-    uint64_t moment = clock_moment_at(now);
-    struct intent i = foresee(s, moment, number, line, n, h);
-    bool allowed = h->client->rights == NULL || has_right(s, moment, h->client, &i, line, n);
-    const struct refusal *why = allowed ? judge(s, now, &i) : &not_allowed;
+/* A line that needs no rights was executed. */
+static void complete(struct station *s, const struct line *l,
+                     const struct geostation_line_result *done, struct held *h) {
+    if (done->outcome == GEOSTATION_OUTCOME_UNKNOWN_COMMAND) {
+        subscribe_answer(h, l->number, l->octets, l->length);
+    } else if (done->command == GEOSTATION_COMMAND_COUNTS) {
+        answer_put_counts(h, s);
+    } else if (done->command == GEOSTATION_COMMAND_NEXT_BEACON) {
+        (void)execute(s->beacons, s, l, 0, h);
+    }
+}
+
+void station_answer(struct station *s, uint64_t now, uint64_t number, const uint8_t *octets,
+                    size_t n, struct held *h) {
+    const struct line l = { now, clock_moment_at(now), number, octets, n };
+    struct geostation_line_result asked = execute(s->handle, s, &l, 0, h);
+    if (asked.outcome != GEOSTATION_OUTCOME_NOT_ALLOWED) {
+        complete(s, &l, &asked, h);
+        return;
+    }
+    const struct refusal *why = judge(s, h->client, &asked);
     if (why != NULL) {
-        h->length = answer_refuse(h->answer, h->length, why);
-        return;
+        answer_refuse(h, why);
+    } else if (asked.command != GEOSTATION_COMMAND_RESTART || take_address(s, &l, h)) {
+        do_line(s, &l, asked.command, h);
     }
-    if (i.restarts && !take_address(s, now, number, line, n, h)) {
-        return;
-    }
-    s->last = moment;
-    place_refresh(s->place, s, now);
-    do_line(s, now, number, line, n, &i, h);
-    h->length = subscribe_answer(h->client, moment, line, n, h->answer, h->length);
 }
 
 void station_print_counts(struct station *s, uint64_t now) {
-    static const uint8_t line[] = "{\"do\":\"counts\"}";
-    static uint8_t answer[GEOSTATION_ANSWER_MAX + 1];
-    size_t none = 0;
-    s->last = clock_moment_at(now);
-    size_t length = serve(s->handle, s, s->last, 0, line, sizeof line - 1, answer, &none);
-    length = answer_put_counts(s, answer, length);
-    answer[length] = '\n';
-    (void)put_error((const char *)answer, length + 1);
+    static struct held h;
+    h = (struct held){ .at = clock_moment_at(now), .start = 1, .answer = "{" };
+    answer_put_counts(&h, s);
+    h.answer[h.length] = '\n';
+    (void)put_error((const char *)h.answer, h.length + 1);
 }

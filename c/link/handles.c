@@ -19,26 +19,19 @@ static geostation_handle *make(const struct geostation_config *c) {
     return handle;
 }
 
-/* The library limits no line, so own packets have a handle of their own. The first beacon is due a
- * jitter after a restart. */
+/* The first beacon is due a jitter after a restart. */
 void handles_make(struct station *s, uint64_t moment, uint16_t number) {
     struct geostation_config c = s->config;
-    c.own_rate = 0;
     s->handle = make(&c);
     c.capacity = c.remember = 1;
-    c.forward_rate = c.source_rate = c.hop_cap = c.deliver_once = 0;
-    s->probe = make(&c);
+    c.own_rate = c.forward_rate = c.source_rate = c.hop_cap = c.deliver_once = 0;
     s->beacons = make(&c);
-    c.own_rate = s->config.own_rate;
-    s->own = make(&c);
     ignore_status(geostation_restart(s->handle, moment, number));
     ignore_status(geostation_restart(s->beacons, moment, 0));
 }
 
 void handles_free(struct station *s) {
-    geostation_free(s->own);
     geostation_free(s->beacons);
-    geostation_free(s->probe);
     geostation_free(s->handle);
 }
 
@@ -61,7 +54,6 @@ void station_counts(const struct station *s, struct geostation_counts *out) {
     *out = s->counts;
     add(out, s->handle);
     add(out, s->beacons);
-    add(out, s->own);
 }
 
 /* ---- an earlier moment */

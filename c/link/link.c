@@ -5,7 +5,9 @@
 #include <errno.h>
 #include <linux/if_packet.h>
 #include <linux/sock_diag.h>
+#include <linux/sockios.h>
 #include <string.h>
+#include <sys/ioctl.h>
 #include <time.h>
 #include <unistd.h>
 
@@ -97,9 +99,19 @@ static enum sending send_to_peers(struct link *l, const uint8_t *frame, size_t l
     return taken ? SENT : result;
 }
 
+/* Whether the send buffer of the socket takes one more frame. A queue after it may still drop the
+ * frame: that is known only when the frame is sent. */
+static bool has_space(const struct link *l) {
+    int queued = 0, room = 0;
+    socklen_t n = sizeof room;
+    return ioctl(l->fd, SIOCOUTQ, &queued) != 0
+        || getsockopt(l->fd, SOL_SOCKET, SO_SNDBUF, &room, &n) != 0 || queued < room;
+}
+
 enum sending link_refuses(struct link *l, size_t length) {
     enum sending result = !l->up ? LINK_DOWN
-        : l->longest != 0 && length > l->longest ? FRAME_TOO_LONG : SENT;
+        : l->longest != 0 && length > l->longest ? FRAME_TOO_LONG
+        : has_space(l) ? SENT : QUEUE_FULL;
     l->dropped += result != SENT && length != 0;
     return result;
 }

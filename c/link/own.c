@@ -10,7 +10,6 @@ static const struct refusal queue_full = { "queue full", "the link takes no more
 static const struct refusal too_long = { "too long", "the frame is over the link's MTU" };
 static const struct refusal lifetime_over = { "lifetime over",
                                               "the packet's lifetime passed before it was signed" };
-static const struct refusal over_rate = { "over rate", "own packets are over their rate" };
 static const struct refusal no_fix = { "no place", "the station has no position yet" };
 static const struct refusal old_fix = { "no place", "the last fix is too old" };
 static const struct refusal no_entity = { "no security", "there is no security entity" };
@@ -32,16 +31,7 @@ static const struct refusal *refusal_of(enum sending result) {
     }
 }
 
-/* Whether the rate of own packets has room for one more, which is then counted. */
-static bool has_rate(struct station *s, uint64_t now) {
-    static uint8_t frame[GEOSTATION_FRAME_MAX];
-    const struct geostation_shb_request any = { .port = 0 };
-    size_t length = 0;
-    return geostation_send_shb(s->own, clock_moment_at(now), &any, NULL, 0, frame, sizeof frame,
-                               &length) != GEOSTATION_OVER_RATE;
-}
-
-const struct refusal *own_refusal(struct station *s, uint64_t now, size_t length, bool beacon) {
+const struct refusal *own_refusal(struct station *s, size_t length) {
     if (s->security != NULL && !security_is_up(s->security)) {
         return &no_entity;
     }
@@ -53,8 +43,8 @@ const struct refusal *own_refusal(struct station *s, uint64_t now, size_t length
         return why;
     }
     why = refusal_of(link_refuses(s->link, length));
-    if (why == NULL && !beacon && !has_rate(s, now)) {
-        return &over_rate;
+    if (why == NULL && s->security != NULL && !requests_may_sign(s->security)) {
+        return &too_many;
     }
     return why;
 }
@@ -102,13 +92,6 @@ static const struct refusal *take_result(struct station *s, enum sending result,
 
 /* ---- sending */
 
-/* The packet of an application, as the library wrote it. */
-static void audit(struct station *s, const struct held *h) {
-    static uint8_t frame[GEOSTATION_FRAME_MAX];
-    size_t length = answer_read_frame(h, frame, sizeof frame);
-    audit_sent(s->audit, &h->by, frame, length);
-}
-
 const struct refusal *own_send(struct station *s, size_t length, uint32_t kind, struct held *h) {
     conflict_remember(&s->conflict, s->frame, length);
     s->has_sent = true;
@@ -120,7 +103,7 @@ const struct refusal *own_send(struct station *s, size_t length, uint32_t kind, 
     if (s->security == NULL) {
         const struct refusal *why = take_result(s, link_send(s->link, s->frame, length), kind);
         if (why == NULL && h != NULL) {
-            audit(s, h);
+            audit_sent(s->audit, &h->by, s->frame, length);
         }
         return why;
     }
@@ -134,8 +117,8 @@ const struct refusal *own_send(struct station *s, size_t length, uint32_t kind, 
     return &too_many;
 }
 
-void station_send_signed(struct station *s, const uint8_t *frame, size_t length, struct held *h,
-                         uint64_t since) {
+void station_send_signed(struct station *s, const uint8_t *plain, size_t plain_length,
+                         const uint8_t *frame, size_t length, struct held *h, uint64_t since) {
     uint32_t kind = h != NULL ? h->kind : GEOSTATION_BEACON;
     const struct refusal *why = &no_signature;
     s->last = clock_moment();
@@ -146,7 +129,7 @@ void station_send_signed(struct station *s, const uint8_t *frame, size_t length,
     }
     if (h != NULL) {
         if (why == NULL) {
-            audit(s, h);
+            audit_sent(s->audit, &h->by, plain, plain_length);
         }
         answer_complete(h, frame, length, why);
     }

@@ -310,9 +310,7 @@ void conflict_look(struct station *s, const struct geostation_reception *got, co
 struct clients;
 struct station {
     geostation_handle *handle;
-    geostation_handle *probe;   /* a second station, to find out what a line would do */
-    geostation_handle *own;     /* a third station, which limits the own packets of lines */
-    geostation_handle *beacons; /* a fourth station, which learns of packets that were sent */
+    geostation_handle *beacons; /* plans the beacons: it learns only of packets that were sent */
     struct geostation_counts counts; /* sent: what the link took; others: of earlier handles */
     struct geostation_config config;
     uint64_t address;
@@ -383,33 +381,32 @@ void audit_reopen(struct audit *a);
 void audit_sent(struct audit *a, const struct asker *by, const uint8_t *frame, size_t length);
 
 /* answers.c: requests of applications. */
-void station_answer(struct station *s, uint64_t now, uint64_t number, const uint8_t *line, size_t n,
-                    struct held *h);
+void station_answer(struct station *s, uint64_t now, uint64_t number, const uint8_t *octets,
+                    size_t n, struct held *h);
 void station_print_counts(struct station *s, uint64_t now);
 
 /* own.c: the station's own packets. */
 struct refusal { /* of a request */
     const char *code, *reason;
 };
-/* Why a packet can't be sent now, or NULL: then it is counted for its rate, if it is no beacon. */
-const struct refusal *own_refusal(struct station *s, uint64_t now, size_t length, bool beacon);
+/* Why a packet can't be sent now, as far as that is known, or NULL. Length 0: it isn't known. */
+const struct refusal *own_refusal(struct station *s, size_t length);
 const struct refusal *own_place_refusal(const struct station *s);
 /* Sends s->frame, or has it signed: then the answer `h` waits. `h`: NULL for a beacon. Returns why
  * it wasn't sent, or NULL. */
 const struct refusal *own_send(struct station *s, size_t length, uint32_t kind, struct held *h);
 /* Sends a packet once it is signed, and completes the answer to its request. `length`: 0 if it was
- * not signed. `since`: when it was requested. */
-void station_send_signed(struct station *s, const uint8_t *frame, size_t length, struct held *h,
-                         uint64_t since);
+ * not signed. `plain`: the packet as the library wrote it. `since`: when it was requested. */
+void station_send_signed(struct station *s, const uint8_t *plain, size_t plain_length,
+                         const uint8_t *frame, size_t length, struct held *h, uint64_t since);
 
-/* answer.c: the text of an answer. A function that changes it returns its new length. */
-bool answer_has_result(const uint8_t *answer, size_t n, const char *word);
-bool answer_has_code(const uint8_t *answer, size_t n, const char *code); /* begins a code so? */
-size_t answer_refuse(uint8_t *answer, size_t n, const struct refusal *why); /* it has a result */
-size_t answer_put_counts(const struct station *s, uint8_t *answer, size_t n);
-/* Reads the frame of an answer that has the result `sent`. Returns its length. */
-size_t answer_read_frame(const struct held *h, uint8_t *frame, size_t room);
-size_t answer_put_error(uint8_t *answer, size_t n, uint64_t number, const char *key);
+/* answer.c: the text of an answer. What the library wrote after the `id` is replaced. */
+void answer_begin(struct held *h, const struct geostation_line_result *got, uint64_t moment);
+void answer_put_result(struct held *h, const char *result); /* with quotation marks, and more keys */
+void answer_refuse(struct held *h, const struct refusal *why);
+void answer_refuse_memory(struct held *h);
+void answer_put_error(struct held *h, uint64_t number, const char *key, const char *reason);
+void answer_put_counts(struct held *h, const struct station *s);
 void answer_complete(struct held *h, const uint8_t *frame, size_t length,
                      const struct refusal *why); /* why: NULL if the frame was sent */
 
@@ -419,7 +416,8 @@ struct held {
     bool used, waits;
     uint32_t kind; /* of the packet whose signature it waits for */
     struct asker by;
-    size_t length;
+    uint64_t at;          /* the moment of the request */
+    size_t length, start; /* start: of what comes after the `id` */
     uint8_t answer[GEOSTATION_ANSWER_MAX + 1]; /* and a line feed */
 };
 struct held_pool {
@@ -466,10 +464,8 @@ int client_write(struct client *c); /* 0, or the errno of a client that reads no
 /* subscribe.c: requests that the library does not know. */
 /* Finds the last member of a line with this key, if it has no escapes. */
 bool line_member(const uint8_t *line, size_t n, const char *key, struct json_member *found);
-bool line_port(const uint8_t *line, size_t n, uint16_t *port);
-/* Answers such a request in place of the library, and returns the length of the answer. */
-size_t subscribe_answer(struct client *c, uint64_t moment, const uint8_t *line, size_t n,
-                        uint8_t *answer, size_t length);
+/* Executes such a request of h->client, and answers it in place of the library. */
+void subscribe_answer(struct held *h, uint64_t number, const uint8_t *line, size_t n);
 
 /* clients.c: all applications. */
 struct listener {

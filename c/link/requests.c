@@ -63,7 +63,7 @@ static void end_sign(struct security *x, const struct request *r, const struct a
     } else {
         x->counts.unsigned_packets++;
     }
-    station_send_signed(x->station, sealed, n, r->held, r->at);
+    station_send_signed(x->station, r->frame, r->length, sealed, n, r->held, r->at);
 }
 
 /* The outcome of a late request was decided before. */
@@ -172,6 +172,12 @@ void requests_probe(struct security *x) {
         ask(x, r, now);
     }
     x->probed = true;
+}
+
+/* Whether there is a place for one more own packet. A refusal is counted. */
+bool requests_may_sign(struct security *x) {
+    x->counts.unsigned_packets += x->signs.count == SIGNS;
+    return x->signs.count < SIGNS;
 }
 
 /* The station's own packet. False: there is no place for it, or no entity. */

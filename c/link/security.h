@@ -156,6 +156,7 @@ struct security {
     struct security_counts counts;
 };
 void requests_start(struct security *x);
+bool requests_may_sign(struct security *x);
 bool requests_sign(struct security *x, const uint8_t *frame, size_t length, struct held *h);
 void requests_verify(struct security *x, const struct received *got);
 void requests_ask(struct security *x); /* as many as the entity may have at a time */

@@ -158,6 +158,21 @@ class Packet(c.Structure):
     ]
 
 
+class LineResult(c.Structure):
+    _fields_ = [
+        ("command", c.c_uint32),
+        ("outcome", c.c_uint32),
+        ("status", c.c_int32),
+        ("port", c.c_uint16),
+        ("number", c.c_uint16),
+        ("payload_length", c.c_size_t),
+        ("answer_length", c.c_size_t),
+        ("id_length", c.c_size_t),
+        ("frame_length", c.c_size_t),
+        ("vector", Vector),
+    ]
+
+
 # The sizes that the header asserts for its structs.
 SIZES = {
     Reception: 72,
@@ -166,6 +181,7 @@ SIZES = {
     ShbRequest: 6,
     AreaRequest: 24,
     Vector: 32,
+    LineResult: 80,
     Packet: 120,
 }
 
@@ -240,6 +256,17 @@ CALLS = {
     "plain_part": (c.c_int, *_OCTETS, *_PART),
     "seal": (c.c_int, *_OCTETS, *_OCTETS, *_WRITTEN),
     "handle_json": (c.c_int, c.c_void_p, c.c_uint64, c.c_uint64, *_OCTETS, *_WRITTEN, *_WRITTEN),
+    "handle_line": (
+        c.c_int,
+        c.c_void_p,
+        c.c_uint64,
+        c.c_uint64,
+        *_OCTETS,
+        c.c_uint32,
+        *_OCTETS,
+        *_OCTETS,
+        c.POINTER(LineResult),
+    ),
     "beacon_at": (c.c_uint64, c.c_void_p, c.c_uint16),
     "next_number": (c.c_uint16, c.c_void_p),
     "counts": (None, c.c_void_p, c.POINTER(Counts)),

@@ -161,9 +161,9 @@ void station_take_verified(struct station *s, const uint8_t *frame, size_t lengt
     oldest = age > oldest ? age : oldest;
     delivered[delivered_count++ % (1 << 16)] = tag;
 }
-void station_send_signed(struct station *s, const uint8_t *frame, size_t length, struct held *h,
-                         uint64_t since) {
-    (void)s, (void)frame, (void)h;
+void station_send_signed(struct station *s, const uint8_t *plain, size_t plain_length,
+                         const uint8_t *frame, size_t length, struct held *h, uint64_t since) {
+    (void)s, (void)plain, (void)plain_length, (void)frame, (void)h;
     since_requested = since;
     sent += length != 0;
     unsent += length == 0;

@@ -79,6 +79,21 @@ def test_echo():
         has({"suppressed": 0, "repeated": 0}, counts["link"])
 
 
+def test_echo_by_requests():
+    """A `receive` is within the limits too: such a packet is not delivered a second time."""
+    with Net(PROGRAM, 1) as net:
+        first, second = gbc(1), gbc(2)
+        d = net.station(0, "--port", 2002, "--remember", 1, limits=True)
+        for frame in (first, second):
+            has({"result": "accepted", "payload": "78"}, d.ask(do="receive", frame=frame.hex()))
+        answer = d.ask(id=1, do="receive", frame=first.hex())
+        has({"id": 1, "result": "ignored", "why": "delivered before"}, answer)
+        assert "payload" not in answer, answer
+        counts = d.counts()
+        assert (counts["accepted"], counts["delivered"], counts["relayed"]) == (3, 2, 2), counts
+        has({"suppressed": 1, "repeated": 1}, counts["link"])
+
+
 def test_own_rate():
     """Own packets over their rate are refused; beacons and other requests are not."""
     with Net(PROGRAM, 1) as net:

@@ -44,11 +44,20 @@ lines_last s n (l ∷ ls) told mid line new end before last =
 pub ended_last : (log : List Response) (t : Response)
     → ended_of (log ++ t ∷ []) ≡ then_ended (ended_of log) t
 ended_last [] (responses.Reply id at source reply) = refl
+ended_last [] (responses.Repeated id at) = refl
+ended_last [] (responses.OverRate id at) = refl
+ended_last [] (responses.NotAllowed id at) = refl
 ended_last [] (responses.Known id at known) = refl
 ended_last [] (responses.Fault id line fault) = refl
 ended_last (responses.Reply a b c d ∷ log) t = ended_last log t
+ended_last (responses.Repeated a b ∷ log) t = ended_last log t
+ended_last (responses.OverRate a b ∷ log) t = ended_last log t
+ended_last (responses.NotAllowed a b ∷ log) t = ended_last log t
 ended_last (responses.Known a b c ∷ log) t = ended_last log t
 ended_last (responses.Fault a b c ∷ log) (responses.Reply id at source reply) = refl
+ended_last (responses.Fault a b c ∷ log) (responses.Repeated id at) = refl
+ended_last (responses.Fault a b c ∷ log) (responses.OverRate id at) = refl
+ended_last (responses.Fault a b c ∷ log) (responses.NotAllowed id at) = refl
 ended_last (responses.Fault a b c ∷ log) (responses.Known id at known) = refl
 ended_last (responses.Fault a b c ∷ log) (responses.Fault id line fault) = refl
 

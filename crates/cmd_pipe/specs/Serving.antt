@@ -25,12 +25,18 @@ TellsLines s n (line ∷ lines) told end =
 abbrev pub ended_of : List Response → Ended
 ended_of [] = ends.Done
 ended_of (responses.Reply id at source reply ∷ told) = ended_of told
+ended_of (responses.Repeated id at ∷ told) = ended_of told
+ended_of (responses.OverRate id at ∷ told) = ended_of told
+ended_of (responses.NotAllowed id at ∷ told) = ended_of told
 ended_of (responses.Known id at known ∷ told) = ended_of told
 ended_of (responses.Fault id line fault ∷ told) = ends.Refused
 
 -- the same after one more
 abbrev pub then_ended : Ended → Response → Ended
 then_ended ended (responses.Reply id at source reply) = ended
+then_ended ended (responses.Repeated id at) = ended
+then_ended ended (responses.OverRate id at) = ended
+then_ended ended (responses.NotAllowed id at) = ended
 then_ended ended (responses.Known id at known) = ended
 then_ended ended (responses.Fault id line fault) = ends.Refused
 

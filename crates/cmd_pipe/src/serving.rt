@@ -97,7 +97,11 @@ fn ended_after(ended: Ended, response: &Response) -> Ended
     ensures { result ≡ then_ended ended response.now }
 {
     match response {
-        Response::Reply { .. } | Response::Known { .. } => ended,
+        Response::Reply { .. }
+        | Response::Repeated { .. }
+        | Response::OverRate { .. }
+        | Response::NotAllowed { .. }
+        | Response::Known { .. } => ended,
         Response::Fault { .. } => Ended::Refused,
     }
 }

@@ -132,6 +132,25 @@ pub stays_asked : {T E : Type 0} (said : Result T E) (old new : UnitState)
 stays_asked said old new Tells held after tells same limits =
     kept_open old new held after (answered said old new Tells tells same limits)
 
+-- a unit that does what a line asks for within its limits stays open
+within_keeps : {T E : Type 0} (said : Result T E) (old new : UnitState)
+    → ((u : UnitModel) → RepresentsUnit old u
+    → IfOk said (λ told. (next : UnitModel) × RepresentsUnit new next))
+    → OnErr said (IsSameUnit old new) → ((u : UnitModel) × RepresentsUnit old u)
+    → (u : UnitModel) × RepresentsUnit new u
+within_keeps (Ok told) old new is same found = is found.0 found.1
+within_keeps (Err e) old new is same found =
+    (found.0, same_rep old new found.0 same found.1)
+
+pub stays_within : {T E : Type 0} (said : Result T E) (old new : UnitState)
+    (held after : Option UnitState)
+    → ((u : UnitModel) → RepresentsUnit old u
+    → IfOk said (λ told. (next : UnitModel) × RepresentsUnit new next))
+    → OnErr said (IsSameUnit old new) → held ≡ Some old → after ≡ Some new → IsOpen held
+    → IsOpen after
+stays_within said old new held after is same =
+    kept_open old new held after (within_keeps said old new is same)
+
 -- the counts of the unit that is held
 pub counts_held : {X E : Type 0} (count : Result X E → Counts → Counts) (said : Result X E)
     (held after : Option UnitState) (old new : UnitState) → held ≡ Some old → after ≡ Some new

@@ -5,6 +5,7 @@ pub mod Frames
 pub mod Held
 pub mod Handles
 pub mod Life
+pub mod Lines
 pub mod Lookups
 pub mod Open
 pub mod Ownership

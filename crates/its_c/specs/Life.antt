@@ -1,5 +1,5 @@
 -- A handle's life: what C calls between `geostation_new_from_config` and `geostation_free`, and what it
--- finds. A line of JSON passes no limit, and is not among these calls.
+-- finds. A line of JSON is not among these calls: see the clause `served` of its exports.
 use Rattle.std.specs.Prelude.{◌≡◌, ◌≢◌, ◌<◌, ◌≤◌, ℕ, ℤ, pos, negsuc, nat_eq, not, List, [], ◌∷◌}
 use Rattle.std.specs.Prelude.{◌++◌, length, Bool, false, if◌then◌else◌, Option, Some, Result, Vec}
 use Rattle.std.specs.declared.alloc.Global.{Global}

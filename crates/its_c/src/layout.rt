@@ -134,6 +134,49 @@ impl Vector {
     };
 }
 
+/// What a line of JSON asked for, and the outcome: `struct geostation_line_result` of C.
+#[repr(C)]
+#[derive(Clone, Copy)]
+pub struct LineResult {
+    /// The command, 1 to 15 in the order of `LineWord`'s list; 0 if the line has none.
+    pub command: u32,
+    /// 0 for a blank line, 1 if it was done, 2 if it lacks the right, 3 if it was refused, 4 if its
+    /// command is missing or unknown, and 5 if it can't be read otherwise.
+    pub outcome: u32,
+    /// Why it was refused, as the status of the call that it asks for; otherwise 0.
+    pub status: i32,
+    /// The port that it opens or closes, or to which it sends; otherwise 0.
+    pub port: u16,
+    /// The sequence number of the GBC or GAC that it sent; otherwise 0.
+    pub number: u16,
+    /// The length of the payload that it sends, or asks to send; otherwise 0.
+    pub payload_length: usize,
+    /// The length of the answer; 0 to a blank line.
+    pub answer_length: usize,
+    /// The length of the value of the `id` in the answer, which begins after six octets; or 0.
+    pub id_length: usize,
+    /// The length of the frame that is to be sent, or that was sealed; or 0.
+    pub frame_length: usize,
+    /// The position vector of the station after the line.
+    pub vector: Vector,
+}
+
+impl LineResult {
+    /// What is written if the status isn't 0.
+    pub(crate) const NOTHING: LineResult = LineResult {
+        command: 0,
+        outcome: 0,
+        status: 0,
+        port: 0,
+        number: 0,
+        payload_length: 0,
+        answer_length: 0,
+        id_length: 0,
+        frame_length: 0,
+        vector: Vector::NOTHING,
+    };
+}
+
 /// Where a packet is to go: `struct geostation_area` of C.
 #[repr(C)]
 #[derive(Clone, Copy)]

@@ -6,7 +6,8 @@
 //! handle's unit, with what C finds in its memory in place of the answer.
 //!
 //! The handle holds a unit (`its_unit`): the station, the limits on what goes out, forwarded frames
-//! and own packets, and counts. A line of `geostation_handle_json` passes no limit.
+//! and own packets, and counts. A line of `geostation_handle_json` passes no limit, one of
+//! `geostation_handle_line` does.
 //!
 //! # What is proved
 //!
@@ -50,11 +51,13 @@
 //!   `its_unit`). The list says of each call what its export promises, by the same name (`CallStep`, in
 //!   `step`, or in `unchanged` if it only reads). The unit makes these calls, but those that are refused
 //!   for a buffer, an argument or want of memory. After each call the handle stands for the unit of the
-//!   run, so what a call reads is read of that unit. A line of JSON passes no limit, and is not among
-//!   these calls.
+//!   run, so what a call reads is read of that unit. A line of JSON is not among these calls.
 //! - **JSON.** `geostation_handle_json` answers as the model's station does to the request
 //!   (`served`). It writes compact JSON, or nothing if none could be printed. Its memory is
 //!   allocated before the call is made. That its text says what was answered is tested.
+//!   `geostation_handle_line` is the step of the unit, within its limits, if the line has the right
+//!   that it needs; otherwise nothing changes. Each member of its struct but the length of the `id`
+//!   is proved (`served`).
 //! - **Queries.** `geostation_neighbour` finds the model's live neighbour with the least address
 //!   above the number, and `geostation_look_up` its live source (`found`). Neither finds one at a
 //!   time out of range (`none`), and no station has a group address (`group`).
@@ -96,6 +99,7 @@ mod handle;
 mod handle_out;
 mod heap;
 mod layout;
+mod line;
 mod queries;
 mod raw_box;
 mod reading;
@@ -111,6 +115,6 @@ mod unit_ptr;
 pub use handle::Geostation;
 pub use handle_out::HandleOut;
 pub use layout::{
-    AllCounts, AreaRequest, Config, Packet, PacketArea, PacketMessage, Reception, ShbRequest,
-    ToldCounts, Vector,
+    AllCounts, AreaRequest, Config, LineResult, Packet, PacketArea, PacketMessage, Reception,
+    ShbRequest, ToldCounts, Vector,
 };

@@ -20,7 +20,7 @@ use its_words::json_lines::JsonLine;
 use std::alloc::Global;
 
 /// How many octets an answer may have: a call that writes one wants room for it.
-const LONGEST_ANSWER: usize = 16384;
+pub(crate) const LONGEST_ANSWER: usize = 16384;
 
 /// Does what a line of JSON asks for at the moment `now`: a call of the station, or what it knows,
 /// as the command `station` does. What stands under `at` isn't looked at. Writes the answer, one
@@ -80,7 +80,7 @@ pub extern "C" fn geostation_handle_json(
 
 /// Writes the frame that is to be sent after what was answered, if one is, to the beginning of a
 /// buffer, and returns its length.
-fn write_frame(told: &Option<Response>, room: &mut [u8]) -> usize
+pub(crate) fn write_frame(told: &Option<Response>, room: &mut [u8]) -> usize
     ensures { ShowsFitting result room.new (frame_in told.now) }
 {
     match told {
@@ -115,7 +115,7 @@ fn write_fitting(octets: &[u8], room: &mut [u8]) -> usize
 }
 
 /// Writes what was answered to the beginning of a buffer, and returns its length.
-fn write_answer(text: &mut JsonLine, told: &Option<Response>, room: &mut [u8]) -> usize
+pub(crate) fn write_answer(text: &mut JsonLine, told: &Option<Response>, room: &mut [u8]) -> usize
     ensures { ShowsAnswer result room.new told.now }
 {
     match told {

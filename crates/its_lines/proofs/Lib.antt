@@ -1,4 +1,5 @@
 pub mod Calls
+pub mod Made
 pub mod Neighbours
 pub mod Read
 pub mod Own

@@ -21,9 +21,11 @@
 //! - `checks/failures`: failed allocations.
 #![tactic(auto)]
 
+mod asked;
 mod frame_octets;
 mod knowing;
 mod lines;
+mod making;
 mod members;
 mod printing;
 mod reading;
@@ -34,10 +36,11 @@ mod response;
 mod serving;
 mod word;
 
+pub use asked::{Asked, Right, Rights};
 pub use frame_octets::FrameOctets;
 pub use lines::LONGEST_LINE;
-pub use printing::print_response;
+pub use printing::{id_length, print_response};
 pub use request::{Id, LineFault, Query, QueryKey};
 pub use response::{Known, Response, SealFault};
-pub use serving::{Unanswered, answer_input_line, answer_line};
+pub use serving::{LineAnswer, Unanswered, answer_input_line, answer_line, answer_line_within};
 pub use word::LineWord;

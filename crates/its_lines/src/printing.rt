@@ -1,6 +1,7 @@
 //! Answers as JSON lines.
 
-ghost use Rattle.std.specs.Prelude.{IfOk};
+ghost use Rattle.std.specs.Prelude.{◌≡◌, IfNone, IfOk};
+ghost use Rattle.its_lines.specs.Within.{id_in};
 ghost use Rattle.its_words.specs.JsonLines.{IsLine};
 
 use crate::reason::{LineReason, SealReason};
@@ -33,6 +34,20 @@ pub fn print_response<'l>(
             let head = LineHead::new(id, Some(*at), answer_word(reply));
             line.of(&ReplyLine::new(head, source, reply))
         }
+        Response::Repeated { id, at } => line.of(&RepeatedLine {
+            head: LineHead::new(id, Some(*at), words::IGNORED),
+            why: "delivered before",
+        }),
+        Response::OverRate { id, at } => line.of(&UnsentLine {
+            head: LineHead::new(id, Some(*at), words::REFUSED),
+            code: "over rate",
+            reason: "own packets are over their rate",
+        }),
+        Response::NotAllowed { id, at } => line.of(&UnsentLine {
+            head: LineHead::new(id, Some(*at), words::REFUSED),
+            code: "not allowed",
+            reason: "the caller doesn't allow it now",
+        }),
         Response::Known { id, at, known } => print_known(line, id, *at, known),
         Response::Fault {
             id,
@@ -44,6 +59,28 @@ pub fn print_response<'l>(
             error: Printed(*fault),
             reason: LineReason::of(*fault).map(Printed),
         }),
+    }
+}
+
+/// Returns the length of the value of the `id` in the line of an answer: 0 if the answer has no `id`,
+/// or if an allocation failed. The value comes after the six octets `{"id":`.
+pub fn id_length(line: &mut JsonLine, response: &Response) -> usize
+    ensures { IfNone (id_in response.now) (result ≡ 0) }
+{
+    let id = match response {
+        Response::Reply { id, .. }
+        | Response::Repeated { id, .. }
+        | Response::OverRate { id, .. }
+        | Response::NotAllowed { id, .. }
+        | Response::Known { id, .. }
+        | Response::Fault { id, .. } => id,
+    };
+    let Some(id) = id else {
+        return 0;
+    };
+    match line.of(&IdText(id)) {
+        Ok(text) => text.len() - 1,
+        Err(_) => 0,
     }
 }
 
@@ -200,6 +237,23 @@ fn print_known<'l>(
             reason: Printed(RefusedReason(*refused)),
         }),
     }
+}
+
+/// The answer to a frame whose packet was delivered before.
+#[derive(Clone, Copy, Serialize)]
+struct RepeatedLine<'a> {
+    #[serde(flatten)]
+    head: LineHead<'a>,
+    why: &'static str,
+}
+
+/// The answer to a request that the station was not asked.
+#[derive(Clone, Copy, Serialize)]
+struct UnsentLine<'a> {
+    #[serde(flatten)]
+    head: LineHead<'a>,
+    code: &'static str,
+    reason: &'static str,
 }
 
 #[derive(Clone, Copy, Serialize)]

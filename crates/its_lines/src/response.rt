@@ -21,6 +21,29 @@ pub enum Response {
         /// The answer to the call.
         reply: StationAnswer,
     },
+    /// The line asked for a frame to be received, whose packet was delivered before and is
+    /// remembered. It is neither delivered nor forwarded.
+    Repeated {
+        /// The `id` of the line.
+        id: Option<Id>,
+        /// The time of the call, in milliseconds.
+        at: u64,
+    },
+    /// The line asked for an own packet, and own packets are over their rate. Only the count of
+    /// these changed.
+    OverRate {
+        /// The `id` of the line.
+        id: Option<Id>,
+        /// The time of the line, in milliseconds.
+        at: u64,
+    },
+    /// The line needs a right that it doesn't have. Nothing changed.
+    NotAllowed {
+        /// The `id` of the line.
+        id: Option<Id>,
+        /// The time of the line, in milliseconds.
+        at: u64,
+    },
     /// The line was a query.
     Known {
         /// The `id` of the line.

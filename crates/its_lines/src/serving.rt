@@ -7,9 +7,14 @@ ghost use Rattle.its_lines.specs.Lines.{whole_line};
 ghost use Rattle.its_lines.specs.Requests.{AsksSecured, IsAskedIn, line_of};
 ghost use Rattle.its_lines.specs.Serving.{RepresentsCounted, TellsAsked, TellsCall, TellsLine};
 ghost use Rattle.its_lines.specs.Serving.{told_in};
+ghost use Rattle.its_lines.specs.Within.{AnswersIn, AnswersLine};
+ghost use Rattle.its_unit.specs.Steps.{IsSameUnit};
+ghost use Rattle.its_unit.specs.Unit.{RepresentsUnit, UnitModel};
 
+use crate::asked::{Asked, Rights};
 use crate::knowing::answer_query;
 use crate::lines::LONGEST_LINE;
+use crate::making::{make_own, make_receive, make_receive_verified};
 use crate::reading::read_request;
 use crate::receiving::{receive, receive_verified};
 use crate::request::{Id, LineRequest, Request};
@@ -116,6 +121,99 @@ pub fn answer_line(
         return Err(Unanswered::NoRoom);
     }
     Ok(respond(alloc, unit, number, asked)?)
+}
+
+/// What a line asked for, and the answer to it.
+#[derive(Debug, Drop)]
+pub struct LineAnswer {
+    /// What it asked for, in short.
+    pub asked: Asked,
+    /// The answer. `None` to a blank line.
+    pub response: Option<Response>,
+}
+
+/// Does what one line asks for, as `answer_line` does, within the limits of the unit, and if these
+/// rights allow it. If they don't, the answer is `NotAllowed`, and nothing changes.
+///
+/// - `tells` (`AnswersLine`): a call that is allowed is the step of the unit of the model. Its answer
+///   is returned, and it is counted. A query is answered as the station knows it, and changes
+///   nothing. `asked` is what was asked, in short.
+/// - `unchanged`: if an allocation failed, the station and the limits are as before.
+pub fn answer_line_within(
+    alloc: Global,
+    unit: &mut Unit<SortedTable>,
+    now: u64,
+    number: u64,
+    line: &[u8],
+    room: usize,
+    rights: Rights,
+) -> Result<LineAnswer, Unanswered>
+    ensures tells { (u : UnitModel) → RepresentsUnit unit.old u → IfOk result (λ told.
+        AnswersLine now rights u number (whole_line line.now) unit.old told unit.new) }
+    ensures represents { (u : UnitModel) → RepresentsUnit unit.old u → IfOk result (λ told.
+        (next : UnitModel) × RepresentsUnit unit.new next) }
+    ensures room { room < 2310 → AsksSecured (whole_line line.now) → IsErr result }
+    ensures no_room { result ≡ Err Unanswered.NoRoom → (room < 2310)
+        × AsksSecured (whole_line line.now) × (unit.new ≡ unit.old) }
+    ensures unchanged { OnErr result (IsSameUnit unit.old unit.new) }
+{
+    let longer = line.len() > LONGEST_LINE;
+    let line = read_request(alloc, line, longer, Some(now))?;
+    if line.secured && room < LONGEST_SECURED_FRAME {
+        return Err(Unanswered::NoRoom);
+    }
+    let asked = Asked::of(&line.request);
+    if !rights.allow(&line.request) {
+        let response = Some(Response::NotAllowed {
+            id: line.id,
+            at: now,
+        });
+        return Ok(LineAnswer { asked, response });
+    }
+    let response = respond_within(alloc, unit, number, line)?;
+    Ok(LineAnswer { asked, response })
+}
+
+/// Does what the line of this number asks for within the limits, and returns the answer. `NoMemory`
+/// if an allocation failed: nothing changed then but the counts.
+fn respond_within(
+    alloc: Global,
+    unit: &mut Unit<SortedTable>,
+    number: u64,
+    line: LineRequest,
+) -> Result<Option<Response>, NoMemory>
+    requires { IsAskedIn IsInRange line.request }
+    ensures tells { (u : UnitModel) → RepresentsUnit unit.old u → IfOk result (λ told.
+        AnswersIn u number line.id line.request unit.old told unit.new) }
+    ensures represents { (u : UnitModel) → RepresentsUnit unit.old u → IfOk result (λ told.
+        (next : UnitModel) × RepresentsUnit unit.new next) }
+    ensures unchanged { OnErr result (IsSameUnit unit.old unit.new) }
+{
+    let id = line.id;
+    match line.request {
+        Request::Nothing => Ok(None),
+        Request::Call(at, Call::Own(call)) => {
+            let made = make_own(unit, at, &call)?;
+            Ok(Some(Response::of_made(id, at, None, made)))
+        }
+        Request::Call(at, Call::Receive(frame)) => {
+            let (made, source) = make_receive(alloc, unit, at, frame.as_slice())?;
+            Ok(Some(Response::of_made(id, at, source, made)))
+        }
+        Request::Verified(at, octets) => {
+            let (made, source) = make_receive_verified(alloc, unit, at, &octets)?;
+            Ok(Some(Response::of_made(id, at, source, made)))
+        }
+        Request::Query(at, query) => {
+            let known = answer_query(alloc, unit, at, query)?;
+            Ok(Some(Response::Known { id, at, known }))
+        }
+        Request::Bad(fault) => Ok(Some(Response::Fault {
+            id,
+            line: number,
+            fault,
+        })),
+    }
 }
 
 /// Why a line is not answered. The station is as before.

@@ -116,6 +116,22 @@ pub(crate) struct Vector {
     pub(crate) accurate: u8,
 }
 
+/// `struct geostation_line_result`.
+#[repr(C)]
+#[derive(Default)]
+pub(crate) struct LineResult {
+    pub(crate) command: u32,
+    pub(crate) outcome: u32,
+    pub(crate) status: i32,
+    pub(crate) port: u16,
+    pub(crate) number: u16,
+    pub(crate) payload_length: usize,
+    pub(crate) answer_length: usize,
+    pub(crate) id_length: usize,
+    pub(crate) frame_length: usize,
+    pub(crate) vector: Vector,
+}
+
 /// `struct geostation_area`.
 #[repr(C)]
 #[derive(Default)]
@@ -168,6 +184,7 @@ const _: () = {
     assert!(size_of::<Config>() == 64 && size_of::<Counts>() == 168);
     assert!(size_of::<ShbRequest>() == 6 && size_of::<AreaRequest>() == 24);
     assert!(size_of::<Vector>() == 32 && size_of::<Area>() == 16);
+    assert!(size_of::<LineResult>() == 80);
 };
 
 type SendToArea = unsafe extern "C" fn(
@@ -310,6 +327,19 @@ extern "C" {
         frame: *mut u8,
         frame_room: usize,
         frame_length: *mut usize,
+    ) -> c_int;
+    fn geostation_handle_line(
+        s: *mut Opaque,
+        now: u64,
+        number: u64,
+        line: *const u8,
+        line_length: usize,
+        rights: u32,
+        answer: *mut u8,
+        answer_room: usize,
+        frame: *mut u8,
+        frame_room: usize,
+        out: *mut LineResult,
     ) -> c_int;
     fn geostation_next_number(s: *const Opaque) -> u16;
     fn geostation_beacon_at(s: *const Opaque, jitter: u16) -> u64;
@@ -561,6 +591,32 @@ impl Handle {
         };
         answer.truncate(told);
         (status, length)
+    }
+
+    /// Afterwards, `answer` holds exactly the answer.
+    pub(crate) fn handle_line(
+        &mut self,
+        now: u64,
+        number: u64,
+        line: &[u8],
+        rights: u32,
+        answer: &mut Vec<u8>,
+        frame: &mut [u8],
+    ) -> (c_int, LineResult) {
+        answer.resize(ANSWER_MAX, 0);
+        let (s, mut out) = (self.0.as_ptr(), LineResult::default());
+        let (text, text_room) = (answer.as_mut_ptr(), answer.len());
+        let (octets, room) = (frame.as_mut_ptr(), frame.len());
+        let (asked, count) = (line.as_ptr(), line.len());
+        // SAFETY: the handle is valid, and in no other call; the three slices have the given
+        // lengths, and don't overlap, as two of them are borrowed mutably.
+        let status = unsafe {
+            geostation_handle_line(
+                s, now, number, asked, count, rights, text, text_room, octets, room, &mut out,
+            )
+        };
+        answer.truncate(out.answer_length);
+        (status, out)
     }
 
     pub(crate) fn next_number(&self) -> u16 {

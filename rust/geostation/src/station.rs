@@ -306,6 +306,46 @@ pub struct SentCounts {
     pub geoanycasts: u64,
 }
 
+/// What a JSON request asked for, and the outcome: see [`Station::handle_line`].
+#[derive(Clone, Copy, Debug, PartialEq, Eq, Hash)]
+#[non_exhaustive]
+pub struct LineResult {
+    /// The number of its command: 1 `move`, 2 `open`, 3 `close`, 4 `tick`, 5 `shb`, 6 `gbc`, 7
+    /// `gac`, 8 `restart`, 9 `receive`, 10 `next_beacon`, 11 `neighbours`, 12 `look_up`, 13
+    /// `read_frame`, 14 `counts`, 15 `seal`; 0 if it has none.
+    pub command: u32,
+    /// 0 for a blank line, 1 if it was executed, 2 if it lacks its right, 3 if it was refused, 4 if
+    /// its command is missing or unknown, 5 if it is malformed.
+    pub outcome: u32,
+    /// Why it was refused, as [`Error::status`] numbers it; otherwise 0.
+    pub status: i32,
+    /// The port that it opens or closes, or to which it sends; otherwise 0.
+    pub port: u16,
+    /// The sequence number of the GBC or GAC that it sent; otherwise 0.
+    pub number: u16,
+    /// The length of the payload that it sends or would send; otherwise 0.
+    pub payload_length: usize,
+    /// The length of the value of `id` in the answer, which begins at byte 6; or 0.
+    pub id_length: usize,
+    /// The position vector of the station after the line.
+    pub vector: Vector,
+}
+
+impl LineResult {
+    fn told(told: &ffi::LineResult) -> LineResult {
+        LineResult {
+            command: told.command,
+            outcome: told.outcome,
+            status: told.status,
+            port: told.port,
+            number: told.number,
+            payload_length: told.payload_length,
+            id_length: told.id_length,
+            vector: Vector::shown(&told.vector),
+        }
+    }
+}
+
 /// Counters of a station since it was created.
 #[derive(Clone, Copy, Debug, Default, PartialEq, Eq, Hash)]
 pub struct Counts {
@@ -773,6 +813,42 @@ impl Station {
         let room = buffer.room(SECURED_FRAME_MAX);
         let done = self.handle.handle_json(now, number, line, answer, room);
         written(buffer, done)
+    }
+
+    /// Executes one JSON request at time `now` as [`Station::handle_json`] does, but within the
+    /// limits of the station, and only if `rights` has the bit of the right that it needs: 1 to
+    /// send (`shb`, `gbc`, `gac`, `tick`), 2 to receive a frame, 4 to move, 8 to open and close
+    /// ports, 16 to restart. A line without its right changes nothing. Queries need none. Returns
+    /// what was asked, the outcome, and the frame to send, which may be empty.
+    ///
+    /// # Errors
+    ///
+    /// Those of [`Station::handle_json`].
+    ///
+    /// ```
+    /// # use geostation::{Config, Station};
+    /// # fn main() -> Result<(), geostation::Error> {
+    /// let mut station = Station::new(&Config::new(0x1400_0200_0000_0001, 0, 0))?;
+    /// let (mut answer, mut frame) = (Vec::new(), Vec::new());
+    /// let line = br#"{"do":"open","port":2002}"#;
+    /// let (done, _) = station.handle_line(7, 1, line, 1 | 8, &mut answer, &mut frame)?;
+    /// assert_eq!((done.outcome, done.port), (1, 2002));
+    /// # Ok(())
+    /// # }
+    /// ```
+    pub fn handle_line<'b, B: Buffer + ?Sized>(
+        &mut self,
+        now: u64,
+        number: u64,
+        line: &[u8],
+        rights: u32,
+        answer: &mut Vec<u8>,
+        buffer: &'b mut B,
+    ) -> Result<(LineResult, &'b [u8]), Error> {
+        let room = buffer.room(SECURED_FRAME_MAX);
+        let (status, told) = self.handle.handle_line(now, number, line, rights, answer, room);
+        let frame = written(buffer, (status, told.frame_length))?;
+        Ok((LineResult::told(&told), frame))
     }
 
     /// The former name of [`Station::handle_json`].

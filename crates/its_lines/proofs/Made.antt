@@ -1,0 +1,127 @@
+-- The answer of a unit to a call, and how it is counted.
+use Rattle.std.proofs.Common.{◌≡◌, ◌≤◌, ℕ, List, length, length-append, arith}
+use Rattle.std.proofs.Common.{Option, Some, None, Result, Ok, Err, refl, sym, subst, ap, ◌∙◌}
+use Rattle.std.proofs.lemmas.Bool.{false≢true}
+use Rattle.std.specs.Prelude.{IfOk, IfSome, IsSome, IsSomeAnd}
+use Rattle.its_gnvalue.specs.declared.fault.NoMemory.{NoMemory}
+use Rattle.its_headers.specs.declared.kind.Kind.{Kind}
+use Rattle.its_model.specs.Calls as model
+use Rattle.its_model.specs.Calls.{OwnCall as ModelOwnCall, Refusal}
+use Rattle.its_model.specs.Packet.{Transmission}
+use Rattle.its_station.specs.Answers.{Fits, HandingFits, Owns, StationAnswer, TellsAnswer}
+use Rattle.its_station.specs.Counting.{own_kind}
+use Rattle.its_station.specs.Receiving.{DeliversEndOf, Encoded, HandsOutEndOf, TellsAcceptedBy}
+use Rattle.its_station.specs.Receiving.{TellsBy}
+use Rattle.its_station.specs.Runs.{own_of}
+use Rattle.its_station.specs.Steps.{refusal_of}
+use Rattle.its_station.specs.declared.answer.Answer.TheVariants as answers
+use Rattle.its_station.specs.declared.call.OwnCall.{OwnCall}
+use Rattle.its_station.specs.declared.counts.Counts.{Counts}
+use Rattle.its_station.specs.declared.outcome.Handed.{Handed}
+use Rattle.its_station.specs.declared.outcome.Outcome.{Outcome}
+use Rattle.its_station.specs.declared.outcome.Outcome.TheVariants as outcomes
+use Rattle.its_station.specs.declared.refused.Refused.{Refused}
+use Rattle.its_unit.specs.Steps.{IsRefusedStep, IsStepOf, SaysPassed, TellsUnit, WherePassed}
+use Rattle.its_unit.specs.Unit.{Own, RepresentsUnit, UnitAnswer, UnitModel, UnitState, UnitStep}
+use Rattle.its_unit.specs.Unit.{unit_step}
+use Rattle.its_unit.specs.declared.outcome.UnitOutcome.{UnitOutcome}
+use Rattle.its_unit.specs.declared.outcome.UnitOutcome.TheVariants as units
+use Rattle.its_lines.specs.Serving.{TellsHeard}
+use Rattle.its_lines.specs.Within.{IsMadeBy, IsMadeOf, counted_made}
+use Rattle.its_lines.specs.declared.making.Made.{Made}
+use Rattle.its_lines.specs.declared.making.Made.TheVariants as mades
+
+-- a refusal that is answered is the step's
+refused_by : (tells : StationAnswer → model.Answer Transmission → Type 0) (reply : StationAnswer)
+    (o : Option Refusal) (new : UnitState) (step : UnitStep)
+    → ((a : model.Answer Transmission) → IsSomeAnd o (λ refusal. a ≡ model.Answer.Refused refusal)
+    → tells reply a)
+    → IsSome o
+    → IfSome o (λ refusal. (step.answer ≡ UnitAnswer.Passed (model.Answer.Refused refusal))
+    × RepresentsUnit new step.unit)
+    → SaysPassed tells reply step.answer × RepresentsUnit new step.unit
+refused_by tells reply None new step gives some is = absurd (false≢true some)
+refused_by tells reply (Some refusal) new step gives some is = (
+  subst (λ (a : UnitAnswer). SaysPassed tells reply a) (sym is.0)
+      (gives (model.Answer.Refused refusal) refl),
+  is.1,
+)
+
+pub refused_own : (e : Refused) (new : UnitState) (step : UnitStep) → IsSome (refusal_of e)
+    → IsRefusedStep e new step
+    → IsMadeBy TellsAnswer (mades.Passed (answers.Refused e)) new step
+refused_own e new step some is =
+    refused_by TellsAnswer (answers.Refused e) (refusal_of e) new step (λ a told. told) some is
+
+refused_heard : (Encodes : Encoded) (e : Refused) (new : UnitState) (step : UnitStep)
+    → IsSome (refusal_of e) → IsRefusedStep e new step
+    → IsMadeBy (TellsHeard Encodes) (mades.Passed (answers.Refused e)) new step
+refused_heard Encodes e new step some is =
+    refused_by (TellsHeard Encodes) (answers.Refused e) (refusal_of e) new step (λ a told. told)
+    some is
+
+-- an answer with the octets of an outcome tells what that tells
+owned_heard : (Encodes : Encoded) (reply : StationAnswer) (outcome : Outcome)
+    (answer : UnitAnswer) → Owns reply outcome → SaysPassed (TellsBy Encodes) outcome answer
+    → SaysPassed (TellsHeard Encodes) reply answer
+owned_heard Encodes reply (outcomes.Ignored why) (UnitAnswer.Passed answer) same is =
+    subst (λ r. TellsHeard Encodes r answer) (sym same) is
+owned_heard Encodes reply (outcomes.Accepted lent sent) (UnitAnswer.Passed answer)
+    (handed, same, delivers) is =
+    subst (λ r. TellsHeard Encodes r answer) (sym same)
+    (subst (λ m. TellsAcceptedBy Encodes m sent answer) (sym delivers) is)
+owned_heard Encodes reply outcome UnitAnswer.Repeated same is = absurd is
+owned_heard Encodes reply outcome UnitAnswer.OverRate same is = absurd is
+
+-- so of a frame that was received
+pub made_heard : (Encodes : Encoded) (made : Made) (said : Result UnitOutcome Refused)
+    (new : UnitState) (step : UnitStep) → IsMadeOf made said
+    → IsStepOf (TellsUnit (TellsBy Encodes)) said new step
+    → IsMadeBy (TellsHeard Encodes) made new step
+made_heard Encodes (mades.Passed reply) (Ok (units.Passed outcome)) new step same is =
+    (owned_heard Encodes reply outcome step.answer same is.0, is.1)
+made_heard Encodes (mades.Passed reply) (Ok units.Repeated) new step same is = absurd same
+made_heard Encodes (mades.Passed reply) (Err e) new step same is =
+    subst (λ r. IsMadeBy (TellsHeard Encodes) (mades.Passed r) new step) (sym same.0)
+    (refused_heard Encodes e new step same.1 is)
+made_heard Encodes mades.Repeated (Ok (units.Passed outcome)) new step same is = absurd same
+made_heard Encodes mades.Repeated (Ok units.Repeated) new step same is = is
+made_heard Encodes mades.Repeated (Err e) new step same is = absurd same
+made_heard Encodes mades.OverRate (Ok outcome) new step same is = absurd same
+made_heard Encodes mades.OverRate (Err e) new step same is = absurd same
+
+-- what is delivered of octets has room in a buffer of their length
+handing_fits : (w : List ℕ) (room : ℕ) (handed : Option Handed) → length w ≤ room
+    → HandsOutEndOf w handed → HandingFits room handed
+handing_fits w room None few ends = tt
+handing_fits w room (Some h) few (front, is) =
+    omega (arith, ap length is, length-append front h.payload.now, few)
+
+pub received_fits : (w : List ℕ) (room : ℕ) (said : Result UnitOutcome Refused)
+    → length w ≤ room → IfOk said (WherePassed (DeliversEndOf w))
+    → IfOk said (WherePassed (Fits room))
+received_fits w room (Ok (units.Passed (outcomes.Ignored why))) few ends = tt
+received_fits w room (Ok (units.Passed (outcomes.Accepted handed sent))) few ends =
+    handing_fits w room handed few ends
+received_fits w room (Ok units.Repeated) few ends = tt
+received_fits w room (Err e) few ends = ends
+
+-- it is that of the call that it is in the model
+pub own_made : (r : Result Made NoMemory) (call : OwnCall) (own : ModelOwnCall)
+    (old new : UnitState) (at : ℕ) → own_of call ≡ own
+    → ((u : UnitModel) → RepresentsUnit old u
+    → IfOk r (λ made. IsMadeBy TellsAnswer made new (unit_step u at (Own own))))
+    → (u : UnitModel) → RepresentsUnit old u
+    → IfOk r (λ made. IsMadeBy TellsAnswer made new (unit_step u at (Own (own_of call))))
+own_made r call own old new at is made = λ u rep.
+    subst (λ (x : ModelOwnCall). IfOk r (λ made. IsMadeBy TellsAnswer made new
+    (unit_step u at (Own x)))) (sym is) (made u rep)
+
+-- it is counted by the kind of packet that the call sends
+pub own_counts : (r : Result Made NoMemory) (call : OwnCall) (kind : Option Kind)
+    (counts noted later : Counts) → own_kind call ≡ kind → later ≡ noted
+    → IfOk r (λ made. noted ≡ counted_made kind made counts)
+    → IfOk r (λ made. later ≡ counted_made (own_kind call) made counts)
+own_counts (Err n) call kind counts noted later is same told = tt
+own_counts (Ok made) call kind counts noted later is same told =
+    same ∙ told ∙ ap (λ (k : Option Kind). counted_made k made counts) (sym is)
