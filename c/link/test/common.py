@@ -40,6 +40,11 @@ class Clock:
         self.at += ms
         self.set(0)
 
+    def catch_up(self):
+        """Waits until it is as late as clocks that stand say. The kernel's time stamps are not set: a
+        frame that is sent before has waited for the daemon, as it seems."""
+        time.sleep(max(0, self.at / 1000 - time.time()))
+
 
 def stopped_clock(room):
     """A program with it has no timeout before the test says so, however slow the machine is."""

@@ -61,6 +61,8 @@ class Bench(ExitStack):
         self.daemon.counts()  # it looks at its clock
 
     def send(self, frame):
+        if self.clock is not None:
+            self.clock.catch_up()
         self.link.sendto(frame, ("127.0.0.1", OWN_PORT))
 
     def received(self):
