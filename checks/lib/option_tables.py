@@ -51,8 +51,8 @@ def daemon_ranges(sources):
 def check_daemon_page(sources):
     """The daemon's page has each option of its help, in that order, with the range of the source
     and the default of the help."""
-    told, wrong = daemon_help(sources), []
-    wanted = [item for item in told if item not in ("--version", "--help")]
+    in_help, wrong = daemon_help(sources), []
+    wanted = [item for item in in_help if item not in ("--version", "--help")]
     rows = {" ".join(filter(None, row[:2])): row[2:] for row in ROW.findall(sources.text(PAGE))}
     if list(rows) != wanted:
         differ = sorted({*rows} ^ {*wanted}) or ["the order"]
@@ -61,7 +61,7 @@ def check_daemon_page(sources):
     wrong += [f"{SETTINGS}: the range of {name} is not two numbers" for name in unread]
     for item in filter(rows.get, wanted):
         limits, usual = (cell.strip() for cell in rows[item])
-        default = re.search(r"\[default: ([^\]]+)\]", told[item])
+        default = re.search(r"\[default: ([^\]]+)\]", in_help[item])
         if default and default[1] != usual:
             wrong.append(f"{PAGE}: the default of {item} is {usual}, but {default[1]} in the help")
         least, most = ranges.get(item.split()[0], ("", ""))
@@ -73,12 +73,12 @@ def check_daemon_page(sources):
 
 def check_daemon_files(sources):
     """The manual page of the daemon and its completions have each option of its help."""
-    told, wrong = {item.split()[0] for item in daemon_help(sources)}, []
+    in_help, wrong = {item.split()[0] for item in daemon_help(sources)}, []
     for path in ("install/geostation-link.options", "install/geostation-link.1"):
         text = sources.text(path).replace(".It Fl -", "-  --")
         found = set(re.findall(r"^-  (--[a-z-]+)", text, re.M))
-        wrong += [f"{path}: {item}, which the help lacks" for item in sorted(found - told)]
-        wrong += [f"{path}: no {item}, which the help has" for item in sorted(told - found)]
+        wrong += [f"{path}: {item}, which the help lacks" for item in sorted(found - in_help)]
+        wrong += [f"{path}: no {item}, which the help has" for item in sorted(in_help - found)]
     return wrong
 
 
