@@ -14,7 +14,7 @@ use Rattle.its_model.specs.Calls as model
 use Rattle.its_model.specs.Calls.{GbcRequest}
 use Rattle.its_model.specs.Stations.{stations_at}
 use Rattle.its_model.specs.Decision.{decision}
-use Rattle.its_model.specs.Station.{new_station, gbc_of, own_step, receive_step, verdict}
+use Rattle.its_model.specs.Station.{StationModel, new_station, gbc_of, own_step, receive_step, verdict}
 use Rattle.its_headers.specs.Encoding.{common_header, extended_header, IsPacket}
 use Rattle.its_headers.proofs.FieldTests.{latitude_from_test, longitude_from_test, speed_fits}
 use Rattle.its_linkframe.specs.Secured.{Verified, EncodesVerified, sealed, secured_octets}
@@ -39,6 +39,9 @@ here = record { latitude = pos 0; longitude = pos 0 }
 
 abbrev near : Position
 near = record { latitude = pos 449; longitude = pos 0 }
+
+abbrev far : Position
+far = record { latitude = pos 100000; longitude = pos 0 }
 
 abbrev hi : Message
 hi = record { port = 2002; info = 0; payload = 104 ∷ 105 ∷ [] }
@@ -73,8 +76,26 @@ unit_of n where_it_is = record {
 abbrev two : List UnitModel
 two = unit_of 1 here ∷ unit_of 2 near ∷ []
 
+-- the second one outside of the area
+abbrev second_far : List UnitModel
+second_far = unit_of 1 here ∷ unit_of 2 far ∷ []
+
+-- the first one, where it stands by an accurate fix
+abbrev warner : StationModel
+warner = record (new_station (address 1) here 64 8) {
+  clock = 900;
+  vector = record {
+    address = address 1;
+    timestamp = 900;
+    place = here;
+    accurate = true;
+    speed = pos 0;
+    heading = 0;
+  };
+}
+
 abbrev warning : Transmission
-warning = gbc_of (new_station (address 1) here 64 8) 1000 request
+warning = gbc_of warner 1000 request
 
 abbrev message : List ℕ
 message = 7 ∷ []
@@ -82,9 +103,22 @@ message = 7 ∷ []
 abbrev plain : List ℕ
 plain = common_header warning.pdu ++ extended_header warning.pdu.vector warning.pdu.body
 
--- a copy with so many hops left
+-- a copy from a link address, with so many hops left
+abbrev copy_from : ℕ → ℕ → Verified
+copy_from sender hops = record {
+  frame = record warning { hops_left = hops; link_source = sender };
+  message = message;
+}
+
 abbrev copy : ℕ → Verified
-copy hops = record { frame = record warning { hops_left = hops }; message = message }
+copy hops = copy_from (mac 1) hops
+
+abbrev moves : SignedEvent
+moves = record {
+  unit = 0;
+  now = 900;
+  what = SignedWhat.Asks (UnitCall.Own (model.OwnCall.Move here true (pos 0) 0)) [];
+}
 
 abbrev warns : SignedEvent
 warns = record {
@@ -114,13 +148,16 @@ reopens = record {
   what = SignedWhat.Asks (UnitCall.Own (model.OwnCall.Open 2002)) [];
 }
 
-abbrev arrives : ℕ → ℕ → SignedEvent
-arrives now hops = record {
+abbrev arrives_from : ℕ → ℕ → ℕ → SignedEvent
+arrives_from sender now hops = record {
   unit = 1;
   now = now;
-  what = SignedWhat.Arrives (secured_octets (sealed (copy hops).frame message)) plain
-      (VerifiedCall.Came (copy hops));
+  what = SignedWhat.Arrives (secured_octets (sealed (copy_from sender hops).frame message)) plain
+      (VerifiedCall.Came (copy_from sender hops));
 }
+
+abbrev arrives : ℕ → ℕ → SignedEvent
+arrives now hops = arrives_from (mac 1) now hops
 
 abbrev answers : SignedModel → List UnitAnswer
 answers f = map (λ (line : SignedLine). line.answer) f.log
@@ -129,43 +166,62 @@ answers f = map (λ (line : SignedLine). line.answer) f.log
 
 -- A copy with one hop left comes first. It is delivered, and the warning goes on nowhere: the frame
 -- with ten hops is a duplicate.
-silenced : answers (signed_after two (opens ∷ warns ∷ arrives 1001 1 ∷ arrives 1002 10 ∷ []))
+silenced : answers (signed_after two (moves ∷ opens ∷ warns ∷ arrives 1001 1 ∷ arrives 1002 10 ∷ []))
     ≡ UnitAnswer.Passed (model.Answer.Ignored model.Why.Duplicate)
     ∷ UnitAnswer.Passed (model.Answer.Accepted (Some hi) None)
     ∷ UnitAnswer.Passed (model.Answer.Sent warning)
-    ∷ UnitAnswer.Passed model.Answer.Opened ∷ []
+    ∷ UnitAnswer.Passed model.Answer.Opened ∷ UnitAnswer.Passed model.Answer.Moved ∷ []
 unfolding own_step receive_step verdict known stations_at decision area_holds squared_distance
 silenced = refl
 
 -- Without that copy the warning goes on.
-goes_on : answers (signed_after two (opens ∷ warns ∷ arrives 1002 10 ∷ []))
+goes_on : answers (signed_after two (moves ∷ opens ∷ warns ∷ arrives 1002 10 ∷ []))
     ≡ UnitAnswer.Passed (model.Answer.Accepted (Some hi) (Some (relay warning (mac 2) broadcast)))
     ∷ UnitAnswer.Passed (model.Answer.Sent warning)
-    ∷ UnitAnswer.Passed model.Answer.Opened ∷ []
+    ∷ UnitAnswer.Passed model.Answer.Opened ∷ UnitAnswer.Passed model.Answer.Moved ∷ []
 unfolding own_step receive_step verdict known stations_at decision area_holds squared_distance
 goes_on = refl
 
 -- A recorded frame is delivered again after a restart, if the entity returns its plain part again.
 again_after_a_restart : answers (signed_after two
-    (opens ∷ warns ∷ arrives 1002 10 ∷ restarts 2000 ∷ reopens ∷ arrives 2001 1 ∷ []))
+    (moves ∷ opens ∷ warns ∷ arrives 1002 10 ∷ restarts 2000 ∷ reopens ∷ arrives 2001 1 ∷ []))
     ≡ UnitAnswer.Passed (model.Answer.Accepted (Some hi) None)
     ∷ UnitAnswer.Passed model.Answer.Opened
     ∷ UnitAnswer.Passed model.Answer.Restarted
     ∷ UnitAnswer.Passed (model.Answer.Accepted (Some hi) (Some (relay warning (mac 2) broadcast)))
     ∷ UnitAnswer.Passed (model.Answer.Sent warning)
-    ∷ UnitAnswer.Passed model.Answer.Opened ∷ []
+    ∷ UnitAnswer.Passed model.Answer.Opened ∷ UnitAnswer.Passed model.Answer.Moved ∷ []
 unfolding own_step receive_step verdict known stations_at decision area_holds squared_distance
 again_after_a_restart = refl
 
 -- So it is 20 s after it came, when its source is forgotten.
 again_when_forgotten : answers (signed_after two
-    (opens ∷ warns ∷ arrives 1002 10 ∷ arrives 21002 1 ∷ []))
+    (moves ∷ opens ∷ warns ∷ arrives 1002 10 ∷ arrives 21002 1 ∷ []))
     ≡ UnitAnswer.Passed (model.Answer.Accepted (Some hi) None)
     ∷ UnitAnswer.Passed (model.Answer.Accepted (Some hi) (Some (relay warning (mac 2) broadcast)))
     ∷ UnitAnswer.Passed (model.Answer.Sent warning)
-    ∷ UnitAnswer.Passed model.Answer.Opened ∷ []
+    ∷ UnitAnswer.Passed model.Answer.Opened ∷ UnitAnswer.Passed model.Answer.Moved ∷ []
 unfolding own_step receive_step verdict known stations_at decision area_holds squared_distance
 again_when_forgotten = refl
+
+-- Outside of the area: a copy that a station outside sent goes on.
+onward : answers (signed_after second_far (moves ∷ opens ∷ warns ∷ arrives_from (mac 3) 1002 9 ∷ []))
+    ≡ UnitAnswer.Passed (model.Answer.Accepted None (Some (relay (copy_from (mac 3) 9).frame (mac 2) broadcast)))
+    ∷ UnitAnswer.Passed (model.Answer.Sent warning)
+    ∷ UnitAnswer.Passed model.Answer.Opened ∷ UnitAnswer.Passed model.Answer.Moved ∷ []
+unfolding own_step receive_step verdict known stations_at decision area_holds squared_distance
+onward = refl
+
+-- If its link sender is a station that stands inside, it goes on nowhere: and so the copy that a
+-- station outside sends.
+false_sender : answers (signed_after second_far
+    (moves ∷ opens ∷ warns ∷ arrives_from (mac 1) 1001 9 ∷ arrives_from (mac 3) 1002 9 ∷ []))
+    ≡ UnitAnswer.Passed (model.Answer.Ignored model.Why.Duplicate)
+    ∷ UnitAnswer.Passed (model.Answer.Accepted None None)
+    ∷ UnitAnswer.Passed (model.Answer.Sent warning)
+    ∷ UnitAnswer.Passed model.Answer.Opened ∷ UnitAnswer.Passed model.Answer.Moved ∷ []
+unfolding own_step receive_step verdict known stations_at decision area_holds squared_distance
+false_sender = refl
 
 -- ---- these runs are sound
 
@@ -207,17 +263,18 @@ fields hops some few = record {
   );
 }
 
-part : (hops : ℕ) → 0 < hops → hops ≤ 10 → IsPlainPart (copy hops).frame plain
-part hops some few = record { fields = fields hops some few; octets = refl }
+part : (sender hops : ℕ) → 0 < hops → hops ≤ 10 → IsPlainPart (copy_from sender hops).frame plain
+part sender hops some few = record { fields = fields hops some few; octets = refl }
 
-read : (hops : ℕ) → 0 < hops → hops ≤ 10
-    → EncodesVerified (copy hops) (secured_octets (sealed (copy hops).frame message)) plain
+read : (sender hops : ℕ) → sender < 2 ^ 48 → 0 < hops → hops ≤ 10
+    → EncodesVerified (copy_from sender hops)
+    (secured_octets (sealed (copy_from sender hops).frame message)) plain
 unfolding known stations_at decision area_holds squared_distance
-read hops some few = record {
+read sender hops short some few = record {
   secured = record {
     fields = record {
       target = lt _ _ refl;
-      source = lt _ _ refl;
+      source = short;
       lifetime = lt _ _ refl;
       some_left = some;
       left = omega (arith, few);
@@ -226,8 +283,12 @@ read hops some few = record {
     };
     octets = refl;
   };
-  packet = part hops some few;
+  packet = part sender hops some few;
 }
+
+from_first : (hops : ℕ) → 0 < hops → hops ≤ 10
+    → EncodesVerified (copy hops) (secured_octets (sealed (copy hops).frame message)) plain
+from_first hops some few = read (mac 1) hops (lt _ _ refl) some few
 
 -- the warning was sealed, as a line of a log says
 was_sealed : (log : List SignedLine) (k : ℕ)
@@ -243,28 +304,72 @@ was_sealed log k at = record {
   logged = (k, at);
   asked = refl;
   answer = refl;
-  part = part 10 (lt 0 10 refl) (omega arith);
+  part = part (mac 1) 10 (lt 0 10 refl) (omega arith);
 }
 
-silenced_is_sound : AreSound (new_signed two) (opens ∷ warns ∷ arrives 1001 1 ∷ arrives 1002 10 ∷ [])
+silenced_is_sound : AreSound (new_signed two) (moves ∷ opens ∷ warns ∷ arrives 1001 1 ∷ arrives 1002 10 ∷ [])
 unfolding own_step receive_step verdict known stations_at decision area_holds squared_distance
-silenced_is_sound = (refl, (refl, (
-  (read 1 (lt 0 1 refl) (omega arith), was_sealed _ 0 refl),
-  ((read 10 (lt 0 10 refl) (omega arith), was_sealed _ 1 refl), tt),
-)))
+silenced_is_sound = (
+  refl,
+  (
+    refl,
+    (
+      refl,
+      (
+        (from_first 1 (lt 0 1 refl) (omega arith), was_sealed _ 0 refl),
+        ((from_first 10 (lt 0 10 refl) (omega arith), was_sealed _ 1 refl), tt),
+      ),
+    ),
+  ),
+)
 
 again_is_sound : AreSound (new_signed two)
-    (opens ∷ warns ∷ arrives 1002 10 ∷ restarts 2000 ∷ reopens ∷ arrives 2001 1 ∷ [])
+    (moves ∷ opens ∷ warns ∷ arrives 1002 10 ∷ restarts 2000 ∷ reopens ∷ arrives 2001 1 ∷ [])
 unfolding own_step receive_step verdict known stations_at decision area_holds squared_distance
-again_is_sound = (refl, (refl, (
-  (read 10 (lt 0 10 refl) (omega arith), was_sealed _ 0 refl),
-  (refl, (refl, ((read 1 (lt 0 1 refl) (omega arith), was_sealed _ 3 refl), tt))),
-)))
+again_is_sound = (
+  refl,
+  (
+    refl,
+    (
+      refl,
+      (
+        (from_first 10 (lt 0 10 refl) (omega arith), was_sealed _ 0 refl),
+        (refl, (refl, ((from_first 1 (lt 0 1 refl) (omega arith), was_sealed _ 3 refl), tt))),
+      ),
+    ),
+  ),
+)
 
 forgotten_is_sound : AreSound (new_signed two)
-    (opens ∷ warns ∷ arrives 1002 10 ∷ arrives 21002 1 ∷ [])
+    (moves ∷ opens ∷ warns ∷ arrives 1002 10 ∷ arrives 21002 1 ∷ [])
 unfolding own_step receive_step verdict known stations_at decision area_holds squared_distance
-forgotten_is_sound = (refl, (refl, (
-  (read 10 (lt 0 10 refl) (omega arith), was_sealed _ 0 refl),
-  ((read 1 (lt 0 1 refl) (omega arith), was_sealed _ 1 refl), tt),
-)))
+forgotten_is_sound = (
+  refl,
+  (
+    refl,
+    (
+      refl,
+      (
+        (from_first 10 (lt 0 10 refl) (omega arith), was_sealed _ 0 refl),
+        ((from_first 1 (lt 0 1 refl) (omega arith), was_sealed _ 1 refl), tt),
+      ),
+    ),
+  ),
+)
+
+false_sender_is_sound : AreSound (new_signed second_far)
+    (moves ∷ opens ∷ warns ∷ arrives_from (mac 1) 1001 9 ∷ arrives_from (mac 3) 1002 9 ∷ [])
+unfolding own_step receive_step verdict known stations_at decision area_holds squared_distance
+false_sender_is_sound = (
+  refl,
+  (
+    refl,
+    (
+      refl,
+      (
+        (from_first 9 (lt 0 9 refl) (omega arith), was_sealed _ 0 refl),
+        ((read (mac 3) 9 (lt _ _ refl) (lt 0 9 refl) (omega arith), was_sealed _ 1 refl), tt),
+      ),
+    ),
+  ),
+)

@@ -169,7 +169,6 @@ shb_made s now lifetime r t e = by (shb_refusal s now r) e
         (same_sent (shb_for s lifetime r) t e)
         (shb_own s r lifetime (UnitCall.SendShbFor lifetime r) (λ m at same. same))
 
-
 -- a frame that a station makes by a call of its own
 pub sent_own : (s : StationModel) (now : ℕ) (call : UnitCall) (t : Transmission)
     → IsTrue (is_own call) → (step_within s now call).answer ≡ model.Answer.Sent t

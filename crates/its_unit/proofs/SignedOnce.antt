@@ -44,9 +44,11 @@ front_within : (now until : ℕ) (newer : List Reception) (r : Reception) (older
     → AreWithin r.moment until (newer ++ r ∷ [])
 front_within now until [] r older le h = (omega arith, omega (arith, h.0), tt)
 front_within now until (x ∷ newer) r older le h =
-    let top : x.moment ≤ now = h.0 in
-    (oldest_first x.moment newer r older h.1, omega arith,
-    front_within x.moment until newer r older (omega arith) h.1)
+    let top : x.moment ≤ now = h.0 in (
+      oldest_first x.moment newer r older h.1,
+      omega arith,
+      front_within x.moment until newer r older (omega arith) h.1,
+    )
 
 -- ---- a packet is remembered
 
@@ -241,13 +243,15 @@ AreSent window log (r ∷ older) =
 pub sent_still : (window : ℕ) (line : SignedLine) (log : List SignedLine) (history : List Reception)
     → AreSent window log history → AreSent window (line ∷ log) history
 sent_still window line log [] h = tt
-sent_still window line log (r ∷ older) h =
-    ((λ n is. (let s = h.0 n is in record {
-      line = s.line;
-      logged = (suc s.logged.0, s.logged.1);
-      number = s.number;
-      near = s.near;
-    })), sent_still window line log older h.1)
+sent_still window line log (r ∷ older) h = (
+  (λ n is. (let s = h.0 n is in record {
+    line = s.line;
+    logged = (suc s.logged.0, s.logged.1);
+    number = s.number;
+    near = s.near;
+  })),
+  sent_still window line log older h.1,
+)
 
 sent_front : (window : ℕ) (log : List SignedLine) (newer : List Reception) (r : Reception)
     (older : List Reception)

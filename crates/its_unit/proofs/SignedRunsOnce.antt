@@ -253,10 +253,12 @@ heard_fresh window remember now log s after t life few g mine h =
           (subst (λ (n : ℕ). NeverFell n (reception now t ∷ s.history)) (sym g.clock)
           (omega arith, rises));
       sent = subst (AreSent window log) (sym g.history) (mine, h.sent);
-      new = subst (AreNew (2 * window)) (sym g.history)
-          (new_among window remember now log t [] s.history s.history refl life h.new rises h.sent few
-          (ap (λ k. is_repeated k (number_in t.pdu.body) t.pdu.vector.address now s.history)
-          (sym h.remembers) ∙ g.new), h.new);
+      new = subst (AreNew (2 * window)) (sym g.history) (
+        new_among window remember now log t [] s.history s.history refl life h.new rises h.sent few
+            (ap (λ k. is_repeated k (number_in t.pdu.body) t.pdu.vector.address now s.history)
+            (sym h.remembers) ∙ g.new),
+        h.new,
+      );
     }
 
 -- ---- a frame that the entity read was sent near this moment
