@@ -156,7 +156,7 @@ own_line configs w sent later before line mine call k sound split like is gives 
 -- ---- what is delivered was sent
 
 -- a message that passes was delivered by the station
-handed_whole : (m : Message) (relayed : Option Transmission) (whole : Answer Transmission)
+pub handed_whole : (m : Message) (relayed : Option Transmission) (whole : Answer Transmission)
     → IsPartOf (UnitAnswer.Passed (model.Answer.Accepted (Some m) relayed)) whole
     → (frame : Option Transmission) × (whole ≡ model.Answer.Accepted (Some m) frame)
 handed_whole m relayed (model.Answer.Accepted message frame) part = (frame, by part.0)

@@ -1,11 +1,9 @@
 -- The laws of units with sound entities, whatever a forger does.
 use Rattle.std.proofs.Common.{◌≡◌, ◌≢◌, ◌⊎◌, ℕ, zero, suc, ◌-◌, List, [], ◌∷◌, ◌++◌, Bool, true, false}
 use Rattle.std.proofs.Common.{cond, eqb, Option, Some, None, refl, sym, ap, subst, ◌∙◌, inl, inr}
-use Rattle.std.proofs.Common.{arith}
 use Rattle.std.specs.Prelude.{IsTrue, slice_get, slice_set}
 use Rattle.std.specs.Option.{option_map}
-use Rattle.std.proofs.lemmas.Bool.Decides.{nat_tests}
-use Rattle.std.proofs.lemmas.Bool.{false≢true}
+use Rattle.std.proofs.lemmas.Bool.{eqb-true, eqb-false, false≢true}
 use Rattle.std.proofs.lemmas.Option.{none-some, same_Some}
 use Rattle.its_gnvalue.specs.Values.{mid_of}
 use Rattle.its_model.specs.History.{is_among}
@@ -71,19 +69,13 @@ set_still : (units now : List UnitModel) (i j : ℕ) (old new u : UnitModel)
     → IsStill units i new → slice_get (slice_set now i new) j ≡ Some u → IsStill units j u
 set_still units now i j old new u at each still h = by (eqb i j) refl
   where
-    same_place : (a b : ℕ) → eqb a b ≡ true → a ≡ b
-    same_place a b e = grind (arith, nat_tests)
-
-    other_place : (a b : ℕ) → eqb a b ≡ false → a ≢ b
-    other_place a b e = grind (arith, nat_tests)
-
     by : (b : Bool) → eqb i j ≡ b → IsStill units j u
     by true e =
-        let is = same_place i j e in
+        let is = eqb-true i j e in
         let new_is = same_Some new u (sym (get_same now i old new at)
         ∙ ap (slice_get (slice_set now i new)) is ∙ h) in
         subst (IsStill units j) new_is (subst (λ (k : ℕ). IsStill units k new) is still)
-    by false e = each j u (sym (get_other now i j new (other_place i j e)) ∙ h)
+    by false e = each j u (sym (get_other now i j new (eqb-false i j e)) ∙ h)
 
 asked_own : (log : List SignedLine) (what : SignedWhat) → IsSoundEvent log what
     → (asked : UnitCall) (message : List ℕ) → what ≡ SignedWhat.Asks asked message
@@ -139,10 +131,6 @@ run_sound units (e ∷ events) f are h =
     (unit_sound units f e (slice_get f.units e.unit) refl are.0 h)
 
 -- ---- what is delivered was sent by its source
-
--- two packets with the same plain part have one body, and one source
-body_is : (t v : Transmission) (plain : Pdu) → v.pdu ≡ plain → v.pdu.body ≡ plain.body
-body_is t v plain e = ap (λ (p : Pdu). p.body) e
 
 same_call : (call asked : UnitCall) (message : List ℕ) (what : SignedWhat)
     → call_in what ≡ Some call → what ≡ SignedWhat.Asks asked message → call ≡ asked
@@ -321,12 +309,6 @@ runs : (j : ℕ) (events : List SignedEvent) (f : SignedModel)
 runs j [] f = no_calls (slice_get f.units j)
 runs j (e ∷ events) f = runs j events (signed_step f e) ∙ by (eqb e.unit j) refl
   where
-    same_place : (a b : ℕ) → eqb a b ≡ true → a ≡ b
-    same_place a b is = grind (arith, nat_tests)
-
-    other_place : (a b : ℕ) → eqb a b ≡ false → a ≢ b
-    other_place a b is = grind (arith, nat_tests)
-
     later : Option UnitModel → Option UnitModel
     later o = option_map (λ (u : UnitModel). unit_run u (signed_calls j events)) o
 
@@ -336,7 +318,7 @@ runs j (e ∷ events) f = runs j events (signed_step f e) ∙ by (eqb e.unit j) 
         (cond b (signed_call e (call_in e.what) ++ signed_calls j events) (signed_calls j events)))
         (slice_get f.units j)
     by true is =
-        let place = same_place e.unit j is in
+        let place = eqb-true e.unit j is in
         ap later (sym (ap (slice_get (signed_step f e).units) place)
         ∙ own_event f e (slice_get f.units e.unit) refl)
         ∙ map_runs (slice_get f.units e.unit) (signed_call e (call_in e.what)) (signed_calls j events)
@@ -344,7 +326,7 @@ runs j (e ∷ events) f = runs j events (signed_step f e) ∙ by (eqb e.unit j) 
         unit_run u (signed_call e (call_in e.what) ++ signed_calls j events)) (slice_get f.units k))
         place
     by false is =
-        ap later (other_event f e (slice_get f.units e.unit) j (other_place e.unit j is))
+        ap later (other_event f e (slice_get f.units e.unit) j (eqb-false e.unit j is))
 
 -- ---- what the entity doesn't read
 

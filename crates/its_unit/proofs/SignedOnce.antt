@@ -3,6 +3,7 @@ use Rattle.std.proofs.Common.{◌≡◌, ℕ, zero, suc, ◌+◌, ◌*◌, ◌-�
 use Rattle.std.proofs.Common.{◌++◌, length, take, Bool, true, false, cond, eqb, ◌&&◌}
 use Rattle.std.proofs.Common.{◌||◌, Option, Some, None, refl, sym, ap, ◌∙◌, inl, inr, arith, true≢false}
 use Rattle.std.specs.Prelude.{slice_get, nat_le, nat_lt}
+use Rattle.std.proofs.lemmas.Bool.{eqb-true, le-leb}
 use Rattle.std.proofs.lemmas.Bool.Decides.{nat_tests}
 use Rattle.std.proofs.lemmas.Option.{none-some, same_Some}
 use Rattle.its_model.specs.History.{Reception, entry_life, is_from, of_source, unbroken}
@@ -125,9 +126,6 @@ remembered now source n (x ∷ newer) r older h near is number k few =
 
 -- ---- the numbers of packets that are new differ
 
-same_number : (a b : ℕ) → eqb a b ≡ true → a ≡ b
-same_number a b e = grind (arith, nat_tests)
-
 number_is_new : (span from until source m : ℕ) (x : Reception) (older : List Reception)
     → IsNewAmong span x older → AreWithin from until older → x.moment ≤ until
     → until ≤ from + span → x.vector.address ≡ source → x.number ≡ Some m
@@ -140,7 +138,7 @@ number_is_new span from until source m x (q ∷ older) new within le short is nu
     never : is_from source q ≡ true → q.number ≡ Some m → ⊥
     never from_it same =
         let later : q.moment + span < x.moment =
-        new.0 (is ∙ sym (same_number q.vector.address source from_it), m, number, same) in
+        new.0 (is ∙ sym (eqb-true q.vector.address source from_it), m, number, same) in
         let first : from ≤ q.moment = within.0 in
         absurd (omega (arith, later, first, le, short))
 
@@ -175,7 +173,7 @@ distinct_numbers span from until source (x ∷ xs) new within short =
     of_number rest None from_it e = rest
     of_number rest (Some m) from_it e = (
       number_is_new span from until source m x xs new.0 within.2 within.1 short
-          (same_number x.vector.address source from_it) e,
+          (eqb-true x.vector.address source from_it) e,
       rest,
     )
 
@@ -259,9 +257,6 @@ sent_front : (window : ℕ) (log : List SignedLine) (newer : List Reception) (r 
 sent_front window log [] r older h = (h.0, tt)
 sent_front window log (x ∷ newer) r older h = (h.0, sent_front window log newer r older h.1)
 
-is_within : (a b : ℕ) → a ≤ b → nat_le a b ≡ true
-is_within a b h = grind (arith, nat_tests)
-
 -- a number that a line of the log sent in a span is among those sent
 among_sent : (source from span n : ℕ) (log : List SignedLine) (line : SignedLine) (k : ℕ)
     → slice_get log k ≡ Some line → number_in_span source from span line ≡ Some n
@@ -292,9 +287,9 @@ sent_in_span window from until source n log r s low high short is =
     omega (arith, s.near.0, high, short) in
     among_sent source (from - window) (4 * window) n log s.line s.logged.0 s.logged.1
     (ap (λ b. cond (b && nat_le s.line.event.now (from - window + 4 * window))
-    (number_of_sent source s.line.answer) None) (is_within (from - window) s.line.event.now begin)
+    (number_of_sent source s.line.answer) None) (le-leb (from - window) s.line.event.now begin)
     ∙ ap (λ b. cond b (number_of_sent source s.line.answer) None)
-    (is_within s.line.event.now (from - window + 4 * window) end)
+    (le-leb s.line.event.now (from - window + 4 * window) end)
     ∙ ap (λ a. number_of_sent a s.line.answer) (sym is) ∙ s.number)
 
 all_sent : (window from until source m : ℕ) (log : List SignedLine) (xs : List Reception)
@@ -318,7 +313,7 @@ all_sent window from until source m log (x ∷ xs) sent within short among =
         elim (eq_test n m) [
           | inl same ↦ sent_in_span window from until source m log x
               (sent.0 m (e ∙ ap Some same.1)) within.0 within.1 short
-              (same_number x.vector.address source from_it)
+              (eqb-true x.vector.address source from_it)
           | inr other ↦ rest (sym (ap (λ b. b || is_among m (numbers_of (of_source source xs)))
               other.0) ∙ among)
         ]

@@ -3,8 +3,7 @@ use Rattle.std.proofs.Common.{◌≡◌, ◌≢◌, ◌⊎◌, ℕ, ◌+◌, ◌
 use Rattle.std.proofs.Common.{length, Bool, true, false, cond, eqb, leb, not, Option, Some}
 use Rattle.std.proofs.Common.{None, refl, sym, ap, subst, ◌∙◌, inl, inr, arith}
 use Rattle.std.specs.Prelude.{IsTrue, slice_get, slice_set}
-use Rattle.std.proofs.lemmas.Bool.{false≢true}
-use Rattle.std.proofs.lemmas.Bool.Decides.{nat_tests}
+use Rattle.std.proofs.lemmas.Bool.{eq-eqb, eqb-true, eqb-false, false≢true}
 use Rattle.std.proofs.lemmas.Option.{none-some, same_Some}
 use Rattle.its_faults.specs.declared.secured.SecuredFault.{SecuredFault}
 use Rattle.its_model.specs.History.{Reception, entry_life, with_number, is_remembered, NeverFell}
@@ -268,12 +267,9 @@ sent_number : (t v : Transmission) (n : ℕ)
     → number_of_sent v.pdu.vector.address (UnitAnswer.Passed (model.Answer.Sent t)) ≡ Some n
 sent_number t v n same number =
     ap (λ b. cond b (number_in t.pdu.body) None)
-    (same_source t.pdu.vector.address v.pdu.vector.address
+    (eq-eqb t.pdu.vector.address v.pdu.vector.address
     (sym (ap (λ (p : Pdu). p.vector.address) same)))
     ∙ sym (ap (λ (p : Pdu). number_in p.body) same) ∙ number
-  where
-    same_source : (a b : ℕ) → a ≡ b → eqb a b ≡ true
-    same_source a b e = grind (arith, nat_tests)
 
 sealed_near : (window now : ℕ) (log : List SignedLine) (octets plain : List ℕ) (v : Verified)
     → IsVerifiedCall octets plain (VerifiedCall.Came v)
@@ -400,12 +396,6 @@ called_fresh window remember j f e u (Some call) life few at is sound fresh h = 
     line : SignedLine
     line = record { event = e; answer = (unit_step u e.now call).answer }
 
-    same_place : (a b : ℕ) → eqb a b ≡ true → a ≡ b
-    same_place a b is = grind (arith, nat_tests)
-
-    other_place : (a b : ℕ) → eqb a b ≡ false → a ≢ b
-    other_place a b is = grind (arith, nat_tests)
-
     mine : e.unit ≡ j → IsFreshStation window remember f.log new.station
     mine place = unit_fresh window remember f.log e call u life few is sound fresh
         (h u (sym (ap (slice_get f.units) place) ∙ at))
@@ -414,14 +404,14 @@ called_fresh window remember j f e u (Some call) life few at is sound fresh h = 
         → slice_get (slice_set f.units e.unit new) j ≡ Some x
         → IsFreshStation window remember (line ∷ f.log) x.station
     by x true place get =
-        let is_place = same_place e.unit j place in
+        let is_place = eqb-true e.unit j place in
         let is_new = same_Some new x (sym (get_same f.units e.unit u new at)
         ∙ ap (slice_get (slice_set f.units e.unit new)) is_place ∙ get) in
         subst (λ (y : UnitModel). IsFreshStation window remember (line ∷ f.log) y.station) is_new
         (longer_fresh window remember line f.log new.station (mine is_place))
     by x false place get =
         longer_fresh window remember line f.log x.station
-        (h x (sym (get_other f.units e.unit j new (other_place e.unit j place)) ∙ get))
+        (h x (sym (get_other f.units e.unit j new (eqb-false e.unit j place)) ∙ get))
 
     each : IsFreshAt window remember j (after_signed f e u (Some call))
     each x get = by x (eqb e.unit j) refl get

@@ -24,6 +24,7 @@ use Rattle.its_unit.specs.Runs.{UnitCallAt, IsPart, IsPartOf, is_withheld}
 use Rattle.its_unit.specs.Signed.{is_own}
 use Rattle.its_unit.proofs.Runs.{station_runs}
 use Rattle.its_unit.proofs.FleetUnits.{answer_withheld}
+use Rattle.its_unit.proofs.FleetMessages.{handed_whole}
 
 -- ---- addresses stay
 
@@ -145,12 +146,6 @@ passed_part u now call answer passed = by (is_withheld u c) refl
 
 -- ---- a frame that the entity read
 
--- What a station answers when it accepts a frame: what it hands out, and what it sends on.
-pub record IsAcceptedFrame (s : StationModel) (now : ℕ) (t : Transmission)
-    (answer : Answer Transmission) : Type 0 where
-  pub is : answer ≡ model.Answer.Accepted (handing s t.pdu.body)
-      (relayed (after_hearing s now t) now t t.pdu.body)
-
 accepted_by : (s : StationModel) (now : ℕ) (t : Transmission) (handed : Option Message)
     (sent : Option Transmission)
     → (receive_step s now t).answer ≡ model.Answer.Accepted handed sent
@@ -170,26 +165,7 @@ accepted_by s now t handed sent e = by (verdict s now t) e
     by (Verdict.Ignore why) e = cc
     by Verdict.Accept e = same _ _ _ _ e
 
--- a message that passes of the answer to a frame is the one that the station hands out
-handed_of : (m : Message) (sent : Option Transmission) (whole : Answer Transmission)
-    → IsPartOf (UnitAnswer.Passed (model.Answer.Accepted (Some m) sent)) whole
-    → (frame : Option Transmission) × (whole ≡ model.Answer.Accepted (Some m) frame)
-handed_of m sent (model.Answer.Accepted message frame) part = (frame, by part.0)
-  where
-    by : IsPart (Some m) message
-        → model.Answer.Accepted message frame ≡ model.Answer.Accepted (Some m) frame
-    by (inl none) = absurd (none-some m (sym none))
-    by (inr same) = ap (λ x. model.Answer.Accepted x frame) (sym same)
-handed_of m sent (model.Answer.Sent t) part = cc
-handed_of m sent model.Answer.Moved part = cc
-handed_of m sent model.Answer.Opened part = cc
-handed_of m sent model.Answer.Closed part = cc
-handed_of m sent model.Answer.Restarted part = cc
-handed_of m sent model.Answer.Quiet part = cc
-handed_of m sent (model.Answer.Ignored why) part = cc
-handed_of m sent (model.Answer.Refused refusal) part = cc
-
--- so is a frame that passes
+-- a frame that passes of the answer to a frame is the one that the station sends on
 sent_of : (handed : Option Message) (t : Transmission) (whole : Answer Transmission)
     → IsPartOf (UnitAnswer.Passed (model.Answer.Accepted handed (Some t))) whole
     → (message : Option Message) × (whole ≡ model.Answer.Accepted message (Some t))
@@ -216,7 +192,7 @@ pub handed_out : (u : UnitModel) (now : ℕ) (call : UnitCall) (t : Transmission
     → handing u.station t.pdu.body ≡ Some m
 handed_out u now call t m sent within passed =
     let part = passed_part u now call (model.Answer.Accepted (Some m) sent) passed in
-    let whole = handed_of m sent (step_within u.station now call).answer part in
+    let whole = handed_whole m sent (step_within u.station now call).answer part in
     (accepted_by u.station now t (Some m) whole.0 (sym within ∙ whole.1)).0
 
 -- a frame in which a unit sends one on
