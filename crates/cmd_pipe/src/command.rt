@@ -1,16 +1,20 @@
 //! The command.
 
-ghost use Rattle.std.specs.Prelude.{◌≡◌, IfOk};
+ghost use Rattle.std.specs.Prelude.{◌≡◌, IfOk, None};
 ghost use Rattle.its_model.specs.Station.{new_station};
 ghost use Rattle.its_station.specs.Counting.{nothing};
 ghost use Rattle.its_station.specs.State.{RepresentsStation};
 ghost use Rattle.its_world.specs.Events.{IsConfig};
-ghost use Rattle.cmd_pipe.specs.Serving.{ServesInput};
+ghost use Rattle.cmd_pipe.specs.Serving.{ServesInput, no_limits};
+ghost use Rattle.std.specs.Option.{option_map};
+ghost use Rattle.its_contention.specs.Buffer.{empty};
+ghost use Rattle.its_governor.specs.Governing.{IsNewGovernor};
 
 use crate::ended::Ended;
 use crate::fault::PipeFault;
 use crate::printer::Printer;
 use crate::serving::serve;
+use its_contention::ContentionRule;
 use its_gnvalue::NoMemory;
 use its_governor::Limits;
 use its_loctable::SortedTable;
@@ -20,16 +24,7 @@ use its_world::Config;
 use std::alloc::Global;
 use std::io::{BufReader, Read, Write};
 
-/// Runs one station, which begins as the config says, on the lines of the input. What is answered
-/// to a line is written on `out` as one line, and flushed, before the next is read. Where the
-/// octets of the input are known the lines are all of its own, in order.
-///
-/// `Refused` where a line could not be read, `Failed` where the input could not be read, `out` not
-/// be written, or memory ran out. The line of a fault is written on `err`.
-///
-/// - its clause (`ServesInput`): unless it ends with 3, what is answered to the lines of the input
-///   (all of them, if its octets are known) is what the station of the model answers that begins
-///   as the config says. It ends with 1 if one of these answers is a fault, otherwise with 0.
+/// Runs one station, as `run_contending_station` does, which doesn't contend.
 pub fn run_station<R: Read + Drop, W: Write, E: Write>(
     alloc: Global,
     config: &Config,
@@ -38,9 +33,35 @@ pub fn run_station<R: Read + Drop, W: Write, E: Write>(
     err: &mut E,
 ) -> Ended
     requires { IsConfig config.now }
-    ensures { ¬ (result ≡ Ended.Failed) → ServesInput config.now result (R.remaining input) }
+    ensures { ¬ (result ≡ Ended.Failed) →
+        ServesInput config.now None result (R.remaining input) }
 {
-    match serve_input(alloc, config, input, out) {
+    run_contending_station(alloc, config, None, input, out, err)
+}
+
+/// Runs one station, which begins as the config says, on the lines of the input. If a rule is given, it
+/// contends by this rule. What is answered to a line is written on `out` as one line, and flushed,
+/// before the next is read. Where the octets of the input are known the lines are all of its own, in
+/// order.
+///
+/// `Refused` where a line could not be read, `Failed` where the input could not be read, `out` not
+/// be written, or memory ran out. The line of a fault is written on `err`.
+///
+/// - its clause (`ServesInput`): unless it ends with 3, what is answered to the lines of the input
+///   (all of them, if its octets are known) is what the unit of the model answers past its limits that
+///   begins as the config says. It ends with 1 if one of these answers is a fault, otherwise with 0.
+pub fn run_contending_station<R: Read + Drop, W: Write, E: Write>(
+    alloc: Global,
+    config: &Config,
+    rule: Option<ContentionRule>,
+    input: R,
+    out: &mut W,
+    err: &mut E,
+) -> Ended
+    requires { IsConfig config.now }
+    ensures { ¬ (result ≡ Ended.Failed) → ServesInput config.now rule result (R.remaining input) }
+{
+    match serve_input(alloc, config, rule, input, out) {
         Ok(ended) => ended,
         Err(fault) => {
             fault.report(err);
@@ -53,28 +74,38 @@ pub fn run_station<R: Read + Drop, W: Write, E: Write>(
 fn serve_input<R: Read + Drop, W: Write>(
     alloc: Global,
     config: &Config,
+    rule: Option<ContentionRule>,
     input: R,
     out: &mut W,
 ) -> Result<Ended, PipeFault>
     requires { IsConfig config.now }
-    ensures { IfOk result (λ ended. ServesInput config.now ended (R.remaining input)) }
+    ensures { IfOk result (λ ended. ServesInput config.now rule ended (R.remaining input)) }
 {
-    let mut unit = begin(alloc, config)?;
+    let mut unit = begin(alloc, config, rule)?;
     let mut reader = BufReader::new(alloc, input).map_err(|error| PipeFault::of_read(&error))?;
     let mut printer = Printer::new(alloc, out)?;
     serve(alloc, &mut unit, &mut reader, &mut printer)
 }
 
-/// A unit without limits to which nothing happened yet.
-fn begin(alloc: Global, config: &Config) -> Result<Unit<SortedTable>, NoMemory>
+/// A unit without limits to which nothing happened yet, and which contends by this rule, or doesn't.
+fn begin(
+    alloc: Global,
+    config: &Config,
+    rule: Option<ContentionRule>,
+) -> Result<Unit<SortedTable>, NoMemory>
     requires { IsConfig config.now }
     ensures station { IfOk result (λ unit. RepresentsStation unit.station
         (new_station config.now.address config.now.place config.now.capacity config.now.remember)) }
+    ensures limits { IfOk result (λ unit. IsNewGovernor no_limits unit.governor) }
+    ensures contention { IfOk result (λ unit. unit.contention ≡ option_map empty rule) }
     ensures counts { IfOk result (λ unit. unit.counts ≡ nothing) }
 {
     let (address, place) = (config.address, config.place);
     match Station::new(alloc, address, place, config.capacity, config.remember) {
-        Ok(station) => Unit::new(alloc, station, &Limits::NONE),
+        Ok(station) => match rule {
+            Some(rule) => Unit::contending(alloc, station, &Limits::NONE, rule),
+            None => Unit::new(alloc, station, &Limits::NONE),
+        },
         Err(_) => Err(NoMemory),
     }
 }

@@ -22,7 +22,7 @@ mod printer;
 mod serving;
 mod sink;
 
-pub use command::run_station;
+pub use command::{run_contending_station, run_station};
 pub use ended::Ended;
 pub use fault::PipeFault;
 pub use printer::Printer;

@@ -1,11 +1,10 @@
 //! The lines of the input, each answered before the next is read.
 
 ghost use Rattle.std.specs.Prelude.{◌≡◌, ◌++◌, ◌∷◌, [], List, IfOk, OnOk};
-ghost use Rattle.its_lines.specs.Knowing.{Counted};
-ghost use Rattle.its_lines.specs.Serving.{RepresentsCounted};
 ghost use Rattle.its_lines.specs.declared.response.Response.{Response as ToldLine};
 ghost use Rattle.cmd_pipe.specs.Lines.{text_of};
-ghost use Rattle.cmd_pipe.specs.Serving.{IsServed, IsServedLine, ended_of, then_ended};
+ghost use Rattle.cmd_pipe.specs.Serving.{CountedUnit, IsCounted, IsServed, IsServedLine};
+ghost use Rattle.cmd_pipe.specs.Serving.{ended_of, then_ended};
 
 use crate::ended::Ended;
 use crate::fault::PipeFault;
@@ -25,20 +24,18 @@ use std::io::BufRead;
 ///
 /// - its clause (`IsServed`): if the octets of the reader are known, the lines that are answered
 ///   are exactly its lines, of one of more than 65536 octets the first 65536 (`AreLines`), in
-///   order, each once, numbered from 1. A line that asks for a call is one step of the written
-///   rules of just this station, at the time and with the frame or the keys in it (`SaysCall`); the
-///   answer is that step's, and is counted. A query is answered as the station knows it
-///   (`TellsQuery`). A query and any other line change nothing. The station is one of the model
-///   throughout.
+///   order, each once, numbered from 1. A line that asks for a call is one step of the unit past its
+///   limits, at the time and with the frame or the keys in it (`SaysCall`); the answer is that step's,
+///   and is counted. So is a release. A query is answered as the station knows it (`TellsQuery`). A
+///   query and any other line change nothing. The unit is one of the model throughout.
 pub fn serve<R: BufRead, S: ResponseSink>(
     alloc: Global,
     unit: &mut Unit<SortedTable>,
     reader: &mut R,
     sink: &mut S,
 ) -> Result<Ended, PipeFault>
-    ensures { (s : Counted) → RepresentsCounted unit.old.station unit.old.counts s → S.Took sink.old [] →
-        IfOk result (λ ended. IsServed s unit.new.station unit.new.counts ended (S.Took sink.new)
-        (R.remaining reader.old)) }
+    ensures { (s : CountedUnit) → IsCounted unit.old s → S.Took sink.old [] →
+        IfOk result (λ ended. IsServed s unit.new ended (S.Took sink.new) (R.remaining reader.old)) }
 {
     let mut line = Line::new(alloc, LONGEST_LINE)?;
     let mut ended = Ended::Done;
@@ -66,10 +63,9 @@ fn serve_line<S: ResponseSink>(
     sink: &mut S,
     ended: Ended,
 ) -> Result<Ended, PipeFault>
-    ensures { (s : Counted) (log : List ToldLine) → RepresentsCounted unit.old.station unit.old.counts s
+    ensures { (s : CountedUnit) (log : List ToldLine) → IsCounted unit.old s
         → S.Took sink.old log → ended ≡ ended_of log → IfOk result (λ next.
-        IsServedLine s number (text_of line.now) log unit.new.station unit.new.counts next
-        (S.Took sink.new)) }
+        IsServedLine s number (text_of line.now) log unit.new next (S.Took sink.new)) }
 {
     match answer_input_line(alloc, unit, number, line.start(), line.passed().any)? {
         Some(response) => hand_on(response, sink, ended),
@@ -98,6 +94,7 @@ fn ended_after(ended: Ended, response: &Response) -> Ended
 {
     match response {
         Response::Reply { .. }
+        | Response::Released { .. }
         | Response::Repeated { .. }
         | Response::OverRate { .. }
         | Response::NotAllowed { .. }

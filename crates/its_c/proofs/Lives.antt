@@ -9,18 +9,25 @@ use Rattle.std.specs.Prelude.{Result, Ok, Err, Vec}
 use Rattle.std.specs.Option.{option_map}
 use Rattle.std.specs.declared.alloc.Global.{Global}
 use Rattle.its_btp.specs.declared.ports.PortFault.TheVariants as ports
+use Rattle.its_contention.specs.Buffer.{empty}
+use Rattle.its_model.specs.Calls.{Answer}
+use Rattle.its_model.specs.Contention.{ContentionRule}
+use Rattle.its_model.specs.Packet.{Transmission}
 use Rattle.its_model.specs.Station.{StationModel}
 use Rattle.its_governor.specs.declared.rate.Limits.{Limits}
 use Rattle.its_governor.specs.Governing.{IsNewGovernor}
 use Rattle.its_station.specs.Counting.{nothing}
 use Rattle.its_station.specs.State.{RepresentsStation}
 use Rattle.its_station.specs.declared.counts.Counts.{Counts}
+use Rattle.its_station.specs.declared.outcome.Outcome.{Outcome}
 use Rattle.its_station.specs.declared.refused.Refused.{Refused}
 use Rattle.its_station.specs.declared.refused.Refused.TheVariants as refused
 use Rattle.its_unit.specs.Unit.{UnitModel, UnitState, UnitStep, UnitAnswer}
 use Rattle.its_unit.specs.Unit.{RepresentsUnit, unit_step}
-use Rattle.its_unit.specs.Runs.{IsLawful, UnitCallAt, unit_run}
-use Rattle.its_unit.specs.Steps.{IsStepOf, IsSendOf, IsRefusedStep}
+use Rattle.its_unit.specs.Releases.{IsReleaseOf, UnitRelease, counted_release, release_step}
+use Rattle.its_unit.specs.Runs.{IsLawful, UnitAct, UnitCallAt, after_act, unit_acts}
+use Rattle.its_unit.specs.Steps.{IsReactionOf, IsStepOf, IsSendOf, IsRefusedStep}
+use Rattle.its_unit.specs.declared.outcome.Reaction.{Reaction}
 use Rattle.its_unit.specs.declared.unsent.Unsent.{Unsent}
 use Rattle.its_unit.specs.declared.unsent.Unsent.TheVariants as unsent
 use Rattle.its_c.specs.Open.{HoldsUnit}
@@ -28,19 +35,23 @@ use Rattle.its_c.specs.Status.{status_of, status_in, status_sent}
 use Rattle.its_c.specs.declared.handle.Geostation.{Geostation}
 use Rattle.its_c.specs.Life.{HandleCall, HandleModel, HoldsHandle, HoldsNew, HasRoom, HasRanges}
 use Rattle.its_c.specs.Life.{CallStep, ModelStep, MakesNone, UnitCalled, UnitSteps, Leads, IsLife}
-use Rattle.its_c.specs.Life.{is_status, made_if}
+use Rattle.its_c.specs.Life.{UnitReleased, UnitReleases, is_status, made_if, new_unit, room_for}
 use Rattle.its_c.proofs.Opens.{same_rep, unit_held}
 
 -- a handle that holds the same station and limits holds the same unit
 same_holds : (old new : Option UnitState) (u : UnitModel)
     → option_map (λ (st : UnitState). st.station) new ≡ option_map (λ (st : UnitState). st.station) old
+    → option_map (λ (st : UnitState). st.contention) new
+    ≡ option_map (λ (st : UnitState). st.contention) old
     → option_map (λ (st : UnitState). st.governor) new ≡ option_map (λ (st : UnitState). st.governor) old
     → HoldsUnit old u → HoldsUnit new u
-same_holds None new u station governor holds = absurd holds
-same_holds (Some a) None u station governor holds = absurd (none-some a.station station)
-same_holds (Some a) (Some b) u station governor holds =
+same_holds None new u station contention governor holds = absurd holds
+same_holds (Some a) None u station contention governor holds =
+    absurd (none-some a.station station)
+same_holds (Some a) (Some b) u station contention governor holds =
     same_rep a b u (record {
       station = same_Some b.station a.station station;
+      contention = same_Some b.contention a.contention contention;
       governor = same_Some b.governor a.governor governor;
     }) holds
 
@@ -66,6 +77,12 @@ step_holds : {T : Type 0} (says : T → UnitAnswer → Type 0) (said : Result T 
 step_holds says (Ok x) new step is code = is.1
 step_holds says (Err e) new step is code = refused_status e new step is code
 
+reaction_holds : (tells : Outcome → Answer Transmission → Type 0) (said : Result Reaction Refused)
+    (new : UnitState) (step : UnitStep) → IsReactionOf tells said new step
+    → is_status 5 (status_in said) ≡ false → RepresentsUnit new step.unit
+reaction_holds tells (Ok r) new step is code = is.3
+reaction_holds tells (Err e) new step is code = refused_status e new step is code
+
 send_holds : (said : Result (Vec ℕ Global) Unsent) (new : UnitState) (step : UnitStep)
     → IsSendOf said new step → is_status 5 (status_sent said) ≡ false
     → RepresentsUnit new step.unit
@@ -80,18 +97,18 @@ status_is code (negsuc n) is = cc
 -- ---- one call of C
 
 -- A call leads to this handle, which stands for the unit after the calls that it made.
-record Found (m : HandleModel) (new : Geostation) (IsFound : List UnitCallAt → Counts → Type 0) :
+record Found (m : HandleModel) (new : Geostation) (IsFound : List UnitAct → Counts → Type 0) :
     Type 0 where
-  made : List UnitCallAt
+  made : List UnitAct
   counts : Counts
   found : IsFound made counts
-  holds : HoldsHandle new (record { unit = unit_run m.unit made; counts = counts })
+  holds : HoldsHandle new (record { unit = unit_acts m.unit made; counts = counts })
 
 -- the unit after a call, by whether there was memory
 held_by : (b : Bool) (call : UnitCallAt) (u : UnitModel) (held : Option UnitState)
     → (b ≡ true → HoldsUnit held u)
     → (b ≡ false → HoldsUnit held (unit_step u call.now call.call).unit)
-    → HoldsUnit held (unit_run u (cond b [] (call ∷ [])))
+    → HoldsUnit held (unit_acts u (cond b [] (UnitAct.Calls call ∷ [])))
 held_by true call u held without with_memory = without refl
 held_by false call u held without with_memory = with_memory refl
 
@@ -123,7 +140,8 @@ called IsDone Shows count status_by status call old new m represents calls holds
         unit = held_by (is_status 5 status) call m.unit new.held.unit
             (λ without.
             let same = calls.memory (status_is 5 status without) in
-            same_holds old.held.unit new.held.unit m.unit same.station same.limits holds.unit)
+            same_holds old.held.unit new.held.unit m.unit same.station same.contention
+            same.limits holds.unit)
             (λ enough. unit_held new.held.unit t.after step.unit t.held
             (represents t.said t.after step t.done (ap (is_status 5) (sym t.code) ∙ enough)));
         counts = t.counts ∙ ap (option_map (count t.said)) holds.counts;
@@ -136,7 +154,7 @@ stays old new m same holds = subst (λ (h : Geostation). HoldsHandle h m) (sym s
 
 -- a call that needs a buffer of some length
 with_room : (least : ℕ) (room : List ℕ) (status : ℤ) (Blank Calls : Type 0)
-    (IsFound : List UnitCallAt → Counts → Type 0) (old new : Geostation) (m : HandleModel)
+    (IsFound : List UnitAct → Counts → Type 0) (old new : Geostation) (m : HandleModel)
     → HoldsHandle old m → HasRoom least room status ((new ≡ old) × Blank) Calls
     → (Calls → Found m new IsFound)
     → Found m new (λ made counts.
@@ -174,7 +192,7 @@ with_room least room status Blank Calls IsFound old new m holds has calls =
 
 -- a call whose arguments have ranges
 in_ranges : (AreInRange : Type 0) (status : ℤ) (Refuses Calls : Type 0)
-    (IsRefused IsFound : List UnitCallAt → Counts → Type 0) (old new : Geostation)
+    (IsRefused IsFound : List UnitAct → Counts → Type 0) (old new : Geostation)
     (m : HandleModel) → HasRanges AreInRange status Refuses Calls → (Refuses → Found m new IsRefused)
     → (Calls → Found m new IsFound)
     → Found m new (λ made counts.
@@ -249,9 +267,9 @@ read_call old new m holds same = record {
 }
 
 -- with something that is found first
-found_with : (m : HandleModel) (new : Geostation) (IsFound IsAll : List UnitCallAt → Counts → Type 0)
+found_with : (m : HandleModel) (new : Geostation) (IsFound IsAll : List UnitAct → Counts → Type 0)
     → Found m new IsFound
-    → ((made : List UnitCallAt) (counts : Counts) → IsFound made counts → IsAll made counts)
+    → ((made : List UnitAct) (counts : Counts) → IsFound made counts → IsAll made counts)
     → Found m new IsAll
 found_with m new IsFound IsAll f all = record {
   made = f.made;
@@ -259,6 +277,72 @@ found_with m new IsFound IsAll f all = record {
   found = all f.made f.counts f.found;
   holds = f.holds;
 }
+
+-- the unit after a release that isn't refused for want of memory
+release_holds : (said : Result (Option (Vec ℕ Global)) Refused) (new : UnitState)
+    (release : UnitRelease) → said ≢ Err refused.NoMemory → IsReleaseOf said new release
+    → RepresentsUnit new release.unit
+release_holds (Ok sent) new release some is = is.2
+release_holds (Err refused.MomentEarlier) new release some is = is.1
+release_holds (Err refused.MomentTooLate) new release some is = is.1
+release_holds (Err refused.JitterRange) new release some is = is.1
+release_holds (Err (refused.Frame fault)) new release some is = is.1
+release_holds (Err (refused.Secured fault)) new release some is = is.1
+release_holds (Err (refused.Port ports.AlreadyOpen)) new release some is = is.1
+release_holds (Err (refused.Port ports.Full)) new release some is = is.1
+release_holds (Err (refused.Port ports.NotOpen)) new release some is = is.1
+release_holds (Err refused.PayloadTooLong) new release some is = is.1
+release_holds (Err refused.HopLimitZero) new release some is = is.1
+release_holds (Err refused.TableFull) new release some is = is.1
+release_holds (Err refused.NoMemory) new release some is = absurd (some refl)
+
+-- a release
+released : (now : ℕ) (room : List ℕ) (status : ℤ) (written : ℕ) (frame : List ℕ)
+    (old new : Geostation) (m : HandleModel) → HoldsHandle old m
+    → UnitReleased old new now room status written frame
+    → Found m new (λ made counts. UnitReleases m made counts now room status written frame)
+released now room status written frame old new m holds is =
+    by (ltb (length room) (room_for m.unit)) refl
+  where
+    by : (b : Bool) → ltb (length room) (room_for m.unit) ≡ b
+        → Found m new (λ made counts. UnitReleases m made counts now room status written frame)
+    by true below =
+        let short : length room < room_for m.unit = ltb-true _ _ below in
+        let refuses = is.short m.unit holds.unit short in
+        let same = read_call old new m holds refuses.2 in
+        record {
+          made = same.made;
+          counts = same.counts;
+          found = record {
+            short = λ again. (refuses.0, refuses.1, same.found);
+            enough = λ long. absurd (omega (arith, short, long));
+          };
+          holds = same.holds;
+        }
+    by false below =
+        let long : room_for m.unit ≤ length room = ltb-false _ _ below in
+        let t = is.enough m.unit holds.unit long in
+        record {
+          made = UnitAct.Releases now ∷ [];
+          counts = counted_release t.said m.counts;
+          found = record {
+            short = λ short. absurd (omega (arith, short, long));
+            enough = λ again. record {
+              said = t.said;
+              after = t.after;
+              done = t.done;
+              code = t.code;
+              shown = t.shown;
+              counted = refl;
+              makes = refl;
+            };
+          };
+          holds = record {
+            unit = unit_held new.held.unit t.after (release_step m.unit now).unit t.held
+                (release_holds t.said t.after (release_step m.unit now) t.memory t.done);
+            counts = t.counts ∙ ap (option_map (counted_release t.said)) holds.counts;
+          };
+        }
 
 -- what one call of C is in the model
 one : (c : HandleCall) (old new : Geostation) (m : HandleModel) → HoldsHandle old m
@@ -293,20 +377,22 @@ one (HandleCall.SendToArea now cast request payload room status written frame) o
     (λ made counts steps. (calls.0, calls.1, steps))))
 one (HandleCall.Receive now octets room status reception relay) old new m holds is =
     with_room 1468 room status _ _ _ old new m holds is
-    (λ calls. found_with m new _ _ (called _ _ _ _ status _ old new m (step_holds _) calls.4 holds)
+    (λ calls. found_with m new _ _ (called _ _ _ _ status _ old new m (reaction_holds _) calls.4 holds)
     (λ made counts steps. (calls.0, calls.1, calls.2, calls.3, steps)))
 one (HandleCall.ReceiveVerified now octets plain room status reception relay) old new m holds is =
     with_room 2310 room status _ _ _ old new m holds is
-    (λ calls. found_with m new _ _ (called _ _ _ _ status _ old new m (step_holds _) calls.2 holds)
+    (λ calls. found_with m new _ _ (called _ _ _ _ status _ old new m (reaction_holds _) calls.2 holds)
     (λ made counts steps. (calls.0, calls.1, steps)))
+one (HandleCall.Release now room status written frame) old new m holds is =
+    released now room status written frame old new m holds is
 one HandleCall.Read old new m holds is = read_call old new m holds is
 
 -- ---- a life
 
-run_on : (u : UnitModel) (first next : List UnitCallAt)
-    → unit_run u (first ++ next) ≡ unit_run (unit_run u first) next
+run_on : (u : UnitModel) (first next : List UnitAct)
+    → unit_acts u (first ++ next) ≡ unit_acts (unit_acts u first) next
 run_on u [] next = refl
-run_on u (c ∷ first) next = run_on (unit_step u c.now c.call).unit first next
+run_on u (a ∷ first) next = run_on (after_act u a) first next
 
 pub lives : (calls : List HandleCall) (old new : Geostation) (m : HandleModel) → HoldsHandle old m
     → Leads old calls new → IsLife m calls new
@@ -318,7 +404,7 @@ lives [] old new m holds leads = record {
 }
 lives (c ∷ calls) old new m holds leads =
     let o = one c old leads.0 m holds leads.1 in
-    let rest = lives calls leads.0 new (record { unit = unit_run m.unit o.made; counts = o.counts })
+    let rest = lives calls leads.0 new (record { unit = unit_acts m.unit o.made; counts = o.counts })
     o.holds leads.2 in
     record {
       made = o.made ++ rest.made;
@@ -332,15 +418,18 @@ lives (c ∷ calls) old new m holds leads =
     }
 
 -- a new handle
-pub new_handle : (h : Geostation) (st : UnitState) (m : StationModel) (limits : Limits)
-    → h.held.unit ≡ Some st → RepresentsStation st.station m → IsNewGovernor limits st.governor
-    → st.counts ≡ nothing → ((u : UnitModel) → IsNewGovernor limits u.governor → IsLawful limits u)
-    → HoldsNew h m limits
-new_handle h st m limits is rep new none laws =
-    let u : UnitModel = record { station = m; governor = st.governor } in
+pub new_handle : (h : Geostation) (st : UnitState) (m : StationModel) (rule : Option ContentionRule)
+    (limits : Limits) → h.held.unit ≡ Some st → RepresentsStation st.station m
+    → st.contention ≡ option_map empty rule → IsNewGovernor limits st.governor
+    → st.counts ≡ nothing
+    → ((u : UnitModel) → IsNewGovernor limits u.governor → IsLawful limits u)
+    → HoldsNew h m rule limits
+new_handle h st m rule limits is rep contends new none laws =
+    let u : UnitModel = new_unit m rule st.governor in
     let handle : HandleModel = record { unit = u; counts = nothing } in
     let holds : HoldsHandle h handle = record {
-      unit = unit_held h.held.unit st u is (record { station = rep; governor = refl });
+      unit = unit_held h.held.unit st u is
+          (record { station = rep; contention = sym contends; governor = refl });
       counts = ap (option_map (λ (s : UnitState). s.counts)) is ∙ ap (λ (c : Counts). Some c) none;
     } in
     record {

@@ -4,15 +4,18 @@ use mathlib.Core.Bool.{Bool-set}
 use Rattle.std.proofs.Math.Logic.{∥∥₁_map, ∥∥₁_elim}
 use Rattle.std.proofs.lemmas.Grind.{merely}
 use Rattle.std.specs.Prelude.{Result, Ok, Err, IsSome, IfOk, OnErr, Vec}
-use Rattle.its_lines.specs.Knowing.{Counted}
-use Rattle.its_lines.specs.Serving.{RepresentsCounted}
+use Rattle.its_model.specs.Calls.{Answer}
+use Rattle.its_model.specs.Packet.{Transmission}
+use Rattle.its_station.specs.declared.outcome.Outcome.{Outcome}
+use Rattle.its_unit.specs.Releases.{IsReleaseOf, UnitRelease}
+use Rattle.its_unit.specs.declared.outcome.Reaction.{Reaction}
 use Rattle.std.specs.Option.{option_map}
 use Rattle.std.specs.declared.alloc.Global.{Global}
 use Rattle.its_station.specs.State.{StationState, RepresentsStation}
 use Rattle.its_station.specs.declared.counts.Counts.{Counts}
 use Rattle.its_station.specs.declared.refused.Refused.{Refused}
 use Rattle.its_unit.specs.Unit.{UnitModel, UnitState, UnitStep, UnitAnswer, RepresentsUnit}
-use Rattle.its_unit.specs.Steps.{IsStepOf, IsSendOf, IsSameUnit}
+use Rattle.its_unit.specs.Steps.{IsReactionOf, IsStepOf, IsSendOf, IsSameUnit}
 use Rattle.its_unit.specs.declared.unsent.Unsent.{Unsent}
 use Rattle.its_unit.specs.declared.unsent.Unsent.TheVariants as unsent
 use Rattle.its_model.specs.Station.{StationModel}
@@ -44,6 +47,7 @@ pub same_rep : (old new : UnitState) (u : UnitModel) → IsSameUnit old new → 
     → RepresentsUnit new u
 same_rep old new u same rep = record {
   station = subst (λ (st : StationState). RepresentsStation st u.station) (sym same.station) rep.station;
+  contention = rep.contention ∙ sym same.contention;
   governor = rep.governor ∙ sym same.governor;
 }
 
@@ -68,6 +72,26 @@ send_keeps (Err (unsent.Refused e)) old new step is same found =
 send_keeps (Err unsent.OverRate) old new step is same found =
     ((step found.0).unit, (is found.0 found.1).1)
 
+reaction_keeps : (Tells : Outcome → Answer Transmission → Type 0) (said : Result Reaction Refused)
+    (old new : UnitState) (step : UnitModel → UnitStep)
+    → ((u : UnitModel) → RepresentsUnit old u → IsReactionOf Tells said new (step u))
+    → OnErr said (IsSameUnit old new) → ((u : UnitModel) × RepresentsUnit old u)
+    → (u : UnitModel) × RepresentsUnit new u
+reaction_keeps Tells (Ok r) old new step is same found =
+    ((step found.0).unit, (is found.0 found.1).3)
+reaction_keeps Tells (Err e) old new step is same found =
+    (found.0, same_rep old new found.0 same found.1)
+
+release_keeps : (said : Result (Option (Vec ℕ Global)) Refused) (old new : UnitState)
+    (release : UnitModel → UnitRelease)
+    → ((u : UnitModel) → RepresentsUnit old u → IsReleaseOf said new (release u))
+    → OnErr said (IsSameUnit old new) → ((u : UnitModel) × RepresentsUnit old u)
+    → (u : UnitModel) × RepresentsUnit new u
+release_keeps (Ok sent) old new release is same found =
+    ((release found.0).unit, (is found.0 found.1).2)
+release_keeps (Err e) old new release is same found =
+    (found.0, same_rep old new found.0 same found.1)
+
 -- what keeps a unit keeps its handle open
 kept_open : (old new : UnitState) (held after : Option UnitState)
     → (((u : UnitModel) × RepresentsUnit old u) → (u : UnitModel) × RepresentsUnit new u)
@@ -83,6 +107,22 @@ pub stays_open : {T : Type 0} (Tells : T → UnitAnswer → Type 0) (said : Resu
     → IsOpen after
 stays_open Tells said old new step held after is same =
     kept_open old new held after (step_keeps Tells said old new step is same)
+
+pub reacts_open : (Tells : Outcome → Answer Transmission → Type 0) (said : Result Reaction Refused)
+    (old new : UnitState) (step : UnitModel → UnitStep) (held after : Option UnitState)
+    → ((u : UnitModel) → RepresentsUnit old u → IsReactionOf Tells said new (step u))
+    → OnErr said (IsSameUnit old new) → held ≡ Some old → after ≡ Some new → IsOpen held
+    → IsOpen after
+reacts_open Tells said old new step held after is same =
+    kept_open old new held after (reaction_keeps Tells said old new step is same)
+
+pub releases_open : (said : Result (Option (Vec ℕ Global)) Refused) (old new : UnitState)
+    (release : UnitModel → UnitRelease) (held after : Option UnitState)
+    → ((u : UnitModel) → RepresentsUnit old u → IsReleaseOf said new (release u))
+    → OnErr said (IsSameUnit old new) → held ≡ Some old → after ≡ Some new → IsOpen held
+    → IsOpen after
+releases_open said old new release held after is same =
+    kept_open old new held after (release_keeps said old new release is same)
 
 pub sends_open : (said : Result (Vec ℕ Global) Unsent) (old new : UnitState)
     (step : UnitModel → UnitStep) (held after : Option UnitState)
@@ -104,35 +144,7 @@ pub still_open : (held after : Option UnitState) (st : UnitState)
 still_open held after st was now opened =
     subst (λ (h : Option UnitState). IsOpen h) (was ∙ sym now) opened
 
--- the unit after an answer, if one was given, represents one of the model
-answered : {T E : Type 0} (said : Result T E) (old new : UnitState)
-    (Tells : Counted → T → Counted → Type 0)
-    → ((s : Counted) → RepresentsCounted old.station old.counts s
-    → IfOk said (λ told. (next : Counted) × Tells s told next
-    × RepresentsCounted new.station new.counts next))
-    → OnErr said (new.station ≡ old.station) → new.governor ≡ old.governor
-    → ((u : UnitModel) × RepresentsUnit old u) → (u : UnitModel) × RepresentsUnit new u
-answered (Ok told) old new Tells tells same limits found =
-    let next = tells (record { station = found.0.station; counts = old.counts })
-    (found.1.station, refl) in (
-      record { station = next.0.station; governor = found.0.governor },
-      record { station = next.2.0; governor = found.1.governor ∙ sym limits },
-    )
-answered (Err e) old new Tells tells same limits found =
-    (found.0, same_rep old new found.0 (record { station = same; governor = limits }) found.1)
-
--- a unit that is asked so stays open
-pub stays_asked : {T E : Type 0} (said : Result T E) (old new : UnitState)
-    (Tells : Counted → T → Counted → Type 0) (held after : Option UnitState)
-    → ((s : Counted) → RepresentsCounted old.station old.counts s
-    → IfOk said (λ told. (next : Counted) × Tells s told next
-    × RepresentsCounted new.station new.counts next))
-    → OnErr said (new.station ≡ old.station) → new.governor ≡ old.governor
-    → held ≡ Some old → after ≡ Some new → IsOpen held → IsOpen after
-stays_asked said old new Tells held after tells same limits =
-    kept_open old new held after (answered said old new Tells tells same limits)
-
--- a unit that does what a line asks for within its limits stays open
+-- a unit that does what a line asks for stays open
 within_keeps : {T E : Type 0} (said : Result T E) (old new : UnitState)
     → ((u : UnitModel) → RepresentsUnit old u
     → IfOk said (λ told. (next : UnitModel) × RepresentsUnit new next))
@@ -167,5 +179,10 @@ counts_held count said held after old new was now is =
 pub new_open : (held : Option UnitState) (st : UnitState) (m : StationModel) → held ≡ Some st
     → RepresentsStation st.station m → IsOpen held
 new_open held st m is rep =
-    let u : UnitModel = record { station = m; governor = st.governor } in
-    is_open held u (unit_held held st u is (record { station = rep; governor = refl }))
+    let u : UnitModel = record {
+      station = m;
+      contention = st.contention;
+      governor = st.governor;
+    } in
+    is_open held u
+    (unit_held held st u is (record { station = rep; contention = refl; governor = refl }))

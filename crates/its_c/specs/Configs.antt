@@ -3,6 +3,7 @@ use Rattle.std.specs.Prelude.{◌≡◌, ◌≤◌, ℕ, pos, not, nat_eq, ◌||
 use Rattle.std.specs.Prelude.{Option, Some, None}
 use Rattle.its_gnvalue.specs.Values.{Position, IsIndividual, IsLatitude, IsLongitude}
 use Rattle.its_model.specs.Station.{StationModel, new_station}
+use Rattle.its_model.specs.Contention.{ContentionRule}
 use Rattle.its_governor.specs.declared.rate.Rate.{Rate}
 use Rattle.its_governor.specs.declared.rate.Limits.{Limits}
 use Rattle.its_governor.specs.Forwarding.{AreRemembered}
@@ -12,7 +13,7 @@ use Rattle.its_c.specs.declared.layout.Config.{Config}
 -- the struct is of the size that the library knows, and the table's sizes are in their ranges
 abbrev pub HasSizes : Config → Type 0
 HasSizes c =
-    (c.size ≡ 64) × (1 ≤ c.capacity) × (c.capacity ≤ 4096) × (1 ≤ c.remember) × (c.remember ≤ 64)
+    (c.size ≡ 88) × (1 ≤ c.capacity) × (c.capacity ≤ 4096) × (1 ≤ c.remember) × (c.remember ≤ 64)
 
 -- the limits are in their ranges
 abbrev pub HasLimits : Config → Type 0
@@ -20,6 +21,24 @@ HasLimits c =
     (c.forward_rate ≤ 1000000) × (c.forward_burst ≤ 1000000)
     × (c.source_rate ≤ 1000000) × (c.source_burst ≤ 1000000)
     × (c.own_rate ≤ 1000000) × (c.own_burst ≤ 1000000) × (c.hop_cap ≤ 255)
+
+-- the numbers for contention are in their ranges, which they are also without it
+abbrev pub HasContention : Config → Type 0
+HasContention c =
+    (c.area_forwarding ≤ 1) × (1 ≤ c.contention_max) × (c.contention_max ≤ 1000)
+    × (c.contention_min ≤ c.contention_max) × (1 ≤ c.contention_range)
+    × (c.contention_range ≤ 65535) × (1 ≤ c.contention_copies) × (c.contention_copies ≤ 3)
+
+-- the rule by which the station contends, or none
+abbrev pub rule_of : Config → Option ContentionRule
+rule_of c =
+    if nat_eq c.area_forwarding 0 then None
+    else Some (record {
+      min_wait = c.contention_min;
+      max_wait = c.contention_max;
+      range = c.contention_range;
+      copies = c.contention_copies;
+    })
 
 -- the new station of an address at a place, mobile or not, with a first number
 abbrev pub station_at : ℕ → Position → Config → StationModel
@@ -56,13 +75,13 @@ limits_of c =
 abbrev pub IsForNew : Config → Type 0
 IsForNew c =
     HasSizes c × IsIndividual c.address × IsLatitude c.latitude × IsLongitude c.longitude
-    × HasLimits c × AreRemembered (limits_of c).forward (limits_of c).source
+    × HasLimits c × AreRemembered (limits_of c).forward (limits_of c).source × HasContention c
 
 -- what is written for a caller to change
 abbrev pub usual_config : Config
 usual_config =
     record {
-      size = 64;
+      size = 88;
       address = 0;
       latitude = pos 0;
       longitude = pos 0;
@@ -78,4 +97,9 @@ usual_config =
       own_burst = 50;
       hop_cap = 10;
       deliver_once = 1;
+      area_forwarding = 0;
+      contention_max = 100;
+      contention_min = 1;
+      contention_range = 1000;
+      contention_copies = 2;
     }

@@ -1,7 +1,11 @@
 -- The counts that a handle has.
+use Rattle.std.specs.Prelude.{Option, Some, None}
 use Rattle.its_station.specs.declared.counts.Counts.{Counts}
 use Rattle.its_governor.specs.declared.governor.WithheldCounts.{WithheldCounts}
 use Rattle.its_c.specs.declared.layout.AllCounts.{AllCounts}
+use Rattle.its_contention.specs.Buffer.{no_counts}
+use Rattle.its_contention.specs.declared.counts.ContentionCounts.{ContentionCounts}
+use Rattle.its_c.specs.declared.layout.HeldCounts.{HeldCounts}
 use Rattle.its_c.specs.declared.layout.ToldCounts.{ToldCounts}
 
 -- the counts of C's struct, as the station's library has them
@@ -38,3 +42,19 @@ counts_of c =
 abbrev pub withheld_in : AllCounts → WithheldCounts
 withheld_in c =
     record { suppressed = c.suppressed; repeated = c.repeated; over_rate = c.over_rate }
+
+-- the counts of held frames in C's struct, as the library of contention has them
+abbrev pub held_counts_of : HeldCounts → ContentionCounts
+held_counts_of c =
+    record {
+      held = c.held;
+      released = c.released;
+      cancelled = c.cancelled;
+      dropped = c.dropped;
+      full = c.full;
+    }
+
+-- those of a unit: all are 0 if it doesn't contend
+abbrev pub or_none : Option ContentionCounts → ContentionCounts
+or_none None = no_counts
+or_none (Some c) = c

@@ -43,6 +43,8 @@ command_of (Some line_words.LookUp) = 12
 command_of (Some line_words.ReadFrame) = 13
 command_of (Some line_words.Counts) = 14
 command_of (Some line_words.Seal) = 15
+command_of (Some line_words.Release) = 16
+command_of (Some line_words.NextDue) = 17
 
 -- the number of what came of a call, a query, or a line that can't be read
 abbrev pub outcome_of_reply : StationAnswer → ℕ
@@ -64,7 +66,8 @@ outcome_of_fault fault = 5
 -- if it was refused, 4 if its command is missing or unknown, 5 if it can't be read otherwise
 abbrev pub outcome_of : Option Response → ℕ
 outcome_of None = 0
-outcome_of (Some (responses.Reply id at source reply)) = outcome_of_reply reply
+outcome_of (Some (responses.Reply id at source due cancelled reply)) = outcome_of_reply reply
+outcome_of (Some (responses.Released id at frame)) = 1
 outcome_of (Some (responses.Repeated id at)) = 1
 outcome_of (Some (responses.NotAllowed id at)) = 2
 outcome_of (Some (responses.OverRate id at)) = 3
@@ -84,7 +87,7 @@ status_of_known known = pos 0
 
 -- why a line was refused, as the status of the call of C that it asks for
 abbrev pub status_told : Option Response → ℤ
-status_told (Some (responses.Reply id at source reply)) = status_of_reply reply
+status_told (Some (responses.Reply id at source due cancelled reply)) = status_of_reply reply
 status_told (Some (responses.OverRate id at)) = pos 22
 status_told (Some (responses.Known id at known)) = status_of_known known
 status_told response = pos 0
@@ -97,7 +100,7 @@ is_to_area word = false
 
 -- whether a packet was sent
 abbrev pub is_sent : Option Response → Bool
-is_sent (Some (responses.Reply id at source (answers.Sent frame))) = true
+is_sent (Some (responses.Reply id at source due cancelled (answers.Sent frame))) = true
 is_sent response = false
 
 -- the sequence number of the packet that is sent, if it has one

@@ -2,11 +2,10 @@
 use Rattle.std.specs.Prelude.{◌≡◌, ◌≤◌, ◌<◌, ◌⊎◌, ℕ, List, length, Vec, Option, Some, None}
 use Rattle.std.specs.declared.alloc.Global.{Global}
 use Rattle.its_words.specs.JsonLines.{IsCompact}
-use Rattle.its_unit.specs.Unit.{UnitModel, UnitState, RepresentsUnit}
+use Rattle.its_unit.specs.Unit.{UnitModel, UnitState}
 use Rattle.its_station.specs.declared.answer.Answer.TheVariants as answers
-use Rattle.its_lines.specs.Knowing.{Counted}
 use Rattle.its_lines.specs.Lines.{whole_line}
-use Rattle.its_lines.specs.Serving.{TellsLine, told_in}
+use Rattle.its_lines.specs.Within.{TellsLine}
 use Rattle.its_lines.specs.declared.response.Known.TheVariants as knowns
 use Rattle.its_lines.specs.declared.response.Response.{Response}
 use Rattle.its_lines.specs.declared.response.Response.TheVariants as responses
@@ -16,8 +15,9 @@ use Rattle.its_c.specs.declared.handle.Geostation.{Geostation}
 -- the frame that is to be sent after what was answered, if one is
 abbrev pub frame_in : Option Response → Option (Vec ℕ Global)
 frame_in None = None
-frame_in (Some (responses.Reply id at source (answers.Sent frame))) = Some frame
-frame_in (Some (responses.Reply id at source (answers.Accepted handed sent))) = sent
+frame_in (Some (responses.Reply id at source due cancelled (answers.Sent frame))) = Some frame
+frame_in (Some (responses.Reply id at source due cancelled (answers.Accepted handed sent))) = sent
+frame_in (Some (responses.Released id at frame)) = Some frame
 frame_in (Some (responses.Known id at (knowns.Sealed frame))) = Some frame
 frame_in (Some response) = None
 
@@ -38,17 +38,12 @@ ShowsFitting n room (Some w) =
     (length w.items ≤ length room → Holds n room w.items)
     × (length room < length w.items → n ≡ 0)
 
--- The line of this number was served: what was answered to it is what the station of the unit
--- answers at this moment, and the handle holds that station afterwards, the counts after it, and the
--- limits as they were.
+-- The line of this number was served: what was answered to it is what the unit answers at this time past
+-- its limits, and the handle holds the unit after it.
 pub record IsServedLine (now number : ℕ) (line : List ℕ) (u : UnitModel) (old new : Geostation)
     (told : Option Response) : Type 0 where
   pub before : UnitState
   pub was : old.held.unit ≡ Some before
-  pub next : Counted
-  pub tells : TellsLine (Some now) (record { station = u.station; counts = before.counts }) number
-      (whole_line line) (told_in told) next
   pub after : UnitState
   pub held : new.held.unit ≡ Some after
-  pub represents : RepresentsUnit after (record { station = next.station; governor = u.governor })
-  pub counts : after.counts ≡ next.counts
+  pub tells : TellsLine (Some now) u number (whole_line line) before told after

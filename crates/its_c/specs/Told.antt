@@ -1,5 +1,6 @@
 -- What a call tells C.
-use Rattle.std.specs.Prelude.{◌≡◌, ◌+◌, ℕ, ℤ, List, length, take, drop, Vec, Option, Some, None}
+use Rattle.std.specs.Prelude.{◌≡◌, ◌+◌, ◌-◌, ◌^◌, ℕ, ℤ, Bool, true, false, List, length, take, drop}
+use Rattle.std.specs.Prelude.{Vec, Option, Some, None}
 use Rattle.std.specs.Prelude.{Result, Ok, Err}
 use Rattle.std.specs.Option.{option_map}
 use Rattle.std.specs.declared.alloc.Global.{Global}
@@ -18,6 +19,7 @@ use Rattle.its_linkframe.specs.Secured.{seen_on_air}
 use Rattle.its_headers.specs.declared.kind.Kind.{Kind}
 use Rattle.its_headers.specs.declared.kind.Kind.TheVariants as kinds_of
 use Rattle.its_unit.specs.Unit.{UnitState, UnitStep}
+use Rattle.its_unit.specs.declared.outcome.Reaction.{Reaction}
 use Rattle.its_unit.specs.declared.outcome.UnitOutcome.{UnitOutcome}
 use Rattle.its_unit.specs.declared.outcome.UnitOutcome.TheVariants as units
 use Rattle.its_unit.specs.declared.unsent.Unsent.{Unsent}
@@ -89,6 +91,9 @@ nothing_received =
       number = 0;
       traffic_class = 0;
       hops_left = 0;
+      due = 0;
+      held = 0;
+      cancelled = 0;
     }
 
 -- the number of a kind of packet
@@ -123,6 +128,30 @@ IsHeard r = r ≡ record nothing_received {
   number = r.number;
   traffic_class = r.traffic_class;
   hops_left = r.hops_left;
+  due = r.due;
+  held = r.held;
+  cancelled = r.cancelled;
+}
+
+-- when the frame to forward is due that is held, whether one is, and whether one is cancelled
+abbrev pub shown_due : Option ℕ → ℕ
+shown_due None = 0
+shown_due (Some due) = due
+
+abbrev pub shown_held : Option ℕ → ℕ
+shown_held None = 0
+shown_held (Some due) = 1
+
+abbrev pub shown_flag : Bool → ℕ
+shown_flag false = 0
+shown_flag true = 1
+
+-- what is told of a packet, with what came of the frames that are held
+abbrev pub with_reaction : Reception → Option ℕ → Bool → Reception
+with_reaction r due cancelled = record r {
+  due = shown_due due;
+  held = shown_held due;
+  cancelled = shown_flag cancelled;
 }
 
 -- what is told of octets that come to the model as this call, where they aren't refused
@@ -264,9 +293,19 @@ ShowsOutcome w frame r room (outcomes.Ignored reason) =
 ShowsOutcome w frame r room (outcomes.Accepted handed sent) =
     IsBesides frame r × ShowsHanded w r handed × ShowsSent r.relay_length room sent
 
--- what became of a frame; the reason 5 says that the packet was delivered before
-abbrev pub ShowsReceived : List ℕ → Reception → Reception → List ℕ → Result UnitOutcome Refused
+-- so, of a unit; the reason 5 says that the packet was delivered before
+abbrev pub ShowsUnit : List ℕ → Reception → Reception → List ℕ → UnitOutcome → Type 0
+ShowsUnit w frame r room (units.Passed outcome) = ShowsOutcome w frame r room outcome
+ShowsUnit w frame r room units.Repeated = r ≡ record frame { ignored = 5 }
+
+-- what became of a frame
+abbrev pub ShowsReceived : List ℕ → Reception → Reception → List ℕ → Result Reaction Refused
     → Type 0
-ShowsReceived w frame r room (Ok (units.Passed outcome)) = ShowsOutcome w frame r room outcome
-ShowsReceived w frame r room (Ok units.Repeated) = r ≡ record frame { ignored = 5 }
+ShowsReceived w frame r room (Ok reaction) =
+    ShowsUnit w (with_reaction frame reaction.due reaction.cancelled) r room reaction.outcome
 ShowsReceived w frame r room (Err e) = r ≡ refused_reception e
+
+-- the time at which the next held frame is due, or the greatest number if none is held
+abbrev pub shown_next_due : Option ℕ → ℕ
+shown_next_due None = 2 ^ 64 - 1
+shown_next_due (Some due) = due

@@ -2,10 +2,11 @@
 
 ghost use Rattle.std.specs.Prelude.{◌≡◌, ◌↔◌, ◌≤◌, IfSome, IsTrue};
 ghost use Rattle.its_station.specs.State.{RepresentsStation};
-ghost use Rattle.its_c.specs.Configs.{HasSizes, HasLimits, usual_config, station_at};
-ghost use Rattle.its_c.specs.Configs.{limits_of, rate_of, cap_of};
+ghost use Rattle.its_c.specs.Configs.{HasContention, HasSizes, HasLimits, usual_config, station_at};
+ghost use Rattle.its_c.specs.Configs.{limits_of, rate_of, cap_of, rule_of};
 
 use crate::layout::{CONFIG_SIZE, Config};
+use its_contention::ContentionRule;
 use its_gnvalue::{GnAddress, Place};
 use its_governor::{Limits, Rate};
 use its_loctable::SortedTable;
@@ -36,6 +37,36 @@ pub(crate) fn has_limits(config: &Config) -> bool
         && config.own_rate <= GREATEST
         && config.own_burst <= GREATEST
         && config.hop_cap <= 255
+}
+
+/// Whether the numbers for contention are in their ranges, which they are also without it.
+pub(crate) fn has_contention(config: &Config) -> bool
+    ensures { IsTrue result ↔ HasContention config.now }
+{
+    config.area_forwarding <= 1
+        && config.contention_max >= 1
+        && config.contention_max <= 1000
+        && config.contention_min <= config.contention_max
+        && config.contention_range >= 1
+        && config.contention_range <= 65535
+        && config.contention_copies >= 1
+        && config.contention_copies <= 3
+}
+
+/// The rule by which the station contends, or none.
+pub(crate) fn rule_of(config: &Config) -> Option<ContentionRule>
+    requires { HasContention config.now }
+    ensures { result ≡ rule_of config.now }
+{
+    if config.area_forwarding == 0 {
+        return None;
+    }
+    ContentionRule::new(
+        config.contention_min as u16,
+        config.contention_max as u16,
+        config.contention_range as u16,
+        config.contention_copies as u8,
+    )
 }
 
 /// The limits of a config.

@@ -38,6 +38,12 @@ pub struct Reception {
     pub traffic_class: u8,
     /// The hops that are left (RHL).
     pub hops_left: u8,
+    /// If the frame to forward is held, the time at which it is due, in milliseconds; otherwise 0.
+    pub due: u64,
+    /// 1 if the frame to forward is held, otherwise 0.
+    pub held: u32,
+    /// 1 if this frame cancelled a held one, otherwise 0.
+    pub cancelled: u32,
 }
 
 impl Reception {
@@ -58,6 +64,9 @@ impl Reception {
         number: 0,
         traffic_class: 0,
         hops_left: 0,
+        due: 0,
+        held: 0,
+        cancelled: 0,
     };
 }
 
@@ -138,7 +147,7 @@ impl Vector {
 #[repr(C)]
 #[derive(Clone, Copy)]
 pub struct LineResult {
-    /// The command, 1 to 15 in the order of `LineWord`'s list; 0 if the line has none.
+    /// The command, 1 to 17 in the order of `LineWord`'s list; 0 if the line has none.
     pub command: u32,
     /// 0 for a blank line, 1 if it was done, 2 if it lacks the right, 3 if it was refused, 4 if its
     /// command is missing or unknown, and 5 if it can't be read otherwise.
@@ -291,7 +300,8 @@ impl Packet {
     };
 }
 
-/// What a station is made of: `struct geostation_config` of C, 64 octets without gaps.
+/// What a station is made of: `struct geostation_config` of C, 84 octets without gaps, and four that
+/// aren't read.
 #[repr(C)]
 #[derive(Clone, Copy)]
 pub struct Config {
@@ -327,10 +337,22 @@ pub struct Config {
     pub hop_cap: u32,
     /// Whether a packet for an area that was delivered is not delivered again: 0 or not.
     pub deliver_once: u32,
+    /// How it forwards a GBC inside its area: 0 at once (simple forwarding), 1 after a wait, unless
+    /// enough others send the same frame meanwhile (contention-based forwarding).
+    pub area_forwarding: u32,
+    /// The greatest wait, 1 to 1000 ms.
+    pub contention_max: u32,
+    /// The least wait, 0 to the greatest, in ms.
+    pub contention_min: u32,
+    /// The distance of the sender from which on the wait is the least, 1 to 65535 m.
+    pub contention_range: u32,
+    /// How many other stations have to send a frame that is held to cancel it, 1 to 3.
+    pub contention_copies: u32,
 }
 
 impl Config {
-    /// What `geostation_config_init` writes. The limits are those of `Limits::CHANNEL`.
+    /// What `geostation_config_init` writes. The limits are those of `Limits::CHANNEL`. The numbers for
+    /// contention are those of `ContentionRule::DEFAULT`.
     pub(crate) const USUAL: Config = Config {
         size: CONFIG_SIZE,
         address: 0,
@@ -348,11 +370,16 @@ impl Config {
         own_burst: Rate::CHANNEL_OWN.burst,
         hop_cap: Limits::CHANNEL.hop_cap as u32,
         deliver_once: Limits::CHANNEL.delivers_once as u32,
+        area_forwarding: 0,
+        contention_max: 100,
+        contention_min: 1,
+        contention_range: 1000,
+        contention_copies: 2,
     };
 }
 
 /// The octets of a config.
-pub(crate) const CONFIG_SIZE: u64 = 64;
+pub(crate) const CONFIG_SIZE: u64 = 88;
 
 /// How often each thing happened, as C sees it: `struct geostation_counts` of C.
 #[repr(C)]
@@ -366,6 +393,24 @@ pub struct AllCounts {
     pub repeated: u64,
     /// Own packets that were refused for their rate.
     pub over_rate: u64,
+    /// Held frames; all 0 without contention.
+    pub contention: HeldCounts,
+}
+
+/// How often each thing happened to held frames: the last part of `struct geostation_counts` of C.
+#[repr(C)]
+#[derive(Clone, Copy)]
+pub struct HeldCounts {
+    /// Frames that were held.
+    pub held: u64,
+    /// Frames that were released.
+    pub released: u64,
+    /// Frames that were cancelled: others had sent them.
+    pub cancelled: u64,
+    /// Frames that were dropped: by a restart, since they were late, or for a limit.
+    pub dropped: u64,
+    /// Frames that were sent at once, since 64 were held.
+    pub full: u64,
 }
 
 /// How often each thing happened in calls of the station: the first part of `struct

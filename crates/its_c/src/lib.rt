@@ -45,14 +45,19 @@
 //!   pass. A call that sends an own packet, and did not fail with `NO_ROOM` or `BAD_ARGUMENT`, fails
 //!   with `OVER_RATE` if and only if its bucket has no room, at a time that the station accepts
 //!   (`over_rate`, `limit`).
+//! - **Contention.** A handle contends by the rule of its config, if that asks for it (`new`, `rule_of`).
+//!   `geostation_receive` writes when a held frame is due, and whether one is cancelled (`with_reaction`).
+//!   `geostation_release` is the release of the unit (`release_step`), and changes nothing of the station
+//!   (`station`). It fails with `NO_ROOM` if and only if the buffer has fewer than 1468 octets, or fewer
+//!   than the longest held frame (`room_for`). `geostation_next_due` returns the least due time (`due`).
 //! - **A handle's life** (`new`: `HoldsNew`). For every list of calls between `geostation_new` or
 //!   `geostation_new_from_config` and `geostation_free`, each status, struct and buffer is the one of a
 //!   run of the unit (`lives`, `IsRun`), and all laws of a unit hold of that run (`lawful`, `IsLawful` of
 //!   `its_unit`). The list says of each call what its export promises, by the same name (`CallStep`, in
-//!   `step`, or in `unchanged` if it only reads). The unit makes these calls, but those that are refused
-//!   for a buffer, an argument or want of memory. After each call the handle stands for the unit of the
+//!   `step`, or in `unchanged` if it only reads). The unit makes these calls and releases, but those that
+//!   are refused for a buffer, an argument or want of memory. After each call the handle stands for the unit of the
 //!   run, so what a call reads is read of that unit. A line of JSON is not among these calls.
-//! - **JSON.** `geostation_handle_json` answers as the model's station does to the request
+//! - **JSON.** `geostation_handle_json` answers as the model's unit does past its limits to the request
 //!   (`served`). It writes compact JSON, or nothing if none could be printed. Its memory is
 //!   allocated before the call is made. That its text says what was answered is tested.
 //!   `geostation_handle_line` is the step of the unit, within its limits, if the line has the right
@@ -73,7 +78,7 @@
 //!   is done (`room`, `no_room`).
 //! - **Creation and release.** A new handle represents a new station with the given address, position
 //!   and sizes, with new limits (`new`). If the status is not 0, there is no handle (`none`).
-//!   `geostation_release` is safe for such a handle. That it frees all memory is tested.
+//!   `geostation_dispose` is safe for such a handle. That it frees all memory is tested.
 //!
 //! # Only tested
 //!
@@ -104,6 +109,7 @@ mod queries;
 mod raw_box;
 mod reading;
 mod receiving;
+mod releasing;
 mod sealing;
 mod sending;
 mod serving;
@@ -115,6 +121,6 @@ mod unit_ptr;
 pub use handle::Geostation;
 pub use handle_out::HandleOut;
 pub use layout::{
-    AllCounts, AreaRequest, Config, LineResult, Packet, PacketArea, PacketMessage, Reception,
-    ShbRequest, ToldCounts, Vector,
+    AllCounts, AreaRequest, Config, HeldCounts, LineResult, Packet, PacketArea, PacketMessage,
+    Reception, ShbRequest, ToldCounts, Vector,
 };

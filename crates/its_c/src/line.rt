@@ -28,7 +28,7 @@ use std::alloc::Global;
 
 /// Does what a line of JSON asks for at the moment `now`, as `geostation_handle_json` does, but
 /// within the limits of the unit, and only if `rights` has the bit of the right that it needs. A line
-/// without that right changes nothing. Writes the answer, the frame that is to be sent, and a struct
+/// without that right changes nothing. `release` is an unknown command here. Writes the answer, the frame that is to be sent, and a struct
 /// with what was asked and the outcome.
 ///
 /// - `room`, `secured_room`: `NO_ROOM` for buffers that are too small, as there.
@@ -122,6 +122,8 @@ fn command_of(word: Option<LineWord>) -> u32
         Some(LineWord::ReadFrame) => 13,
         Some(LineWord::Counts) => 14,
         Some(LineWord::Seal) => 15,
+        Some(LineWord::Release) => 16,
+        Some(LineWord::NextDue) => 17,
     }
 }
 
@@ -132,7 +134,7 @@ fn outcome_of(response: &Option<Response>) -> u32
     match response {
         None => 0,
         Some(Response::Reply { reply, .. }) => outcome_of_reply(reply),
-        Some(Response::Repeated { .. }) => 1,
+        Some(Response::Repeated { .. } | Response::Released { .. }) => 1,
         Some(Response::NotAllowed { .. }) => 2,
         Some(Response::OverRate { .. }) => 3,
         Some(Response::Known { known, .. }) => outcome_of_known(known),

@@ -15,6 +15,8 @@ ghost use Rattle.its_unit.specs.Unit.{UnitModel};
 ghost use Rattle.its_c.specs.Life.{CallStep};
 ghost use Rattle.its_c.specs.Life.HandleCall.{Read};
 ghost use Rattle.its_c.specs.Open.{HoldsUnit};
+ghost use Rattle.its_c.specs.Told.{shown_next_due};
+ghost use Rattle.its_unit.specs.Releases.{due_in};
 
 use crate::handle::Geostation;
 use crate::layout::Vector;
@@ -45,6 +47,29 @@ pub extern "C" fn geostation_beacon_at(alloc: Global, s: &mut Geostation, jitter
     let due = unit.station().beacon_at(jitter);
     s.held.put(unit);
     due
+}
+
+/// The least moment at which a held frame is due, in milliseconds; the greatest number if none is held.
+#[unsafe(no_mangle)]
+pub extern "C" fn geostation_next_due(alloc: Global, s: &mut Geostation) -> u64
+    ensures due { (u : UnitModel) → HoldsUnit s.old.held.unit u →
+        result ≡ shown_next_due (due_in u.contention) }
+    ensures unchanged { CallStep Read s.old s.new }
+{
+    let unit = s.held.take(alloc);
+    let due = shown_next_due(unit.next_due());
+    s.held.put(unit);
+    due
+}
+
+/// The time, or the greatest number.
+fn shown_next_due(due: Option<u64>) -> u64
+    ensures { result ≡ shown_next_due due }
+{
+    match due {
+        Some(due) => due,
+        None => u64::MAX,
+    }
 }
 
 /// The sequence number of the station's next packet for an area.

@@ -68,7 +68,7 @@ pub extern "C" fn geostation_receive(
     match frame {
         Ok(view) => {
             let mut unit = s.held.take(alloc);
-            let said = unit.receive_frame(now, &view);
+            let said = unit.receive_frame(now, octets, &view);
             s.held.put(unit);
             let heard = reception_of(&view.packet);
             told_outcome(said, heard, octets, reception, relay)
@@ -115,7 +115,7 @@ pub extern "C" fn geostation_receive_verified(
     match VerifiedFrame::read(frame, plain) {
         Ok(verified) => {
             let mut unit = s.held.take(alloc);
-            let said = unit.receive_frame(now, &verified);
+            let said = unit.receive_frame(now, frame, &verified);
             s.held.put(unit);
             let heard = reception_of(verified.packet());
             told_outcome(said, heard, plain, reception, relay)

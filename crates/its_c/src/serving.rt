@@ -5,7 +5,7 @@ ghost use Rattle.its_lines.specs.declared.response.Response.{Response as ToldLin
 ghost use Rattle.its_lines.specs.Lines.{whole_line};
 ghost use Rattle.its_lines.specs.Requests.{AsksSecured};
 ghost use Rattle.its_unit.specs.Unit.{UnitModel};
-ghost use Rattle.its_c.specs.Held.{counts_in, limits_in, station_in};
+ghost use Rattle.its_c.specs.Held.{IsSame, counts_in, limits_in};
 ghost use Rattle.its_c.specs.Open.{HoldsUnit};
 ghost use Rattle.its_c.specs.Served.{IsServedLine, ShowsAnswer, ShowsFitting, ShowsLine, frame_in};
 ghost use Rattle.its_c.specs.Told.{Holds};
@@ -27,8 +27,9 @@ pub(crate) const LONGEST_ANSWER: usize = 16384;
 /// JSON object without a line feed, or nothing to a blank line, and the frame that is to be sent, if
 /// any. `number` is the line's among all, for the answer to one that can't be read. Refused by
 /// `NO_ROOM` for an `answer` under 16384 octets, a `frame` under 1468, or under 2310 of a line
-/// whose answer may have a secured frame (`seal`, and `receive` with a key `plain`), and for memory
-/// (S5); a refusal of the station's is in the answer. The limits don't apply to what a line asks for.
+/// whose answer may have a secured frame (`seal`, `release`, and `receive` with a key `plain`), and for
+/// memory (S5); a refusal of the station's is in the answer. The limits don't apply to what a line asks
+/// for.
 #[unsafe(no_mangle)]
 pub extern "C" fn geostation_handle_json(
     alloc: Global,
@@ -51,7 +52,7 @@ pub extern "C" fn geostation_handle_json(
         × ShowsAnswer answer_length.new answer.new told
         × ShowsFitting frame_length.new frame.new (frame_in told) }
     ensures limits { limits_in s.new ≡ limits_in s.old }
-    ensures unchanged { result ≢ pos 0 → station_in s.new ≡ station_in s.old }
+    ensures unchanged { result ≢ pos 0 → IsSame s.old s.new }
     ensures nothing { result ≢ pos 0 → (answer_length.new ≡ 0) × (frame_length.new ≡ 0) }
     ensures only { (result ≡ pos 0) ⊎ (result ≡ pos 5) ⊎ (result ≡ pos 21) }
 {
@@ -92,6 +93,7 @@ pub(crate) fn write_frame(told: &Option<Response>, room: &mut [u8]) -> usize
             } => write_fitting(frame.as_slice(), room),
             _ => 0,
         },
+        Some(Response::Released { frame, .. }) => write_fitting(frame.as_slice(), room),
         Some(
             Response::Known {
                 known: Known::Sealed(frame),

@@ -5,13 +5,14 @@ ghost use Rattle.its_station.specs.Receiving.{DeliversEndOf, HandsOutEndOf, Send
 ghost use Rattle.its_unit.specs.Steps.{WherePassed};
 ghost use Rattle.its_c.specs.Status.{status_in, status_sent};
 ghost use Rattle.its_c.specs.Told.{Holds, ShowsFrame, ShowsBeacon, ShowsHanded, ShowsReceived};
-ghost use Rattle.its_c.specs.Told.{IsHeard, IsBesides, number_of, refused_reception};
+ghost use Rattle.its_c.specs.Told.{IsHeard, IsBesides, ShowsUnit, number_of, refused_reception};
+ghost use Rattle.its_c.specs.Told.{with_reaction};
 
 use crate::fault::FaultNumbers;
 use crate::layout::Reception;
 use crate::status::{OK, status_of, status_of_unsent};
 use its_station::{Handed, Outcome, Refused, Why};
-use its_unit::{UnitOutcome, Unsent};
+use its_unit::{Reaction, UnitOutcome, Unsent};
 
 /// The status of a call that tells nothing else.
 pub(crate) fn told(said: Result<(), Refused>) -> i32
@@ -72,26 +73,54 @@ pub(crate) fn told_beacon(
     }
 }
 
+/// The status of a call that may release a frame; the frame is written.
+pub(crate) fn told_release(
+    said: Result<Option<Vec<u8>>, Refused>,
+    frame: &mut [u8],
+    written: &mut usize,
+) -> i32
+    requires nothing { written.old ≡ 0 }
+    requires short { IfOk said (λ sent. IfSome sent (λ w. length w.items ≤ length frame.old)) }
+    ensures status { result ≡ status_in said }
+    ensures shown { ShowsBeacon written.new frame.new said }
+    ensures memory { result ≡ pos 5 → said ≡ Err Refused.NoMemory }
+    ensures failed { result ≢ pos 0 → IsErr said }
+{
+    match said {
+        Ok(Some(octets)) => {
+            *written = hand_out(octets.as_slice(), frame);
+            OK
+        }
+        Ok(None) => OK,
+        Err(refused) => status_of(refused),
+    }
+}
+
 /// The status of a call that takes a frame. If the frame isn't refused, its outcome is written
 /// into `reception`.
 pub(crate) fn told_outcome(
-    said: Result<UnitOutcome<'_>, Refused>,
+    said: Result<Reaction<'_>, Refused>,
     heard: Reception,
     frame: &[u8],
     reception: &mut Reception,
     relay: &mut [u8],
 ) -> i32
     requires heard { IsHeard heard }
-    requires end { IfOk said (WherePassed (DeliversEndOf frame.now)) }
-    requires short { IfOk said (WherePassed (SendsAtMost (length relay.old))) }
+    requires end { IfOk said (λ r. WherePassed (DeliversEndOf frame.now) r.outcome) }
+    requires short { IfOk said (λ r. WherePassed (SendsAtMost (length relay.old)) r.outcome) }
     ensures status { result ≡ status_in said.entry }
     ensures shown { ShowsReceived frame.now heard reception.new relay.new said.entry }
     ensures memory { result ≡ pos 5 → said.entry ≡ Err Refused.NoMemory }
     ensures done { result ≡ pos 0 → IsOk said.entry }
 {
     match said {
-        Ok(outcome) => {
-            *reception = heard;
+        Ok(reaction) => {
+            let Reaction {
+                outcome,
+                due,
+                cancelled,
+            } = reaction;
+            *reception = with_reaction(heard, due, cancelled);
             tell_outcome(outcome, frame, reception, relay);
             OK
         }
@@ -102,13 +131,26 @@ pub(crate) fn told_outcome(
     }
 }
 
+/// The reception with the due time of a held frame, and whether one is cancelled.
+fn with_reaction(heard: Reception, due: Option<u64>, cancelled: bool) -> Reception
+    requires heard { IsHeard heard }
+    ensures value { result ≡ with_reaction heard due cancelled }
+    ensures heard { IsHeard result }
+{
+    Reception {
+        due: due.unwrap_or(0),
+        held: u32::from(due.is_some()),
+        cancelled: u32::from(cancelled),
+        ..heard
+    }
+}
+
 /// Writes the outcome of a frame that isn't refused.
 fn tell_outcome(outcome: UnitOutcome<'_>, frame: &[u8], reception: &mut Reception, relay: &mut [u8])
     requires heard { IsHeard reception.old }
     requires end { WherePassed (DeliversEndOf frame.now) outcome }
     requires short { WherePassed (SendsAtMost (length relay.old)) outcome }
-    ensures shown { ShowsReceived frame.now reception.old reception.new relay.new
-        (Ok outcome.entry) }
+    ensures shown { ShowsUnit frame.now reception.old reception.new relay.new outcome.entry }
 {
     match outcome {
         UnitOutcome::Passed(Outcome::Ignored(why)) => reception.ignored = number_of(why),

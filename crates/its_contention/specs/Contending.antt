@@ -1,5 +1,5 @@
 -- What a station that contends does with a frame that it would send, and with one that came.
-use Rattle.std.specs.Prelude.{ℕ, Bool, true, false, List, Some}
+use Rattle.std.specs.Prelude.{◌≡◌, ℕ, Bool, true, false, List, Some}
 use Rattle.its_model.specs.Packet.{Transmission}
 use Rattle.its_model.specs.Station.{StationModel}
 use Rattle.its_model.specs.Contention.{Fate, fate, contends_for}
@@ -27,6 +27,11 @@ abbrev pub told_fate : Waiting → Fate → RelayFate
 told_fate frame (Fate.Waits due) = RelayFate.Waits due
 told_fate frame Fate.Goes = RelayFate.Goes frame
 told_fate frame Fate.Stays = RelayFate.Goes frame
+
+-- a frame that goes at once is this one
+abbrev pub GoesAsItIs : Waiting → RelayFate → Type 0
+GoesAsItIs frame (RelayFate.Goes sent) = sent ≡ frame
+GoesAsItIs frame (RelayFate.Waits due) = Unit {0}
 
 -- after a frame with these octets from this sender, which is a duplicate
 abbrev pub after_duplicate : Buffer Waiting → ℕ → List ℕ → ℕ → Buffer Waiting

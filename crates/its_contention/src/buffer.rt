@@ -82,6 +82,13 @@ impl<F: Drop> HeldFrames<F> {
         self.held.len()
     }
 
+    /// The frames that wait, the one that was put first being first.
+    pub(crate) fn waiting(&self) -> &[Held<F>]
+        ensures { result.now ≡ self.now.held }
+    {
+        self.held.as_slice()
+    }
+
     /// Whether another frame may wait: fewer than 64 do.
     pub fn has_room(&self) -> bool
         ensures { result ≡ nat_lt (length self.now.held) 64 }

@@ -11,10 +11,13 @@ ghost use Rattle.its_station.specs.State.{RepresentsStation};
 ghost use Rattle.its_contention.specs.Buffer.{empty, after_late, after_release, after_drop};
 ghost use Rattle.its_contention.specs.Buffer.{cleared};
 ghost use Rattle.its_contention.specs.Contending.{after_acceptance, after_duplicate, told_fate};
+ghost use Rattle.its_contention.specs.Contending.{GoesAsItIs};
+ghost use Rattle.its_contention.specs.Waiting.{longest};
 
 use crate::buffer::HeldFrames;
 use crate::counts::ContentionCounts;
 use crate::fate::RelayFate;
+use crate::longest::longest;
 use crate::place::sender_place;
 use crate::rule::ContentionRule;
 use crate::waiting::WaitingFrame;
@@ -76,6 +79,13 @@ impl Contention {
         self.held.len()
     }
 
+    /// The length of the longest frame that waits, due and late ones too, in octets: 0 if none waits.
+    pub fn longest(&self) -> usize
+        ensures { result ≡ longest self.now.held }
+    {
+        longest(self.held.waiting())
+    }
+
     /// The least time at which a frame is due, in milliseconds.
     pub fn next_due(&self) -> Option<u64>
         ensures { result ≡ next_due self.now.held }
@@ -90,6 +100,7 @@ impl Contention {
     /// - `state`, `given`: a frame waits or goes by its fate, and one that finds no place is
     ///   counted.
     /// - `held`: the frames that wait are those of the model.
+    /// - `same`: a frame that goes at once is the one that was passed.
     pub fn contend<'a, S: LocationStore, F: ReceivedFrame<'a>>(
         &mut self,
         now: u64,
@@ -108,6 +119,7 @@ impl Contention {
             RepresentsStation station.now s → s.clock ≤ now → now ≤ 2 ^ 62 →
             self.new.held ≡ after_fate (λ sent. frame) self.old.held (Some relay)
             (fate self.old.rule s now self.old.held (F.frame packet.now) (Some relay)) }
+        ensures same { GoesAsItIs frame result }
     {
         if !contends_for(station, packet) {
             return RelayFate::Goes(frame);
@@ -172,8 +184,9 @@ impl Contention {
     }
 }
 
-/// Whether the frame in which a packet goes on contends: a GBC's whose area holds the station.
-fn contends_for<'a, S: LocationStore, F: ReceivedFrame<'a>>(
+/// Whether the frame in which a packet goes on contends that the station accepted: a GBC's whose area
+/// holds the station.
+pub fn contends_for<'a, S: LocationStore, F: ReceivedFrame<'a>>(
     station: &Station<S>,
     packet: &F,
 ) -> bool
@@ -186,8 +199,9 @@ fn contends_for<'a, S: LocationStore, F: ReceivedFrame<'a>>(
     }
 }
 
-/// When the frame of a packet is due that a station accepted at this time.
-fn due_of<'a, S: LocationStore, F: ReceivedFrame<'a>>(
+/// When the frame of a packet is due that a station accepted at this time, in milliseconds: once it
+/// has waited by the rule (`ContentionRule::wait`). The clause is of times up to 2^62 ms.
+pub fn due_of<'a, S: LocationStore, F: ReceivedFrame<'a>>(
     rule: ContentionRule,
     now: u64,
     station: &Station<S>,

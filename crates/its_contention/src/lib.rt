@@ -3,8 +3,8 @@
 //!
 //! A station that contends doesn't send the frame of a GBC inside its area at once. It holds it for
 //! `ContentionRule::wait`, and drops it if enough other stations send the same frame in that time.
-//! `Contention` does this for a `Station`. Nothing that ships contends so far. `HeldFrames` holds
-//! frames of any type, for other callers.
+//! `Contention` does this beside a `Station`; `its_unit` calls it. `HeldFrames` holds frames of any
+//! type, for other callers.
 //!
 //! ```
 //! let rule = ContentionRule::new(1, 100, 1000, 2).ok_or("not in range")?;
@@ -55,8 +55,8 @@
 //!
 //! # Only tested
 //!
-//! - `test_stations::contention`: a station with a `Contention`, row by row; that calls succeed if
-//!   memory is there.
+//! - `test_units::contention`: a station with a `Contention` beside it, and units that contend,
+//!   row by row; that calls succeed if memory is there.
 #![tactic(auto)]
 
 mod buffer;
@@ -66,13 +66,14 @@ mod due;
 mod fate;
 mod held;
 pub mod laws;
+mod longest;
 mod place;
 mod rule;
 mod senders;
 mod waiting;
 
 pub use buffer::HeldFrames;
-pub use contention::Contention;
+pub use contention::{Contention, contends_for, due_of};
 pub use counts::ContentionCounts;
 pub use fate::RelayFate;
 pub use place::sender_place;

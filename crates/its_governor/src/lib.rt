@@ -34,7 +34,7 @@
 //!
 //! # Only tested
 //!
-//! - `test_stations::governor`: that a storm among three stations ends within its bound and goes on
+//! - `test_units::governor`: that a storm among three stations ends within its bound and goes on
 //!   without limits; that a source has 0.8 of its share in a flood, and that units do not choose in
 //!   step; that calls succeed if memory is there.
 #![tactic(auto)]

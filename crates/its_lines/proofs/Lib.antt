@@ -1,8 +1,5 @@
-pub mod Calls
 pub mod Made
 pub mod Neighbours
 pub mod Read
 pub mod Own
 pub mod Secured
-pub mod Heard
-pub mod Verified

@@ -27,6 +27,7 @@ pub asks_of : (now : Option ℕ) (members : Data) (id : Option Id) (asked : Requ
 asks_of now members id asked_by.Nothing is asks = absurd asks
 asks_of now members id (asked_by.Call moment call) is asks = (is, asks)
 asks_of now members id (asked_by.Verified moment octets) is asks = (is, asks)
+asks_of now members id (asked_by.Release moment) is asks = (is, asks)
 asks_of now members id (asked_by.Query at query) is asks = (is, asks)
 asks_of now members id (asked_by.Bad faults.NotJson) is asks = absurd asks
 asks_of now members id (asked_by.Bad faults.Id) is asks = absurd asks
@@ -51,6 +52,8 @@ asks_whole now line members id asked_by.Nothing asks short some is = absurd asks
 asks_whole now line members id (asked_by.Call moment call) asks short some is =
     (short, some, members, is, asks)
 asks_whole now line members id (asked_by.Verified moment octets) asks short some is =
+    (short, some, members, is, asks)
+asks_whole now line members id (asked_by.Release moment) asks short some is =
     (short, some, members, is, asks)
 asks_whole now line members id (asked_by.Query at query) asks short some is =
     (short, some, members, is, asks)
@@ -85,18 +88,18 @@ bad_moment now members none =
 pub not_query : (members : Data) → (¬ IsWord members (codes "next_beacon"))
     → (¬ IsWord members (codes "neighbours")) → (¬ IsWord members (codes "look_up"))
     → (¬ IsWord members (codes "read_frame")) → (¬ IsWord members (codes "counts"))
-    → (¬ IsWord members (codes "seal")) → IsQueryWord members → ⊥
-not_query members next_beacon neighbours look_up read_frame counts seal (inl is) = next_beacon is
-not_query members next_beacon neighbours look_up read_frame counts seal (inr (inl is)) =
-    neighbours is
-not_query members next_beacon neighbours look_up read_frame counts seal (inr (inr (inl is))) =
-    look_up is
-not_query members next_beacon neighbours look_up read_frame counts seal
-    (inr (inr (inr (inl is)))) = read_frame is
-not_query members next_beacon neighbours look_up read_frame counts seal
+    → (¬ IsWord members (codes "seal")) → (¬ IsWord members (codes "next_due"))
+    → IsQueryWord members → ⊥
+not_query members beacon neighbours look_up read counts seal due (inl is) = beacon is
+not_query members beacon neighbours look_up read counts seal due (inr (inl is)) = neighbours is
+not_query members beacon neighbours look_up read counts seal due (inr (inr (inl is))) = look_up is
+not_query members beacon neighbours look_up read counts seal due (inr (inr (inr (inl is)))) = read is
+not_query members beacon neighbours look_up read counts seal due
     (inr (inr (inr (inr (inl is))))) = counts is
-not_query members next_beacon neighbours look_up read_frame counts seal
-    (inr (inr (inr (inr (inr is))))) = seal is
+not_query members beacon neighbours look_up read counts seal due
+    (inr (inr (inr (inr (inr (inl is)))))) = seal is
+not_query members beacon neighbours look_up read counts seal due
+    (inr (inr (inr (inr (inr (inr is)))))) = due is
 
 -- where there is one, it is that of the call
 pub bad_call : (now : Option ℕ) (members : Data) (moment : ℕ) (key : Key)

@@ -12,7 +12,7 @@ use Rattle.its_words.specs.declared.keys.key.Key.{Key}
 use Rattle.its_words.specs.declared.keys.wrong.Wrong.{Wrong}
 use Rattle.its_lines.specs.Lines.{IsBlank, LineText}
 use Rattle.its_lines.specs.Requests.{AsksSecured, AsksSecuredIn, ComesVerified, IsBadAsked, IsBadOf}
-use Rattle.its_lines.specs.Requests.{text_at}
+use Rattle.its_lines.specs.Requests.{IsFrameText, text_at}
 use Rattle.its_lines.specs.Requests.{IsMomentOf, IsNoOctets, IsObject, IsOctetsText, IsOfKey}
 use Rattle.its_lines.specs.Requests.{IsQueryWord, IsVerifiedBad, IsWord}
 use Rattle.its_lines.specs.Words.{query_key}
@@ -23,16 +23,19 @@ use Rattle.its_lines.specs.declared.reading.ReadFault.TheVariants as read_faults
 use Rattle.its_lines.specs.declared.request.LineFault.TheVariants as faults
 use Rattle.its_lines.specs.declared.request.LineRequest.{LineRequest}
 use Rattle.its_lines.specs.declared.request.QueryKey.{QueryKey}
+use Rattle.its_lines.specs.declared.request.QueryKey.TheVariants as query_keys
 use Rattle.its_lines.proofs.Read.{bad_call}
 
 -- a word that is neither of those
 pub not_secured : (members : Data) → (¬ IsWord members (codes "seal"))
-    → (¬ IsWord members (codes "receive")) → IsTrue false ↔ AsksSecuredIn members
-not_secured members seal receive = (λ is. absurd (cc is), λ asks. absurd (never asks))
+    → (¬ IsWord members (codes "release")) → (¬ IsWord members (codes "receive"))
+    → IsTrue false ↔ AsksSecuredIn members
+not_secured members seal release receive = (λ is. absurd (cc is), λ asks. absurd (never asks))
   where
     never : AsksSecuredIn members → ⊥
     never (inl is) = seal is
-    never (inr is) = receive is.0
+    never (inr (inl is)) = release is
+    never (inr (inr is)) = receive is.0
 
 pub not_verified : (members : Data) → (¬ IsWord members (codes "receive"))
     → IsTrue false ↔ ComesVerified members
@@ -94,3 +97,15 @@ bad_verified now members moment (read_faults.Bad faults.Id) calls is comes bad =
 bad_verified now members moment (read_faults.Bad (faults.Word meant)) calls is comes bad =
     absurd bad
 bad_verified now members moment read_faults.OutOfMemory calls is comes bad = tt
+
+-- the fault of a plain part whose frame is read
+pub plain_bad : (members : Data) (fault : ReadFault) (frame : List ℕ) → ComesVerified members
+    → IsFrameText members frame → IsOfKey query_keys.Plain members fault
+    → IsVerifiedBad members fault
+plain_bad members (read_faults.Bad (faults.Query other wrong)) frame comes is bad =
+    (bad.0, (comes, (frame, is), bad.1))
+plain_bad members (read_faults.Bad faults.NotJson) frame comes is bad = absurd bad
+plain_bad members (read_faults.Bad faults.Id) frame comes is bad = absurd bad
+plain_bad members (read_faults.Bad (faults.Key key wrong)) frame comes is bad = absurd bad
+plain_bad members (read_faults.Bad (faults.Word meant)) frame comes is bad = absurd bad
+plain_bad members read_faults.OutOfMemory frame comes is bad = tt

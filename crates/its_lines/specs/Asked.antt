@@ -42,6 +42,7 @@ right_of asks.Nothing = None
 right_of (asks.Call moment (calls.Own call)) = Some (own_right call)
 right_of (asks.Call moment (calls.Receive frame)) = Some rights.Receive
 right_of (asks.Verified moment octets) = Some rights.Receive
+right_of (asks.Release moment) = None
 right_of (asks.Query at query) = None
 right_of (asks.Bad fault) = None
 
@@ -90,6 +91,7 @@ query_word (queries.Neighbours after) = line_words.Neighbours
 query_word (queries.LookUp address) = line_words.LookUp
 query_word (queries.ReadFrame frame) = line_words.ReadFrame
 query_word queries.Counts = line_words.Counts
+query_word queries.NextDue = line_words.NextDue
 query_word (queries.Seal frame message) = line_words.Seal
 
 -- what a line asks for, in short
@@ -105,6 +107,8 @@ asked_of (asks.Call moment (calls.Receive frame)) =
     record { word = Some line_words.Receive; port = None; payload_length = 0 }
 asked_of (asks.Verified moment octets) =
     record { word = Some line_words.Receive; port = None; payload_length = 0 }
+asked_of (asks.Release moment) =
+    record { word = Some line_words.Release; port = None; payload_length = 0 }
 asked_of (asks.Query at query) =
     record { word = Some (query_word query); port = None; payload_length = 0 }
 asked_of (asks.Bad fault) = record { word = None; port = None; payload_length = 0 }

@@ -17,15 +17,19 @@ use Rattle.its_linkframe.specs.FrameFaults.{IsFrameFault}
 use Rattle.its_linkframe.specs.Frames.{EncodesFrame, IsFrame}
 use Rattle.its_linkframe.specs.Secured.{EncodesSecured, sealed}
 use Rattle.its_model.specs.Packet.{Transmission}
+use Rattle.its_contention.specs.Buffer.{Buffer}
+use Rattle.its_contention.specs.Waiting.{Waiting}
+use Rattle.its_unit.specs.Releases.{counts_in, due_in}
 use Rattle.its_lines.specs.declared.request.Query.{Query}
 use Rattle.its_lines.specs.declared.request.Query.TheVariants as queries
 use Rattle.its_lines.specs.declared.response.Known.{Known}
 use Rattle.its_lines.specs.declared.response.Known.TheVariants as knowns
 use Rattle.its_lines.specs.declared.response.SealFault.TheVariants as seal_faults
 
--- a station, and what is counted of it
+-- a station, the frames that wait if it contends, and what is counted of it
 pub record Counted : Type 0 where
   pub station : StationModel
+  pub contention : Option (Buffer Waiting)
   pub counts : Counts
 
 -- The moment is the least at which a tick of this jitter gives a beacon.
@@ -121,5 +125,6 @@ TellsQuery s at (queries.Neighbours after) answer =
 TellsQuery s at (queries.LookUp address) answer =
     TellsSource s.station (moment_of s.station at) address answer
 TellsQuery s at (queries.ReadFrame frame) answer = TellsFrame frame.items answer
-TellsQuery s at queries.Counts answer = answer ≡ knowns.Counts s.counts
+TellsQuery s at queries.Counts answer = answer ≡ knowns.Counts s.counts (counts_in s.contention)
+TellsQuery s at queries.NextDue answer = answer ≡ knowns.NextDue (due_in s.contention)
 TellsQuery s at (queries.Seal frame message) answer = TellsSealed frame.items message.items answer

@@ -110,7 +110,8 @@ AsksVerified members octets =
 
 -- the answer may have a secured frame: its room has to be that of the longest
 abbrev pub AsksSecuredIn : Data → Type 0
-AsksSecuredIn members = IsWord members (codes "seal") ⊎ ComesVerified members
+AsksSecuredIn members =
+    IsWord members (codes "seal") ⊎ IsWord members (codes "release") ⊎ ComesVerified members
 
 abbrev pub AsksSecured : LineText → Type 0
 AsksSecured line =
@@ -155,6 +156,7 @@ AsksQuery members (queries.LookUp address) = IsWord members (codes "look_up")
 AsksQuery members (queries.ReadFrame frame) =
     IsWord members (codes "read_frame") × IsFrameText members frame.items
 AsksQuery members queries.Counts = IsWord members (codes "counts")
+AsksQuery members queries.NextDue = IsWord members (codes "next_due")
 AsksQuery members (queries.Seal frame message) =
     IsWord members (codes "seal") × IsFrameText members frame.items
     × IsOctetsText (codes "message") members message.items
@@ -165,6 +167,7 @@ IsQueryWord members =
     IsWord members (codes "next_beacon") ⊎ IsWord members (codes "neighbours")
     ⊎ IsWord members (codes "look_up") ⊎ IsWord members (codes "read_frame")
     ⊎ IsWord members (codes "counts") ⊎ IsWord members (codes "seal")
+    ⊎ IsWord members (codes "next_due")
 
 -- the first bad key of a call is this one, where its moment is good: never that of the moment, and
 -- one under which nothing stands that it takes
@@ -196,6 +199,8 @@ AsksIn now members asks.Nothing = ⊥
 AsksIn now members (asks.Call moment call) = IsMomentOf now members moment × AsksCall members call
 AsksIn now members (asks.Verified moment octets) =
     IsMomentOf now members moment × AsksVerified members octets
+AsksIn now members (asks.Release moment) =
+    IsMomentOf now members moment × IsWord members (codes "release")
 AsksIn now members (asks.Query at query) = IsAskedAt now members at × AsksQuery members query
 AsksIn now members (asks.Bad (faults.Key key wrong)) = IsBadKey now members key
 AsksIn now members (asks.Bad (faults.Word meant)) = IsBadKey now members keys.Do

@@ -16,6 +16,8 @@ line_word line_words.LookUp = codes "look_up"
 line_word line_words.ReadFrame = codes "read_frame"
 line_word line_words.Counts = codes "counts"
 line_word line_words.Seal = codes "seal"
+line_word line_words.Release = codes "release"
+line_word line_words.NextDue = codes "next_due"
 
 -- the word of a key of what is asked
 abbrev pub query_key : QueryKey → List ℕ

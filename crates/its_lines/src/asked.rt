@@ -99,6 +99,11 @@ impl Asked {
                 port: None,
                 payload_length: 0,
             },
+            Request::Release(_) => Asked {
+                word: Some(LineWord::Release),
+                port: None,
+                payload_length: 0,
+            },
             Request::Query(_, query) => Asked {
                 word: Some(query_word(query)),
                 port: None,
@@ -115,7 +120,7 @@ fn right_of(request: &Request) -> Option<Right>
     match request {
         Request::Call(_, Call::Own(call)) => Some(own_right(call)),
         Request::Call(_, Call::Receive(_)) | Request::Verified(_, _) => Some(Right::Receive),
-        Request::Nothing | Request::Query(_, _) | Request::Bad(_) => None,
+        Request::Nothing | Request::Release(_) | Request::Query(_, _) | Request::Bad(_) => None,
     }
 }
 
@@ -182,6 +187,7 @@ fn query_word(query: &Query) -> LineWord
         Query::LookUp(_) => LineWord::LookUp,
         Query::ReadFrame(_) => LineWord::ReadFrame,
         Query::Counts => LineWord::Counts,
+        Query::NextDue => LineWord::NextDue,
         Query::Seal { .. } => LineWord::Seal,
     }
 }

@@ -29,7 +29,7 @@ pub(crate) fn answer_query(
     at: Option<u64>,
     query: Query,
 ) -> Result<Known, AllocError>
-    ensures { (s : Counted) → RepresentsCounted unit.now.station unit.now.counts s →
+    ensures { (s : Counted) → RepresentsCounted unit.now s →
         IfOk result (TellsQuery s at query) }
 {
     let station = unit.station();
@@ -39,7 +39,8 @@ pub(crate) fn answer_query(
         Query::Neighbours(after) => first_neighbours(alloc, station, now, after),
         Query::LookUp(address) => Ok(look_up(station, now, address)),
         Query::ReadFrame(frame) => Ok(known_frame(frame)),
-        Query::Counts => Ok(Known::Counts(unit.counts())),
+        Query::Counts => Ok(Known::Counts(unit.counts(), unit.contention_counts())),
+        Query::NextDue => Ok(Known::NextDue(unit.next_due())),
         Query::Seal { frame, message } => seal(alloc, frame.as_slice(), message.as_slice()),
     }
 }

@@ -5,11 +5,17 @@
 //!
 //! A call of the station's own is the one that the word and its keys say. A key that is refused has
 //! no value that it takes (`answer_line`, by `read_call` of `its_words`). `receive` with a plain
-//! part is the step of `receive_verified` (`TellsVerified`).
+//! part is the step of `receive_verified` (`Makes`).
+//!
+//! Within the limits of a unit a call is its step (`unit_step`), past them the step to which no limit
+//! applies (`unlimited_step`): frames wait and are cancelled in both. What is answered to a frame says
+//! when the frame is due in which its packet goes on, if it waits, and whether one is cancelled
+//! (`TellsReaction`). `release` is the release of the unit past the limits; within them it is no word.
 //!
 //! What a query is answered (`TellsQuery`): `next_beacon` is the least time at which a tick of that
 //! jitter is a beacon; `look_up` the newest vector of the live source, `neighbours` the first 32
 //! above an address, both at the given time or the clock's; `counts` those of the calls before;
+//! `next_due` the least time at which a frame that waits is due;
 //! `read_frame` whether the octets are a frame, or their first fault; `seal` the secured frame, or
 //! why it is not made (`TellsSealed`).
 //!
@@ -30,7 +36,6 @@ mod members;
 mod printing;
 mod reading;
 mod reason;
-mod receiving;
 mod request;
 mod response;
 mod serving;

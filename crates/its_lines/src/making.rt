@@ -1,6 +1,7 @@
-//! Calls of a unit, within its limits.
+//! Calls of a unit, within its limits or past them.
 
-ghost use Rattle.std.specs.Prelude.{◌≡◌, [], Some, None, Ok, Err, IfOk, OnErr, IsSome, MatchResult};
+ghost use Rattle.std.specs.Prelude.{◌≡◌, [], Some, None, Ok, Err, IfOk, OnErr, IsOk, IsSome, MatchResult};
+ghost use Rattle.std.specs.Prelude.{false};
 ghost use Rattle.std.specs.Prelude.{vec_len, vec_capacity};
 ghost use Rattle.its_headers.specs.declared.kind.Kind.{Kind};
 ghost use Rattle.its_headers.specs.declared.kind.Kind.TheVariants as kinds;
@@ -15,12 +16,15 @@ ghost use Rattle.its_station.specs.Requests.{TellsTick};
 ghost use Rattle.its_station.specs.Runs.{IsOwnInRange, own_of};
 ghost use Rattle.its_station.specs.Steps.{Says, refusal_of};
 ghost use Rattle.its_station.specs.declared.counts.Counts.{Counts};
-ghost use Rattle.its_unit.specs.Steps.{IsSameUnit, IsSendOf, IsStepOf, SaysPassed, TellsUnit};
-ghost use Rattle.its_unit.specs.Steps.{WherePassed, counted_received, counted_request};
-ghost use Rattle.its_unit.specs.Unit.{RepresentsUnit, UnitModel, UnitState, UnitStep, unit_step};
+ghost use Rattle.its_unit.specs.Steps.{AreKept, IsReactionOf, IsSameUnit, IsSendOf, IsStepOf};
+ghost use Rattle.its_unit.specs.Steps.{SaysPassed};
+ghost use Rattle.its_unit.specs.Steps.{WherePassed, counted_received, counted_request, counted_unit};
+ghost use Rattle.its_unit.specs.Unit.{RepresentsUnit, UnitModel, UnitState, UnitStep, step_by};
+ghost use Rattle.its_unit.specs.Unit.{unit_step};
 ghost use Rattle.its_unit.specs.Unit.UnitCall.{Own, Receive, ReceiveVerified};
-ghost use Rattle.its_lines.specs.Serving.{TellsHeard};
-ghost use Rattle.its_lines.specs.Within.{IsMadeBy, IsMadeOf, counted_frame, counted_made, response_of};
+ghost use Rattle.its_lines.specs.Within.{IsMadeBy, IsMadeOf, IsMadeOfFrame, IsMadeOfOutcome};
+ghost use Rattle.its_lines.specs.Within.{counted_frame, counted_made, response_of};
+ghost use Rattle.its_lines.specs.Within.{response_of_release};
 
 use crate::request::{Id, VerifiedOctets};
 use crate::response::Response;
@@ -28,7 +32,7 @@ use its_gnvalue::{GnAddress, NoMemory};
 use its_linkframe::{VerifiedFrame, read_frame};
 use its_loctable::SortedTable;
 use its_station::{Answer, AreaCast, OwnCall, Refused, StationAnswer};
-use its_unit::{Unit, UnitOutcome, Unsent};
+use its_unit::{Limiting, Reaction, Unit, UnitOutcome, Unsent};
 use std::alloc::Global;
 
 /// The answer of a unit to a call, with octets of its own.
@@ -42,36 +46,99 @@ pub(crate) enum Made {
     OverRate,
 }
 
+/// The answer to a frame that was received, and its reaction.
+#[derive(Debug, Drop)]
+pub(crate) struct MadeOfFrame {
+    /// The answer.
+    pub(crate) made: Made,
+    /// The source of the packet, if it was accepted.
+    pub(crate) source: Option<GnAddress>,
+    /// When the frame is due in which the packet goes on, if it waits.
+    pub(crate) due: Option<u64>,
+    /// Whether the frame cancelled one that waited.
+    pub(crate) cancelled: bool,
+}
+
 impl Response {
-    /// Returns the answer to a line that asked for a call. `source` is that of the packet of a frame.
-    pub(crate) fn of_made(
-        id: Option<Id>,
-        at: u64,
-        source: Option<GnAddress>,
-        made: Made,
-    ) -> Response
-        ensures { result ≡ response_of id at source made }
+    /// Returns the answer to a line that asked for a call of the applications.
+    pub(crate) fn of_made(id: Option<Id>, at: u64, made: Made) -> Response
+        ensures { result ≡ response_of id at None None false made }
     {
+        let frame = MadeOfFrame {
+            made,
+            source: None,
+            due: None,
+            cancelled: false,
+        };
+        Response::of_frame(id, at, frame)
+    }
+
+    /// Returns the answer to a line that asked for a frame to be received.
+    pub(crate) fn of_frame(id: Option<Id>, at: u64, frame: MadeOfFrame) -> Response
+        ensures { result
+            ≡ response_of id at frame.source frame.due frame.cancelled frame.made }
+    {
+        let MadeOfFrame {
+            made,
+            source,
+            due,
+            cancelled,
+        } = frame;
         match made {
             Made::Passed(reply) => Response::Reply {
                 id,
                 at,
                 source,
+                due,
+                cancelled,
                 reply,
             },
             Made::Repeated => Response::Repeated { id, at },
             Made::OverRate => Response::OverRate { id, at },
         }
     }
+
+    /// Returns the answer to a line that asked for a release.
+    pub(crate) fn of_release(
+        id: Option<Id>,
+        at: u64,
+        said: Result<Option<Vec<u8>>, Refused>,
+    ) -> Response
+        ensures { result ≡ response_of_release id at said }
+    {
+        let reply = match said {
+            Ok(Some(frame)) => return Response::Released { id, at, frame },
+            Ok(None) => Answer::Quiet,
+            Err(refused) => Answer::Refused(refused),
+        };
+        Response::of_made(id, at, Made::Passed(reply))
+    }
 }
 
-/// Makes a call of the applications at a time, and counts it. `NoMemory` if an allocation failed:
-/// nothing changed then but the counts.
+/// Makes a call of the applications at a time, within the limits or past them, and counts it.
+/// `NoMemory` if an allocation failed: nothing changed then but the counts.
 pub(crate) fn make_own(
     unit: &mut Unit<SortedTable>,
+    limiting: Limiting,
     at: u64,
     call: &OwnCall,
 ) -> Result<Made, NoMemory>
+    requires { IsOwnInRange call.now }
+    ensures step { (u : UnitModel) → RepresentsUnit unit.old u → IfOk result (λ made.
+        IsMadeBy TellsAnswer made unit.new (step_by limiting u at (Own (own_of call.now)))) }
+    ensures counts { IfOk result (λ made.
+        unit.new.counts ≡ counted_made (own_kind call.now) made unit.old.counts) }
+    ensures limits { AreKept limiting unit.old.governor unit.new.governor }
+    ensures unchanged { OnErr result (IsSameUnit unit.old unit.new) }
+{
+    match limiting {
+        Limiting::Within => make_limited(unit, at, call),
+        Limiting::Past => Ok(Made::Passed(unit.answer_unlimited(at, call)?)),
+    }
+}
+
+/// Makes a call of the applications at a time, within the limits.
+fn make_limited(unit: &mut Unit<SortedTable>, at: u64, call: &OwnCall) -> Result<Made, NoMemory>
     requires { IsOwnInRange call.now }
     ensures step { (u : UnitModel) → RepresentsUnit unit.old u → IfOk result (λ made.
         IsMadeBy TellsAnswer made unit.new (unit_step u at (Own (own_of call.now)))) }
@@ -158,19 +225,21 @@ fn refusal(refused: Refused) -> Result<Made, NoMemory>
     Ok(Made::Passed(Answer::Refused(refused.except_memory()?)))
 }
 
-/// Receives a frame at a time, and counts it. Also returns the source of a packet that is accepted.
-/// `NoMemory` if an allocation failed: nothing changed then but the counts.
+/// Receives a frame at a time, within the limits or past them, and counts it. `NoMemory` if an
+/// allocation failed: nothing changed then but the counts.
 pub(crate) fn make_receive(
     alloc: Global,
     unit: &mut Unit<SortedTable>,
+    limiting: Limiting,
     at: u64,
     frame: &[u8],
-) -> Result<(Made, Option<GnAddress>), NoMemory>
+) -> Result<MadeOfFrame, NoMemory>
     ensures step { IfOk result (λ made. (call : ModelCall) × IsFrameCall frame.now call
         × ((u : UnitModel) → RepresentsUnit unit.old u →
-        IsMadeBy (TellsHeard EncodesFrame) made.0 unit.new (unit_step u at (Receive call)))) }
+        IsMadeOfFrame EncodesFrame made unit.new (step_by limiting u at (Receive call)))) }
     ensures counts { IfOk result (λ made.
-        unit.new.counts ≡ counted_frame made.0 unit.old.counts) }
+        unit.new.counts ≡ counted_frame made.made unit.old.counts) }
+    ensures limits { AreKept limiting unit.old.governor unit.new.governor }
     ensures unchanged { OnErr result (IsSameUnit unit.old unit.new) }
 {
     // What is delivered is a part of the frame, so its room is there before the call.
@@ -179,26 +248,26 @@ pub(crate) fn make_receive(
         unit.note_no_memory();
         return Err(NoMemory);
     }
-    let (said, source) = receive_plain(unit, at, frame);
-    let made = made_of_received(alloc, said, &mut room)?;
-    let source = source.filter(|_| is_accepted(&made));
-    Ok((made, source))
+    let (said, source) = receive_plain(unit, limiting, at, frame);
+    made_of_received(alloc, said, source, &mut room)
 }
 
 /// Receives a secured frame with its plain part at a time, as `make_receive` does with a frame.
 pub(crate) fn make_receive_verified(
     alloc: Global,
     unit: &mut Unit<SortedTable>,
+    limiting: Limiting,
     at: u64,
     octets: &VerifiedOctets,
-) -> Result<(Made, Option<GnAddress>), NoMemory>
+) -> Result<MadeOfFrame, NoMemory>
     ensures step { IfOk result (λ made. (call : VerifiedCall)
         × IsVerifiedCall octets.now.frame.items octets.now.plain.items call
         × ((u : UnitModel) → RepresentsUnit unit.old u →
-        IsMadeBy (TellsHeard (sealed_by call)) made.0 unit.new
-        (unit_step u at (ReceiveVerified call)))) }
+        IsMadeOfFrame (sealed_by call) made unit.new
+        (step_by limiting u at (ReceiveVerified call)))) }
     ensures counts { IfOk result (λ made.
-        unit.new.counts ≡ counted_frame made.0 unit.old.counts) }
+        unit.new.counts ≡ counted_frame made.made unit.old.counts) }
+    ensures limits { AreKept limiting unit.old.governor unit.new.governor }
     ensures unchanged { OnErr result (IsSameUnit unit.old unit.new) }
 {
     let (frame, plain) = (octets.frame.as_slice(), octets.plain.as_slice());
@@ -208,87 +277,160 @@ pub(crate) fn make_receive_verified(
         unit.note_no_memory();
         return Err(NoMemory);
     }
-    let (said, source) = receive_verified(unit, at, frame, plain);
-    let made = made_of_received(alloc, said, &mut room)?;
-    let source = source.filter(|_| is_accepted(&made));
-    Ok((made, source))
+    let (said, source) = receive_verified(unit, limiting, at, frame, plain);
+    made_of_received(alloc, said, source, &mut room)
 }
 
-fn is_accepted(made: &Made) -> bool {
-    matches!(made, Made::Passed(Answer::Accepted { .. }))
-}
-
-/// Receives a frame as `Unit::receive` does. Also returns the source of the packet, if the octets
-/// are a frame.
+/// Receives a frame as `Unit::receive` does, within the limits or past them. Also returns the source
+/// of the packet, if the octets are a frame.
 fn receive_plain<'a>(
     unit: &mut Unit<SortedTable>,
+    limiting: Limiting,
     at: u64,
     frame: &'a [u8],
-) -> (Result<UnitOutcome<'a>, Refused>, Option<GnAddress>)
+) -> (Result<Reaction<'a>, Refused>, Option<GnAddress>)
     ensures step { (call : ModelCall) × IsFrameCall frame.now call
         × ((u : UnitModel) → RepresentsUnit unit.old u →
-        IsStepOf (TellsUnit (TellsBy EncodesFrame)) result.0 unit.new
-        (unit_step u at (Receive call))) }
+        IsReactionOf (TellsBy EncodesFrame) result.0 unit.new
+        (step_by limiting u at (Receive call))) }
     ensures counts { unit.new.counts ≡ counted_received result.0 unit.old.counts }
+    ensures limits { AreKept limiting unit.old.governor unit.new.governor }
     ensures unchanged { OnErr result.0 (IsSameUnit unit.old unit.new) }
-    ensures payload { IfOk result.0 (WherePassed (DeliversEndOf frame.now)) }
+    ensures payload { IfOk result.0 (λ r. WherePassed (DeliversEndOf frame.now) r.outcome) }
 {
     match read_frame(frame) {
         Ok(view) => {
             let source = view.packet.vector().address();
-            (unit.receive_frame(at, &view), Some(source))
+            let said = unit.receive_frame_by(limiting, at, frame, &view);
+            (said, Some(source))
         }
         Err(fault) => (Err(unit.refuse_frame(at, fault)), None),
     }
 }
 
-/// Receives a secured frame with its plain part as `Unit::receive_verified` does. Also returns the
-/// source of the packet, if the octets are one.
+/// Receives a secured frame with its plain part as `Unit::receive_verified` does, within the limits or
+/// past them. Also returns the source of the packet, if the octets are one.
 fn receive_verified<'a>(
     unit: &mut Unit<SortedTable>,
+    limiting: Limiting,
     at: u64,
     frame: &[u8],
     plain: &'a [u8],
-) -> (Result<UnitOutcome<'a>, Refused>, Option<GnAddress>)
+) -> (Result<Reaction<'a>, Refused>, Option<GnAddress>)
     ensures step { (call : VerifiedCall) × IsVerifiedCall frame.now plain.now call
         × ((u : UnitModel) → RepresentsUnit unit.old u →
-        IsStepOf (TellsUnit (TellsBy (sealed_by call))) result.0 unit.new
-        (unit_step u at (ReceiveVerified call))) }
+        IsReactionOf (TellsBy (sealed_by call)) result.0 unit.new
+        (step_by limiting u at (ReceiveVerified call))) }
     ensures counts { unit.new.counts ≡ counted_received result.0 unit.old.counts }
+    ensures limits { AreKept limiting unit.old.governor unit.new.governor }
     ensures unchanged { OnErr result.0 (IsSameUnit unit.old unit.new) }
-    ensures payload { IfOk result.0 (WherePassed (DeliversEndOf plain.now)) }
+    ensures payload { IfOk result.0 (λ r. WherePassed (DeliversEndOf plain.now) r.outcome) }
 {
     match VerifiedFrame::read(frame, plain) {
         Ok(verified) => {
             let source = verified.packet().vector().address();
-            (unit.receive_frame(at, &verified), Some(source))
+            let said = unit.receive_frame_by(limiting, at, frame, &verified);
+            (said, Some(source))
         }
         Err(fault) => (Err(unit.refuse_secured(at, fault)), None),
     }
 }
 
-/// Returns the answer to a frame that was received. A payload that is delivered takes `room`, an
-/// empty buffer in which it fits.
+/// Returns the answer to a frame that was received, whose packet has this source. A payload that is
+/// delivered takes `room`, an empty buffer in which it fits.
 fn made_of_received(
     alloc: Global,
-    said: Result<UnitOutcome<'_>, Refused>,
+    said: Result<Reaction<'_>, Refused>,
+    source: Option<GnAddress>,
+    room: &mut Vec<u8>,
+) -> Result<MadeOfFrame, NoMemory>
+    requires empty { room.old.items ≡ [] }
+    requires size { vec_len room.old ≡ 0 }
+    requires room { IfOk said (λ r. WherePassed (Fits (vec_capacity room.old)) r.outcome) }
+    ensures same { IfOk result (λ made. IsMadeOf made said.entry) }
+    ensures counts { (c : Counts) → IfOk result (λ made.
+        counted_received said.entry c ≡ counted_frame made.made c) }
+    ensures memory { OnErr result (said.entry ≡ Err Refused.NoMemory) }
+{
+    match said {
+        Ok(reaction) => made_of_reaction(alloc, reaction, source, room),
+        Err(refused) => refused_frame(refused),
+    }
+}
+
+/// Returns the answer to a frame that is not refused, and its reaction.
+fn made_of_reaction(
+    alloc: Global,
+    reaction: Reaction<'_>,
+    source: Option<GnAddress>,
+    room: &mut Vec<u8>,
+) -> Result<MadeOfFrame, NoMemory>
+    requires empty { room.old.items ≡ [] }
+    requires size { vec_len room.old ≡ 0 }
+    requires room { WherePassed (Fits (vec_capacity room.old)) reaction.outcome }
+    ensures same { IfOk result (λ made. IsMadeOf made (Ok reaction.entry)) }
+    ensures counts { (c : Counts) → IfOk result (λ made.
+        counted_unit reaction.entry.outcome c ≡ counted_made None made.made c) }
+    ensures memory { IsOk result }
+{
+    let Reaction {
+        outcome,
+        due,
+        cancelled,
+    } = reaction;
+    let made = made_of_outcome(alloc, outcome, room)?;
+    let source = source.filter(|_| is_accepted(&made));
+    Ok(MadeOfFrame {
+        made,
+        source,
+        due,
+        cancelled,
+    })
+}
+
+/// Returns the answer to a frame that is not refused.
+fn made_of_outcome(
+    alloc: Global,
+    outcome: UnitOutcome<'_>,
     room: &mut Vec<u8>,
 ) -> Result<Made, NoMemory>
     requires empty { room.old.items ≡ [] }
     requires size { vec_len room.old ≡ 0 }
-    requires room { IfOk said (WherePassed (Fits (vec_capacity room.old))) }
-    ensures same { IfOk result (λ made. IsMadeOf made said.entry) }
+    requires room { WherePassed (Fits (vec_capacity room.old)) outcome }
+    ensures same { IfOk result (λ made. IsMadeOfOutcome made outcome.entry) }
     ensures counts { (c : Counts) → IfOk result (λ made.
-        counted_received said.entry c ≡ counted_frame made c) }
-    ensures memory { OnErr result (said.entry ≡ Err Refused.NoMemory) }
+        counted_unit outcome.entry c ≡ counted_made None made c) }
+    ensures memory { IsOk result }
 {
-    match said {
-        Ok(UnitOutcome::Repeated) => Ok(Made::Repeated),
-        Ok(UnitOutcome::Passed(outcome)) => Ok(Made::Passed(StationAnswer::of_received(
+    match outcome {
+        UnitOutcome::Repeated => Ok(Made::Repeated),
+        UnitOutcome::Passed(outcome) => Ok(Made::Passed(StationAnswer::of_received(
             alloc,
             Ok(outcome),
             room,
         )?)),
-        Err(refused) => refusal(refused),
     }
+}
+
+/// Returns the answer to a frame that was refused.
+fn refused_frame(refused: Refused) -> Result<MadeOfFrame, NoMemory>
+    ensures { MatchResult result
+        (λ f. (f ≡ record {
+          made = Made.Passed (Answer.Refused refused);
+          source = None;
+          due = None;
+          cancelled = false;
+        }) × IsSome (refusal_of refused))
+        (λ _. refused ≡ Refused.NoMemory) }
+{
+    Ok(MadeOfFrame {
+        made: refusal(refused)?,
+        source: None,
+        due: None,
+        cancelled: false,
+    })
+}
+
+fn is_accepted(made: &Made) -> bool {
+    matches!(made, Made::Passed(Answer::Accepted { .. }))
 }

@@ -7,6 +7,7 @@ ghost use Rattle.its_words.specs.JsonLines.{IsLine};
 use crate::reason::{LineReason, SealReason};
 use crate::request::{Id, LineFault};
 use crate::response::{Known, Response, SealFault};
+use its_contention::ContentionCounts;
 use its_gnvalue::{GnAddress, LongPv};
 use its_linkframe::{FrameCode, FrameFault};
 use its_station::{Answer, Counts, Refused, RefusedCode, StationAnswer};
@@ -29,11 +30,18 @@ pub fn print_response<'l>(
             id,
             at,
             source,
+            due,
+            cancelled,
             reply,
         } => {
             let head = LineHead::new(id, Some(*at), answer_word(reply));
-            line.of(&ReplyLine::new(head, source, reply))
+            let keys = ReplyLine::new(head, source, reply);
+            line.of(&keys.with_reaction(*due, *cancelled))
         }
+        Response::Released { id, at, frame } => line.of(&FrameOctetsLine {
+            head: LineHead::new(id, Some(*at), "released"),
+            frame: octets_of(frame),
+        }),
         Response::Repeated { id, at } => line.of(&RepeatedLine {
             head: LineHead::new(id, Some(*at), words::IGNORED),
             why: "delivered before",
@@ -69,6 +77,7 @@ pub fn id_length(line: &mut JsonLine, response: &Response) -> usize
 {
     let id = match response {
         Response::Reply { id, .. }
+        | Response::Released { id, .. }
         | Response::Repeated { id, .. }
         | Response::OverRate { id, .. }
         | Response::NotAllowed { id, .. }
@@ -136,9 +145,22 @@ struct ReplyLine<'a> {
     frame: Option<Octets<'a>>,
     #[serde(skip_serializing_if = "Option::is_none")]
     reason: Option<Printed<RefusedReason>>,
+    #[serde(skip_serializing_if = "Option::is_none")]
+    due: Option<u64>,
+    #[serde(skip_serializing_if = "Option::is_none")]
+    cancelled: Option<bool>,
 }
 
 impl<'a> ReplyLine<'a> {
+    /// Returns the line with the due time of a frame that waits, and whether one is cancelled.
+    fn with_reaction(self, due: Option<u64>, cancelled: bool) -> ReplyLine<'a> {
+        ReplyLine {
+            due,
+            cancelled: if cancelled { Some(true) } else { None },
+            ..self
+        }
+    }
+
     fn new(
         head: LineHead<'a>,
         source: &Option<GnAddress>,
@@ -152,6 +174,8 @@ impl<'a> ReplyLine<'a> {
             delivered: None,
             frame: None,
             reason: None,
+            due: None,
+            cancelled: None,
         };
         match reply {
             Answer::Moved | Answer::Opened | Answer::Closed | Answer::Restarted | Answer::Quiet =>
@@ -218,18 +242,23 @@ fn print_known<'l>(
             LineHead::new(id, at, words::REFUSED),
             *fault,
         )),
-        Known::Sealed(frame) => line.of(&SealedLine {
+        Known::Sealed(frame) => line.of(&FrameOctetsLine {
             head: LineHead::new(id, at, "sealed"),
             frame: octets_of(frame),
         }),
-        Known::NotSealed(fault) => line.of(&NotSealedLine {
+        Known::NotSealed(fault) => line.of(&NotFrameOctetsLine {
             head: LineHead::new(id, at, words::REFUSED),
             code: Printed(*fault),
             reason: Printed(SealReason(*fault)),
         }),
-        Known::Counts(counts) => line.of(&CountsLine {
+        Known::Counts(counts, contention) => line.of(&CountsLine {
             head: LineHead::new(id, at, "counts"),
             counts: CountKeys::of(counts),
+            contention: contention.map(ContentionKeys::of),
+        }),
+        Known::NextDue(moment) => line.of(&DueLine {
+            head: LineHead::new(id, at, "next_due"),
+            moment: *moment,
         }),
         Known::Refused(refused) => line.of(&RefusedLine {
             head: LineHead::new(id, at, words::REFUSED),
@@ -305,15 +334,16 @@ impl<'a> NoFrameLine<'a> {
     }
 }
 
+/// The answer to `seal` and to `release`.
 #[derive(Clone, Copy, Serialize)]
-struct SealedLine<'a> {
+struct FrameOctetsLine<'a> {
     #[serde(flatten)]
     head: LineHead<'a>,
     frame: Octets<'a>,
 }
 
 #[derive(Clone, Copy, Serialize)]
-struct NotSealedLine<'a> {
+struct NotFrameOctetsLine<'a> {
     #[serde(flatten)]
     head: LineHead<'a>,
     code: Printed<SealFault>,
@@ -326,6 +356,16 @@ struct CountsLine<'a> {
     head: LineHead<'a>,
     #[serde(flatten)]
     counts: CountKeys,
+    #[serde(skip_serializing_if = "Option::is_none")]
+    contention: Option<ContentionKeys>,
+}
+
+#[derive(Clone, Copy, Serialize)]
+struct DueLine<'a> {
+    #[serde(flatten)]
+    head: LineHead<'a>,
+    #[serde(skip_serializing_if = "Option::is_none")]
+    moment: Option<u64>,
 }
 
 #[derive(Clone, Copy, Serialize)]
@@ -445,6 +485,28 @@ impl CountKeys {
                 geobroadcasts: sent.geobroadcasts,
                 geoanycasts: sent.geoanycasts,
             },
+        }
+    }
+}
+
+/// Counts of frames that wait, with their keys in this order.
+#[derive(Clone, Copy, Serialize)]
+struct ContentionKeys {
+    held: u64,
+    released: u64,
+    cancelled: u64,
+    dropped: u64,
+    full: u64,
+}
+
+impl ContentionKeys {
+    fn of(counts: ContentionCounts) -> ContentionKeys {
+        ContentionKeys {
+            held: counts.held,
+            released: counts.released,
+            cancelled: counts.cancelled,
+            dropped: counts.dropped,
+            full: counts.full,
         }
     }
 }

@@ -3,6 +3,7 @@
 ghost use Rattle.std.specs.Prelude.{◌≡◌, ◌≢◌, ◌↔◌, ◌⊎◌, ℕ, List, IfOk, IfErr, IfSome, IsSome};
 ghost use Rattle.std.specs.Prelude.{IfNone, OnErr, None, Some, IsTrue, IsFalse};
 ghost use Rattle.std.specs.Prelude.{codes};
+ghost use Rattle.std.specs.Bool.{OnTrue};
 ghost use Rattle.serde_json.specs.View.{view};
 ghost use Rattle.its_station.specs.Runs.{IsInRange};
 ghost use Rattle.its_lines.specs.Requests.{Asks, AsksCall, AsksIn, AsksOf, AsksQuery, IsAskedIn};
@@ -156,7 +157,7 @@ fn asks_secured(members: &Members<'_>, word: Option<LineWord>) -> bool
     ensures { IsTrue result ↔ AsksSecuredIn (view members.now.0.now) }
 {
     match word {
-        Some(LineWord::Seal) => true,
+        Some(LineWord::Seal | LineWord::Release) => true,
         Some(LineWord::Receive) => members.has("plain"),
         _ => false,
     }
@@ -216,11 +217,22 @@ fn read_call_or_query(
         Some(moment) if comes_verified(members, word) => {
             Ok(Request::Verified(moment, read_verified(alloc, members)?))
         }
+        Some(moment) if is_release(word) => Ok(Request::Release(moment)),
         Some(moment) => match read_call(alloc, members, word) {
             Ok(call) => Ok(Request::Call(moment, call)),
             Err(fault) => Err(with_word_meant(alloc, members, fault)),
         },
         None => Err(ReadFault::Bad(LineFault::Key(Key::At, Wrong::Missing))),
+    }
+}
+
+/// Returns whether a word is the one of a release.
+fn is_release(word: Option<LineWord>) -> bool
+    ensures { OnTrue result (word ≡ Some LineWord.Release) }
+{
+    match word {
+        Some(LineWord::Release) => true,
+        _ => false,
     }
 }
 
@@ -231,8 +243,10 @@ fn read_verified(alloc: Global, members: &Members<'_>) -> Result<VerifiedOctets,
     ensures fault { IfErr result (IsVerifiedBad (view members.now.0.now)) }
 {
     let frame = read_frame(alloc, members)?;
-    let plain = read_octets(alloc, members, QueryKey::Plain)?;
-    Ok(VerifiedOctets { frame, plain })
+    match read_octets(alloc, members, QueryKey::Plain) {
+        Ok(plain) => Ok(VerifiedOctets { frame, plain }),
+        Err(fault) => Err(fault),
+    }
 }
 
 /// Returns the fault of a call. If the word under `do` is unknown, the fault has the word that may
@@ -295,6 +309,7 @@ fn read_query(
             Ok(Some(Query::ReadFrame(frame)))
         }
         Some(LineWord::Counts) => Ok(Some(Query::Counts)),
+        Some(LineWord::NextDue) => Ok(Some(Query::NextDue)),
         Some(LineWord::Seal) => Ok(Some(read_seal(alloc, members)?)),
         _ => Ok(None),
     }

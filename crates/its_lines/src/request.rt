@@ -31,6 +31,8 @@ pub enum Query {
     ReadFrame(Vec<u8>),
     /// `counts`: what the station received, sent and refused so far.
     Counts,
+    /// `next_due`: when the first of the frames is due that wait to be forwarded.
+    NextDue,
     /// `seal`: the secured frame of a frame, with a message in place of its plain part.
     Seal {
         /// The octets of the frame.
@@ -115,6 +117,8 @@ pub(crate) enum Request {
     Call(u64, Call),
     /// Receiving this secured frame, at this time.
     Verified(u64, VerifiedOctets),
+    /// Releasing a frame that is due, at this time.
+    Release(u64),
     /// This query, for this time if one is given.
     Query(Option<u64>, Query),
     /// It can't be read.
@@ -134,7 +138,7 @@ pub(crate) struct VerifiedOctets {
 pub(crate) struct LineRequest {
     pub(crate) id: Option<Id>,
     pub(crate) request: Request,
-    /// Whether its answer may have a secured frame: its word is `seal`, or `receive` and it has a
-    /// key `plain`.
+    /// Whether its answer may have a secured frame: its word is `seal` or `release`, or `receive` and
+    /// it has a key `plain`.
     pub(crate) secured: bool,
 }

@@ -2,6 +2,7 @@
 
 use crate::frame_octets::FrameOctets;
 use crate::request::{Id, LineFault};
+use its_contention::ContentionCounts;
 use its_gnvalue::{GnAddress, LongPv};
 use its_linkframe::FrameFault;
 use its_station::{Counts, Refused, StationAnswer};
@@ -18,8 +19,21 @@ pub enum Response {
         at: u64,
         /// The source of a packet that was accepted.
         source: Option<GnAddress>,
+        /// The time in milliseconds at which the frame is due in which the packet goes on, if it waits.
+        due: Option<u64>,
+        /// Whether a duplicate cancelled a frame that waited.
+        cancelled: bool,
         /// The answer to the call.
         reply: StationAnswer,
+    },
+    /// The line asked for a frame that is due, and one was: it is to be sent.
+    Released {
+        /// The `id` of the line.
+        id: Option<Id>,
+        /// The time of the release, in milliseconds.
+        at: u64,
+        /// The octets of the frame.
+        frame: Vec<u8>,
     },
     /// The line asked for a frame to be received, whose packet was delivered before and is
     /// remembered. It is neither delivered nor forwarded.
@@ -88,8 +102,11 @@ pub enum Known {
     Sealed(Vec<u8>),
     /// No secured frame can have this message.
     NotSealed(SealFault),
-    /// What the station received, sent and refused so far.
-    Counts(Counts),
+    /// What the station received, sent and refused so far, and how often each thing happened to
+    /// frames that wait, if the station contends.
+    Counts(Counts, Option<ContentionCounts>),
+    /// The least time at which a frame that waits is due, in milliseconds. `None` if none waits.
+    NextDue(Option<u64>),
     /// The query is refused.
     Refused(Refused),
 }

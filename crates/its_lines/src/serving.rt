@@ -1,14 +1,11 @@
 //! One line, and its answer.
 
-ghost use Rattle.std.specs.Prelude.{◌≡◌, ◌<◌, ◌∷◌, [], None, Some, IfOk, OnErr, Err, IsErr};
+ghost use Rattle.std.specs.Prelude.{◌≡◌, ◌<◌, Some, None, IfOk, OnErr, Err, IsErr};
 ghost use Rattle.its_station.specs.Runs.{IsInRange};
-ghost use Rattle.its_lines.specs.Knowing.{Counted};
 ghost use Rattle.its_lines.specs.Lines.{whole_line};
 ghost use Rattle.its_lines.specs.Requests.{AsksSecured, IsAskedIn, line_of};
-ghost use Rattle.its_lines.specs.Serving.{RepresentsCounted, TellsAsked, TellsCall, TellsLine};
-ghost use Rattle.its_lines.specs.Serving.{told_in};
-ghost use Rattle.its_lines.specs.Within.{AnswersIn, AnswersLine};
-ghost use Rattle.its_unit.specs.Steps.{IsSameUnit};
+ghost use Rattle.its_lines.specs.Within.{AnswersIn, AnswersLine, TellsLine, barred};
+ghost use Rattle.its_unit.specs.Steps.{AreKept, IsSameUnit};
 ghost use Rattle.its_unit.specs.Unit.{RepresentsUnit, UnitModel};
 
 use crate::asked::{Asked, Rights};
@@ -16,61 +13,26 @@ use crate::knowing::answer_query;
 use crate::lines::LONGEST_LINE;
 use crate::making::{make_own, make_receive, make_receive_verified};
 use crate::reading::read_request;
-use crate::receiving::{receive, receive_verified};
-use crate::request::{Id, LineRequest, Request};
+use crate::request::{LineFault, LineRequest, Request};
 use crate::response::Response;
 use its_gnvalue::NoMemory;
 use its_linkframe::LONGEST_SECURED_FRAME;
 use its_loctable::SortedTable;
 use its_station::Call;
-use its_unit::Unit;
+use its_unit::{Limiting, Unit};
+use its_words::keys::{Key, Wrong};
 use std::alloc::{AllocError, Global};
-
-/// Does what the line of this number asks for, and returns the answer. A blank line has no answer.
-/// `NoMemory` if an allocation failed: the station is as before.
-fn respond(
-    alloc: Global,
-    unit: &mut Unit<SortedTable>,
-    number: u64,
-    line: LineRequest,
-) -> Result<Option<Response>, NoMemory>
-    requires { IsAskedIn IsInRange line.request }
-    ensures tells { (s : Counted) → RepresentsCounted unit.old.station unit.old.counts s →
-        IfOk result (λ told. (next : Counted)
-        × TellsAsked s number line.id line.request (told_in told) next
-        × RepresentsCounted unit.new.station unit.new.counts next) }
-    ensures unchanged { OnErr result (unit.new.station ≡ unit.old.station) }
-    ensures limits { unit.new.governor ≡ unit.old.governor }
-{
-    let id = line.id;
-    match line.request {
-        Request::Nothing => Ok(None),
-        Request::Call(at, call) => Ok(Some(make_call(alloc, unit, id, at, &call)?)),
-        Request::Verified(at, octets) => {
-            let response = receive_verified(alloc, unit, id, at, &octets)?;
-            Ok(Some(response))
-        }
-        Request::Query(at, query) => {
-            let known = answer_query(alloc, unit, at, query)?;
-            Ok(Some(Response::Known { id, at, known }))
-        }
-        Request::Bad(fault) => Ok(Some(Response::Fault {
-            id,
-            line: number,
-            fault,
-        })),
-    }
-}
 
 /// Does what one line of an input asks for, at the time under its key `at`, and returns the answer.
 ///
 /// The line has no line feed. `octets` are its first octets, and `longer` says whether it has more:
 /// such a line can't be read. `number` is its number among the lines, from 1. A blank line has no
-/// answer. `NoMemory` if an allocation failed: the station is as before. The limits don't apply to
-/// what a line asks for.
+/// answer. `NoMemory` if an allocation failed: nothing changed then but the counts. The limits don't
+/// apply to what a line asks for.
 ///
-/// - `tells` (`TellsLine`): a call is the step of the model, whose answer is returned and counted.
-///   A query is answered as the station knows it. A query and any other line change nothing.
+/// - `tells` (`TellsLine`): a call is the step of the unit of the model past its limits, whose answer is
+///   returned and counted; and so is a release. A query is answered as the station knows it. A query and
+///   any other line change nothing.
 pub fn answer_input_line(
     alloc: Global,
     unit: &mut Unit<SortedTable>,
@@ -78,15 +40,15 @@ pub fn answer_input_line(
     octets: &[u8],
     longer: bool,
 ) -> Result<Option<Response>, NoMemory>
-    ensures tells { (s : Counted) → RepresentsCounted unit.old.station unit.old.counts s →
-        IfOk result (λ told. (next : Counted)
-        × TellsLine None s number (line_of octets.now longer) (told_in told) next
-        × RepresentsCounted unit.new.station unit.new.counts next) }
-    ensures unchanged { OnErr result (unit.new.station ≡ unit.old.station) }
+    ensures tells { (u : UnitModel) → RepresentsUnit unit.old u → IfOk result (λ told.
+        TellsLine None u number (line_of octets.now longer) unit.old told unit.new) }
+    ensures represents { (u : UnitModel) → RepresentsUnit unit.old u → IfOk result (λ told.
+        (next : UnitModel) × RepresentsUnit unit.new next) }
     ensures limits { unit.new.governor ≡ unit.old.governor }
+    ensures unchanged { OnErr result (IsSameUnit unit.old unit.new) }
 {
     let asked = read_request(alloc, octets, longer, None)?;
-    Ok(respond(alloc, unit, number, asked)?)
+    Ok(respond(alloc, unit, Limiting::Past, number, asked)?)
 }
 
 /// Does what one line asks for, at the time `now`, and returns the answer. What is under `at` is
@@ -95,8 +57,8 @@ pub fn answer_input_line(
 /// The line has no line feed. A line of more than 65536 octets can't be read. `number` is its
 /// number among the lines, from 1. A blank line has no answer. `room` is the buffer size for a
 /// frame. If it is under 2310, `NoRoom` is returned for a line whose answer may have a secured
-/// frame (`seal`, and `receive` with a key `plain`): nothing is done. `NoMemory` if an allocation
-/// failed: the station is as before.
+/// frame (`seal`, `release`, and `receive` with a key `plain`): nothing is done. `NoMemory` if an
+/// allocation failed: nothing changed then but the counts.
 pub fn answer_line(
     alloc: Global,
     unit: &mut Unit<SortedTable>,
@@ -105,22 +67,22 @@ pub fn answer_line(
     line: &[u8],
     room: usize,
 ) -> Result<Option<Response>, Unanswered>
-    ensures tells { (s : Counted) → RepresentsCounted unit.old.station unit.old.counts s →
-        IfOk result (λ told. (next : Counted)
-        × TellsLine (Some now) s number (whole_line line.now) (told_in told) next
-        × RepresentsCounted unit.new.station unit.new.counts next) }
+    ensures tells { (u : UnitModel) → RepresentsUnit unit.old u → IfOk result (λ told.
+        TellsLine (Some now) u number (whole_line line.now) unit.old told unit.new) }
+    ensures represents { (u : UnitModel) → RepresentsUnit unit.old u → IfOk result (λ told.
+        (next : UnitModel) × RepresentsUnit unit.new next) }
     ensures room { room < 2310 → AsksSecured (whole_line line.now) → IsErr result }
     ensures no_room { result ≡ Err Unanswered.NoRoom → (room < 2310)
         × AsksSecured (whole_line line.now) × (unit.new.counts ≡ unit.old.counts) }
-    ensures unchanged { OnErr result (unit.new.station ≡ unit.old.station) }
     ensures limits { unit.new.governor ≡ unit.old.governor }
+    ensures unchanged { OnErr result (IsSameUnit unit.old unit.new) }
 {
     let longer = line.len() > LONGEST_LINE;
     let asked = read_request(alloc, line, longer, Some(now))?;
     if asked.secured && room < LONGEST_SECURED_FRAME {
         return Err(Unanswered::NoRoom);
     }
-    Ok(respond(alloc, unit, number, asked)?)
+    Ok(respond(alloc, unit, Limiting::Past, number, asked)?)
 }
 
 /// What a line asked for, and the answer to it.
@@ -133,7 +95,8 @@ pub struct LineAnswer {
 }
 
 /// Does what one line asks for, as `answer_line` does, within the limits of the unit, and if these
-/// rights allow it. If they don't, the answer is `NotAllowed`, and nothing changes.
+/// rights allow it. If they don't, the answer is `NotAllowed`, and nothing changes. `release` is an
+/// unknown word here: the caller releases frames itself.
 ///
 /// - `tells` (`AnswersLine`): a call that is allowed is the step of the unit of the model. Its answer
 ///   is returned, and it is counted. A query is answered as the station knows it, and changes
@@ -162,6 +125,11 @@ pub fn answer_line_within(
     if line.secured && room < LONGEST_SECURED_FRAME {
         return Err(Unanswered::NoRoom);
     }
+    let line = LineRequest {
+        id: line.id,
+        request: barred(line.request),
+        secured: line.secured,
+    };
     let asked = Asked::of(&line.request);
     if !rights.allow(&line.request) {
         let response = Some(Response::NotAllowed {
@@ -170,39 +138,57 @@ pub fn answer_line_within(
         });
         return Ok(LineAnswer { asked, response });
     }
-    let response = respond_within(alloc, unit, number, line)?;
+    let response = respond(alloc, unit, Limiting::Within, number, line)?;
     Ok(LineAnswer { asked, response })
 }
 
-/// Does what the line of this number asks for within the limits, and returns the answer. `NoMemory`
-/// if an allocation failed: nothing changed then but the counts.
-fn respond_within(
+/// Returns what a line within the limits asks for: its caller sends the frames that are released, so
+/// `release` is an unknown word there.
+fn barred(request: Request) -> Request
+    ensures request { result ≡ barred request }
+    ensures range { IsAskedIn IsInRange request → IsAskedIn IsInRange result }
+{
+    match request {
+        Request::Release(_) => Request::Bad(LineFault::Key(Key::Do, Wrong::Value)),
+        request => request,
+    }
+}
+
+/// Does what the line of this number asks for, within the limits or past them, and returns the answer.
+/// A blank line has none. `NoMemory` if an allocation failed: nothing changed then but the counts.
+fn respond(
     alloc: Global,
     unit: &mut Unit<SortedTable>,
+    limiting: Limiting,
     number: u64,
     line: LineRequest,
 ) -> Result<Option<Response>, NoMemory>
     requires { IsAskedIn IsInRange line.request }
     ensures tells { (u : UnitModel) → RepresentsUnit unit.old u → IfOk result (λ told.
-        AnswersIn u number line.id line.request unit.old told unit.new) }
+        AnswersIn limiting u number line.id line.request unit.old told unit.new) }
     ensures represents { (u : UnitModel) → RepresentsUnit unit.old u → IfOk result (λ told.
         (next : UnitModel) × RepresentsUnit unit.new next) }
+    ensures limits { AreKept limiting unit.old.governor unit.new.governor }
     ensures unchanged { OnErr result (IsSameUnit unit.old unit.new) }
 {
     let id = line.id;
     match line.request {
         Request::Nothing => Ok(None),
         Request::Call(at, Call::Own(call)) => {
-            let made = make_own(unit, at, &call)?;
-            Ok(Some(Response::of_made(id, at, None, made)))
+            let made = make_own(unit, limiting, at, &call)?;
+            Ok(Some(Response::of_made(id, at, made)))
         }
         Request::Call(at, Call::Receive(frame)) => {
-            let (made, source) = make_receive(alloc, unit, at, frame.as_slice())?;
-            Ok(Some(Response::of_made(id, at, source, made)))
+            let made = make_receive(alloc, unit, limiting, at, frame.as_slice())?;
+            Ok(Some(Response::of_frame(id, at, made)))
         }
         Request::Verified(at, octets) => {
-            let (made, source) = make_receive_verified(alloc, unit, at, &octets)?;
-            Ok(Some(Response::of_made(id, at, source, made)))
+            let made = make_receive_verified(alloc, unit, limiting, at, &octets)?;
+            Ok(Some(Response::of_frame(id, at, made)))
+        }
+        Request::Release(at) => {
+            let said = unit.release_by(limiting, at);
+            Ok(Some(Response::of_release(id, at, said)))
         }
         Request::Query(at, query) => {
             let known = answer_query(alloc, unit, at, query)?;
@@ -243,32 +229,4 @@ impl From<NoMemory> for Unanswered {
     fn from(_: NoMemory) -> Unanswered {
         Unanswered::NoMemory
     }
-}
-
-/// Makes a call of the station at a time, counts it, and returns the answer. `NoMemory` if an
-/// allocation failed: the station is as before.
-fn make_call(
-    alloc: Global,
-    unit: &mut Unit<SortedTable>,
-    id: Option<Id>,
-    at: u64,
-    call: &Call,
-) -> Result<Response, NoMemory>
-    requires { IsInRange call.now }
-    ensures tells { (s : Counted) → RepresentsCounted unit.old.station unit.old.counts s →
-        IfOk result (λ told. (next : Counted)
-        × TellsCall s id at call.now (told ∷ []) next
-        × RepresentsCounted unit.new.station unit.new.counts next) }
-    ensures unchanged { OnErr result (unit.new.station ≡ unit.old.station) }
-    ensures limits { unit.new.governor ≡ unit.old.governor }
-{
-    if let Call::Receive(frame) = call {
-        return receive(alloc, unit, id, at, frame);
-    }
-    Ok(Response::Reply {
-        id,
-        at,
-        source: None,
-        reply: unit.answer_unlimited(at, call)?,
-    })
 }

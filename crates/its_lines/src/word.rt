@@ -26,10 +26,14 @@ pub enum LineWord {
     Counts,
     /// The secured frame of a frame, with a message of a security entity.
     Seal,
+    /// A frame that is due is released.
+    Release,
+    /// When the first frame that waits is due.
+    NextDue,
 }
 
 /// All words that a line takes. Those of a scenario for a delivery and for a leave are missing.
-const WORDS: [LineWord; 15] = [
+const WORDS: [LineWord; 17] = [
     LineWord::Own(Verb::Move),
     LineWord::Own(Verb::Open),
     LineWord::Own(Verb::Close),
@@ -45,6 +49,8 @@ const WORDS: [LineWord; 15] = [
     LineWord::ReadFrame,
     LineWord::Counts,
     LineWord::Seal,
+    LineWord::Release,
+    LineWord::NextDue,
 ];
 
 impl LineWord {
@@ -61,6 +67,8 @@ impl LineWord {
             "read_frame" => Some(LineWord::ReadFrame),
             "counts" => Some(LineWord::Counts),
             "seal" => Some(LineWord::Seal),
+            "release" => Some(LineWord::Release),
+            "next_due" => Some(LineWord::NextDue),
             _ => Verb::named(word).map(LineWord::Own),
         }
     }
@@ -78,6 +86,8 @@ impl LineWord {
             LineWord::ReadFrame => "read_frame",
             LineWord::Counts => "counts",
             LineWord::Seal => "seal",
+            LineWord::Release => "release",
+            LineWord::NextDue => "next_due",
         }
     }
 

@@ -1,6 +1,11 @@
 pub mod Steps
+pub mod Puts
+pub mod Lengths
+pub mod Cancels
+pub mod Acts
 pub mod Runs
 pub mod Passing
+pub mod Contended
 pub mod FleetFrames
 pub mod Fleets
 pub mod FleetUnits

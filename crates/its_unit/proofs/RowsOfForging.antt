@@ -70,6 +70,7 @@ no_limits = record {
 abbrev unit_of : ℕ → Position → UnitModel
 unit_of n where_it_is = record {
   station = new_station (address n) where_it_is 64 8;
+  contention = None;
   governor = no_limits;
 }
 

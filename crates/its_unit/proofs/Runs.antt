@@ -1,7 +1,7 @@
 -- Many calls of a unit.
-use Rattle.std.proofs.Common.{◌≡◌, ℕ, ◌^◌, ◌&&◌, leb, ltb, not, Bool, true, false, cond}
+use Rattle.std.proofs.Common.{◌≡◌, ℕ, zero, suc, ◌^◌, ◌&&◌, leb, ltb, not, Bool, true, false, cond}
 use Rattle.std.proofs.Common.{List, [], ◌∷◌, ◌++◌, Option, Some, None, refl, sym, ap, ◌∙◌, subst}
-use Rattle.std.proofs.Common.{is_some, inl, inr}
+use Rattle.std.proofs.Common.{is_some, inl, inr, length}
 use Rattle.std.proofs.lemmas.Bool.{ltb-false, le-leb, false≢true}
 use Rattle.std.proofs.lemmas.Option.{none-some, same_Some}
 use Rattle.std.specs.Option.{option_map}
@@ -10,6 +10,7 @@ use Rattle.its_model.specs.Calls as model
 use Rattle.its_model.specs.Calls.{Answer, Call, OwnCall, Refusal, ShbRequest}
 use Rattle.its_model.specs.Station.{StationModel, Step, station_step, own_step, own_step_by}
 use Rattle.its_model.specs.Station.{own_refusal, first, payload_refusal, after_sending}
+use Rattle.its_model.specs.Station.{moment_refusal}
 use Rattle.its_model.specs.Isolation.{TimedCall, station_run}
 use Rattle.its_station.specs.Beside.{send_shb_for_step, shb_for, step_by}
 use Rattle.its_station.specs.Receiving.{VerifiedCall}
@@ -18,25 +19,36 @@ use Rattle.its_governor.specs.declared.governor.Governor.{Governor}
 use Rattle.its_governor.specs.declared.receiver.Receiver.{Receiver}
 use Rattle.its_governor.specs.declared.rate.Limits.{Limits}
 use Rattle.its_governor.specs.declared.rate.Rate.{Rate}
-use Rattle.its_governor.specs.Bucket.{full, drawn, has_room, MayPass, IsBounded}
+use Rattle.its_governor.specs.Bucket.{full, drawn, drawn_at, has_room, MayPass, IsBounded}
 use Rattle.its_governor.specs.Sources.{Forwarded, times_from}
 use Rattle.its_governor.specs.Governing.{governed, is_repeated_in, after_call, kept}
 use Rattle.its_governor.specs.Governing.{after_judging, after_delivery, after_forwarding, passed_of}
 use Rattle.its_governor.specs.Governing.{draw_from, room_in, is_echo, has_room_for, IsNewGovernor}
+use Rattle.its_governor.specs.Governing.{source_room}
+use Rattle.its_governor.specs.Pressure.{has_share_of}
 use Rattle.its_governor.specs.Deliveries.{GovernedCall, after_governed}
 use Rattle.its_governor.specs.Forwarding as limits
 use Rattle.its_governor.specs.Forwarding.{forward_if, forwarded_by, forwarded, times, RemembersSources}
 use Rattle.its_governor.proofs.Bounds.{bounded}
 use Rattle.its_governor.proofs.Deliveries.{owed, apart}
-use Rattle.its_governor.proofs.Forwarding.{forwards_bounded, sources_stay}
+use Rattle.its_governor.proofs.Forwarding.{Passed, forwards_bounded, passed_in, sources_stay}
 use Rattle.its_governor.proofs.Pressure.{withheld, shares_kept, new_take_nothing}
+use Rattle.its_model.specs.Contention.{Fate, first_due, kept_at}
+use Rattle.its_contention.specs.Buffer.{Buffer, after_drop, after_late}
+use Rattle.its_contention.specs.Waiting.{Waiting}
+use Rattle.its_unit.specs.Contending.{Released, after_due_frame, at_once, fate_in}
+use Rattle.its_unit.specs.Contending.{has_room_for_due, left_in, receiver_for, release_first}
+use Rattle.its_unit.specs.Contending.{released_or}
+use Rattle.its_unit.specs.Releases.{release_by, release_of}
+use Rattle.its_unit.proofs.Acts.{contends}
 use Rattle.its_unit.specs.Unit.{UnitModel, UnitCall, UnitAnswer, UnitStep, answer_by, frame_of}
 use Rattle.its_unit.specs.Unit.{is_request, passed_step, receiver_of, refused_step, step_within}
 use Rattle.its_unit.specs.Unit.{unit_step}
 use Rattle.its_unit.specs.Runs.{UnitCallAt, unit_run, is_withheld, made, station_after, IsPart}
 use Rattle.its_unit.specs.Runs.{IsPartOf, IsStationRun, IsModelRun, AreModelCalls, model_call}
 use Rattle.its_unit.specs.Runs.{forwarded_in, frames_forwarded, request_if, requests_sent}
-use Rattle.its_unit.specs.Runs.{AreWithin, IsLawful}
+use Rattle.its_unit.specs.Runs.{AreWithin, IsLawful, ReleasesAreWithin, UnitAct, after_act}
+use Rattle.its_unit.specs.Runs.{gone_in_act, released_at, times_gone}
 
 -- a step, by whether the call is withheld
 abbrev step_by_rate : UnitModel → UnitCallAt → Bool → UnitStep
@@ -88,12 +100,56 @@ part_of g r now f model.Answer.Quiet = refl
 part_of g r now f (model.Answer.Ignored why) = refl
 part_of g r now f (model.Answer.Refused refusal) = refl
 
+-- what contention leaves of an answer
+abbrev left_answer : UnitModel → UnitCallAt → Answer Transmission
+left_answer u c =
+    left_in u.contention (Some u.governor) (step_within u.station c.now c.call).station c.now
+    (frame_of c.call) (step_within u.station c.now c.call).answer
+
+kept_none : {A : Type 0} (b : Bool) → kept {A = A} b None ≡ None
+kept_none true = refl
+kept_none false = refl
+
+waiting_part : (echo delivers forwards : Bool) (message : Option Message)
+    (frame : Option Transmission) (its_fate : Fate)
+    → IsPartOf (answer_by echo (model.Answer.Accepted (kept delivers message)
+    (kept forwards (at_once frame its_fate)))) (model.Answer.Accepted message frame)
+waiting_part true delivers forwards message frame (Fate.Waits due) = tt
+waiting_part false delivers forwards message frame (Fate.Waits due) =
+    (kept_part delivers message, inl (kept_none forwards))
+waiting_part echo delivers forwards message frame Fate.Goes =
+    accepted_part echo delivers forwards message frame
+waiting_part echo delivers forwards message frame Fate.Stays =
+    accepted_part echo delivers forwards message frame
+
+-- and what passes of that is a part of the answer
+left_part : (o : Option (Buffer Waiting)) (g : Governor) (s : StationModel) (r : Receiver) (now : ℕ)
+    (f : Option Transmission) (a : Answer Transmission)
+    → IsPartOf (answer_by (is_repeated_in g now f (left_in o (Some g) s now f a))
+    (governed g r now f (left_in o (Some g) s now f a))) a
+left_part o g s r now None a = part_of g r now None a
+left_part None g s r now (Some t) a = part_of g r now (Some t) a
+left_part (Some b) g s r now (Some t) (model.Answer.Accepted message frame) =
+    let its_fate = fate_in b (Some g) s now t frame in
+    let p = passed_of g r now t (is_some message) (is_some (at_once frame its_fate)) in
+    waiting_part (is_echo g.delivered now t) p.delivers p.forwards message frame its_fate
+left_part (Some b) g s r now (Some t) (model.Answer.Sent sent) = refl
+left_part (Some b) g s r now (Some t) model.Answer.Moved = refl
+left_part (Some b) g s r now (Some t) model.Answer.Opened = refl
+left_part (Some b) g s r now (Some t) model.Answer.Closed = refl
+left_part (Some b) g s r now (Some t) model.Answer.Restarted = refl
+left_part (Some b) g s r now (Some t) model.Answer.Quiet = refl
+left_part (Some b) g s r now (Some t) (model.Answer.Ignored why) = refl
+left_part (Some b) g s r now (Some t) (model.Answer.Refused refusal) = refl
+
 part_answered : (u : UnitModel) (c : UnitCallAt) → is_withheld u c ≡ false
     → IsPartOf (unit_step u c.now c.call).answer (step_within u.station c.now c.call).answer
 part_answered u c within =
     subst (λ (p : Bool).
     IsPartOf (step_by_rate u c p).answer (step_within u.station c.now c.call).answer) (sym within)
-    (part_of u.governor (receiver_of u.station c.now (frame_of c.call)) c.now (frame_of c.call) (step_within u.station c.now c.call).answer)
+    (left_part u.contention u.governor (step_within u.station c.now c.call).station
+    (receiver_of u.station c.now (frame_of c.call)) c.now (frame_of c.call)
+    (step_within u.station c.now c.call).answer)
 
 pub station_runs : (u : UnitModel) → IsStationRun u
 station_runs u = record {
@@ -138,7 +194,7 @@ abbrev governed_by_rate : UnitModel → UnitCallAt → Bool → GovernedCall
 governed_by_rate u c p =
     cond p GovernedCall.OverRate
     (GovernedCall.Answered (receiver_of u.station c.now (frame_of c.call)) c.now (is_request c.call) (frame_of c.call)
-    (step_within u.station c.now c.call).answer)
+    (left_answer u c))
 
 abbrev governed_calls : UnitModel → List UnitCallAt → List GovernedCall
 governed_calls u [] = []
@@ -202,7 +258,7 @@ forwarded_next : (u : UnitModel) (c : UnitCallAt) (p : Bool)
     ≡ limits.forwarded_in u.governor (governed_by_rate u c p)
 forwarded_next u c true = withheld_sends_on (frame_of c.call) c.now
 forwarded_next u c false =
-    forwarded_of u.governor (receiver_of u.station c.now (frame_of c.call)) c.now (frame_of c.call) (step_within u.station c.now c.call).answer
+    forwarded_of u.governor (receiver_of u.station c.now (frame_of c.call)) c.now (frame_of c.call) (left_answer u c)
 
 same_forwarded : (u : UnitModel) (calls : List UnitCallAt)
     → forwarded u.governor (governed_calls u calls) ≡ frames_forwarded u calls
@@ -370,6 +426,24 @@ withheld_request : (request : Bool) (now : ℕ) → request_if request UnitAnswe
 withheld_request true now = refl
 withheld_request false now = refl
 
+-- contention leaves an own packet as it is
+left_sent : (o : Option (Buffer Waiting)) (g : Governor) (s : StationModel) (now : ℕ)
+    (f : Option Transmission) (a : Answer Transmission) (t : Transmission)
+    → left_in o (Some g) s now f a ≡ model.Answer.Sent t → a ≡ model.Answer.Sent t
+unfolding is_sent
+left_sent o g s now None a t e = e
+left_sent None g s now (Some f) a t e = e
+left_sent (Some b) g s now (Some f) (model.Answer.Accepted message frame) t e =
+    absurd (false≢true (ap is_sent e))
+left_sent (Some b) g s now (Some f) (model.Answer.Sent sent) t e = e
+left_sent (Some b) g s now (Some f) model.Answer.Moved t e = e
+left_sent (Some b) g s now (Some f) model.Answer.Opened t e = e
+left_sent (Some b) g s now (Some f) model.Answer.Closed t e = e
+left_sent (Some b) g s now (Some f) model.Answer.Restarted t e = e
+left_sent (Some b) g s now (Some f) model.Answer.Quiet t e = e
+left_sent (Some b) g s now (Some f) (model.Answer.Ignored why) t e = e
+left_sent (Some b) g s now (Some f) (model.Answer.Refused refusal) t e = e
+
 sent_next : (b : Bucket) (u : UnitModel) (c : UnitCallAt) (p : Bool) → is_withheld u c ≡ p
     → u.governor.own ≡ Some b
     → SentWith b (request_if (is_request c.call) (step_by_rate u c p).answer c.now)
@@ -379,11 +453,13 @@ sent_next b u c true e is =
     (sym (withheld_request (is_request c.call) c.now)) (sent_none b u.governor.own is)
 sent_next b u c false e is =
     sent_made b u.station u.governor (receiver_of u.station c.now (frame_of c.call)) c.now (is_request c.call) (frame_of c.call)
-    (step_within u.station c.now c.call).answer is
+    (left_answer u c) is
     (λ t request sent.
     had_room (is_request c.call) (leb u.station.clock c.now && leb c.now (2 ^ 62))
     (room_in u.governor.own c.now) request
-    (sent_in_time u.station c.now c.call t request sent) e)
+    (sent_in_time u.station c.now c.call t request
+    (left_sent u.contention u.governor (step_within u.station c.now c.call).station c.now
+    (frame_of c.call) (step_within u.station c.now c.call).answer t sent)) e)
 
 all_sent : (b : Bucket) (u : UnitModel) (calls : List UnitCallAt) → u.governor.own ≡ Some b
     → MayPass b (requests_sent u calls)
@@ -392,6 +468,102 @@ all_sent b u (c ∷ calls) is =
     let next = (unit_step u c.now c.call).unit in
     (sent_next b u c (is_withheld u c) refl is).pass (requests_sent next calls)
     (λ after same. all_sent after next calls same)
+
+-- ---- what goes out, by calls and releases
+
+-- of three tests that hold together the first does
+first_holds : (a b c : Bool) → (a && b && c) ≡ true → a ≡ true
+first_holds true b c e = refl
+first_holds false b c e = absurd (false≢true e)
+
+-- a frame that is dropped takes nothing out of the bucket
+dropped_forward : (g : Governor) (now : ℕ) (first : Option Waiting)
+    → (after_due_frame g now first false).forward ≡ g.forward
+dropped_forward g now None = refl
+dropped_forward g now (Some frame) = refl
+
+released_passes : (most address now : ℕ) (b : Bucket) (held : Buffer Waiting) (g : Governor)
+    → g.forward ≡ Some b
+    → Passed b (released_at (release_first most address now held g).frame now)
+    (release_first most address now held g).governor.forward
+released_passes zero address now b held g is = record { pass = tt; is = is }
+released_passes (suc most) address now b held g is =
+    by (first_due now held.held) (has_room_for_due g address now (first_due now held.held))
+    (release_first most address now (after_drop held now)
+    (after_due_frame g now (first_due now held.held) false)) refl
+    (released_passes most address now b (after_drop held now)
+    (after_due_frame g now (first_due now held.held) false)
+    (dropped_forward g now (first_due now held.held) ∙ is))
+  where
+    by : (first : Option Waiting) (room : Bool) (rest : Released)
+        → has_room_for_due g address now first ≡ room
+        → Passed b (released_at rest.frame now) rest.governor.forward
+        → Passed b (released_at (released_or held g now first room rest).frame now)
+        (released_or held g now first room rest).governor.forward
+    by None room rest has next = record { pass = tt; is = is }
+    by (Some frame) true rest has next = record {
+      pass = (
+        subst (λ (o : Option Bucket). room_in o now ≡ true) is
+            (first_holds (room_in g.forward now) (source_room g.sources frame.source now)
+            (has_share_of g.forward g.shares (receiver_for address frame) now frame.source
+            frame.number) has),
+        tt,
+      );
+      is = ap (λ (o : Option Bucket). draw_from o now) is;
+    }
+    by (Some frame) false rest has next = next
+
+release_passes : (b : Bucket) (u : UnitModel) (now : ℕ) (o : Option Refusal)
+    → u.governor.forward ≡ Some b
+    → Passed b (released_at (release_by u now o).frame now)
+    (release_by u now o).unit.governor.forward
+release_passes b u now (Some refusal) is = record { pass = tt; is = is }
+release_passes b u now None is = by u.contention
+  where
+    by : (o : Option (Buffer Waiting))
+        → Passed b (released_at (release_of u now o).frame now)
+        (release_of u now o).unit.governor.forward
+    by None = record { pass = tt; is = is }
+    by (Some held) =
+        released_passes (length (kept_at now held.held)) u.station.address now b
+        (after_late held now) u.governor is
+
+act_passes : (b : Bucket) (u : UnitModel) (a : UnitAct) → u.governor.forward ≡ Some b
+    → Passed b (gone_in_act u a) (after_act u a).governor.forward
+act_passes b u (UnitAct.Releases now) is =
+    release_passes b u now (moment_refusal u.station now) is
+act_passes b u (UnitAct.Calls c) is = by (is_withheld u c)
+  where
+    by : (p : Bool)
+        → Passed b (forwarded_in (frame_of c.call) (step_by_rate u c p).answer c.now)
+        (step_by_rate u c p).unit.governor.forward
+    by true =
+        subst (λ (fs : List Forwarded). Passed b fs (refused_step u).unit.governor.forward)
+        (sym (forwarded_next u c true)) (passed_in b u.governor (governed_by_rate u c true) is)
+    by false =
+        subst (λ (fs : List Forwarded). Passed b fs
+        (passed_step u c.now c.call (step_within u.station c.now c.call)).unit.governor.forward)
+        (sym (forwarded_next u c false)) (passed_in b u.governor (governed_by_rate u c false) is)
+
+-- of one list of times after another
+pass_both : (xs ys : List ℕ) (b : Bucket) → MayPass b xs → MayPass (drawn_at b xs) ys
+    → MayPass b (xs ++ ys)
+pass_both [] ys b first rest = rest
+pass_both (x ∷ xs) ys b first rest = (first.0, pass_both xs ys (drawn b x) first.1 rest)
+
+all_gone : (acts : List UnitAct) (b : Bucket) (u : UnitModel) → u.governor.forward ≡ Some b
+    → MayPass b (times_gone u acts)
+all_gone [] b u is = tt
+all_gone (a ∷ acts) b u is =
+    let passed = act_passes b u a is in
+    pass_both (times (gone_in_act u a)) (times_gone (after_act u a) acts) b passed.pass
+    (all_gone acts (drawn_at b (times (gone_in_act u a))) (after_act u a) passed.is)
+
+releases_within : (limits : Limits) (u : UnitModel) → IsNewGovernor limits u.governor
+    → ReleasesAreWithin limits u
+releases_within limits u new rate is acts =
+    bounded (full rate) (times_gone u acts)
+    (all_gone acts (full rate) u (new.forward ∙ ap (option_map full) is))
 
 -- ---- all laws of a unit
 
@@ -431,4 +603,5 @@ lawful limits u new = record {
     untaken = λ forward source common own.
         new_take_nothing limits u.governor forward source new common own;
   };
+  contention = contends limits u station_runs (releases_within limits u new);
 }

@@ -1,5 +1,8 @@
+pub mod Contending
 pub mod Unit
 pub mod Steps
+pub mod Releases
+pub mod Waits
 pub mod Runs
 pub mod Fleets
 pub mod FleetLaws

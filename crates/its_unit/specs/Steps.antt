@@ -13,8 +13,18 @@ use Rattle.its_station.specs.Steps.{refusal_of}
 use Rattle.its_station.specs.declared.counts.Counts.{Counts}
 use Rattle.its_station.specs.declared.outcome.Outcome.{Outcome}
 use Rattle.its_station.specs.declared.refused.Refused.{Refused}
+use Rattle.std.specs.Prelude.{Option}
+use Rattle.std.specs.Option.{option_map}
+use Rattle.its_gnvalue.specs.declared.fault.NoMemory.{NoMemory}
+use Rattle.its_station.specs.Answers.{StationAnswer}
+use Rattle.its_station.specs.declared.answer.Answer.TheVariants as answers
+use Rattle.its_contention.specs.Buffer.{Buffer, cleared}
+use Rattle.its_contention.specs.Waiting.{Waiting}
+use Rattle.its_governor.specs.declared.governor.Governor.{Governor}
+use Rattle.its_unit.specs.declared.limiting.Limiting.{Limiting}
 use Rattle.its_unit.specs.declared.outcome.UnitOutcome.{UnitOutcome}
 use Rattle.its_unit.specs.declared.outcome.UnitOutcome.TheVariants as outcomes
+use Rattle.its_unit.specs.declared.outcome.Reaction.{Reaction}
 use Rattle.its_unit.specs.declared.unsent.Unsent.{Unsent}
 use Rattle.its_unit.specs.declared.unsent.Unsent.TheVariants as unsent
 use Rattle.its_unit.specs.Unit.{UnitAnswer, UnitState, UnitStep, RepresentsUnit}
@@ -50,26 +60,40 @@ abbrev pub TellsUnit : (Outcome → Answer Transmission → Type 0) → UnitOutc
 TellsUnit tells (outcomes.Passed outcome) answer = SaysPassed tells outcome answer
 TellsUnit tells outcomes.Repeated answer = answer ≡ UnitAnswer.Repeated
 
+-- What came of a frame is what the step says: the answer, when the frame is due that waits, and
+-- whether one is cancelled; and the unit stands after it.
+abbrev pub IsReactionOf : (Outcome → Answer Transmission → Type 0) → Result Reaction Refused
+    → UnitState → UnitStep → Type 0
+IsReactionOf tells (Ok r) new step =
+    TellsUnit tells r.outcome step.answer × (r.due ≡ step.due) × (r.cancelled ≡ step.cancelled)
+    × RepresentsUnit new step.unit
+IsReactionOf tells (Err e) new step = IsRefusedStep e new step
+
 -- this holds of the station's outcome, unless the packet was delivered before
 abbrev pub WherePassed : (Outcome → Type 0) → UnitOutcome → Type 0
 WherePassed Holds (outcomes.Passed outcome) = Holds outcome
 WherePassed Holds outcomes.Repeated = Unit {0}
 
--- the same station and the same limits
+-- the same station, the same frames that wait and the same limits
 pub record IsSameUnit (old new : UnitState) : Type 0 where
   pub station : new.station ≡ old.station
+  pub contention : new.contention ≡ old.contention
   pub governor : new.governor ≡ old.governor
 
 -- ---- counts
 
+-- by what became of a frame that is not refused
+abbrev pub counted_unit : UnitOutcome → Counts → Counts
+counted_unit (outcomes.Passed outcome) c = counted_outcome (Ok outcome) c
+counted_unit outcomes.Repeated c = counted_accepted false false c
+
 -- by what became of a frame
-abbrev pub counted_heard : Result UnitOutcome Refused → Counts → Counts
-counted_heard (Ok (outcomes.Passed outcome)) c = counted_outcome (Ok outcome) c
-counted_heard (Ok outcomes.Repeated) c = counted_accepted false false c
+abbrev pub counted_heard : Result Reaction Refused → Counts → Counts
+counted_heard (Ok r) c = counted_unit r.outcome c
 counted_heard (Err refused) c = counted_refusal refused c
 
 -- one more received, and what became of it
-abbrev pub counted_received : Result UnitOutcome Refused → Counts → Counts
+abbrev pub counted_received : Result Reaction Refused → Counts → Counts
 counted_received result c = counted_heard result (record c { received = one_more c.received })
 
 -- by what came of a request for an own packet of this kind; one over its rate is not among these counts
@@ -84,3 +108,17 @@ counted_request kind (Err unsent.OverRate) c = c
 abbrev pub unsent_of : Result (Vec ℕ Global) Refused → Result (Vec ℕ Global) Unsent
 unsent_of (Ok frame) = Ok frame
 unsent_of (Err refused) = Err (unsent.Refused refused)
+
+-- ---- calls past the limits
+
+-- past the limits nothing is noted in them
+abbrev pub AreKept : Limiting → Governor → Governor → Type 0
+AreKept Limiting.Within old new = Unit {0}
+AreKept Limiting.Past old new = new ≡ old
+
+-- the frames that wait after an answer: a restart drops them
+abbrev pub after_line : Result StationAnswer NoMemory → Option (Buffer Waiting)
+    → Option (Buffer Waiting)
+after_line (Ok answers.Restarted) o = option_map cleared o
+after_line (Ok answer) o = o
+after_line (Err no_memory) o = o

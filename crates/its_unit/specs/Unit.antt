@@ -1,6 +1,7 @@
--- A unit, as it ships: a station, and the limits on what it sends. Contention belongs between the two.
-use Rattle.std.specs.Prelude.{◌≡◌, ℕ, ℤ, ◌^◌, Bool, true, false, ◌&&◌, nat_le, if◌then◌else◌}
-use Rattle.std.specs.Prelude.{Option, Some, None, is_some}
+-- A unit, as it ships: a station, the frames that wait if it contends, and the limits on what it
+-- sends. Contention is between the station and the limits.
+use Rattle.std.specs.Prelude.{◌≡◌, ℕ, ℤ, ◌^◌, Bool, true, false, ◌&&◌, ◌||◌, nat_le, if◌then◌else◌}
+use Rattle.std.specs.Prelude.{Option, Some, None, is_some, List}
 use Rattle.its_gnvalue.specs.Values.{Position}
 use Rattle.its_model.specs.History.{known}
 use Rattle.its_model.specs.Packet.{Transmission}
@@ -16,21 +17,31 @@ use Rattle.its_governor.specs.declared.receiver.Receiver.{Receiver}
 use Rattle.its_governor.specs.Governing.{frame_in, verified_frame, governed, is_repeated_in}
 use Rattle.its_governor.specs.Governing.{after_call, after_refusal, is_over_rate}
 use Rattle.its_governor.specs.Pressure.{is_pressed}
+use Rattle.its_contention.specs.Buffer.{Buffer}
+use Rattle.its_contention.specs.Waiting.{Waiting}
+use Rattle.its_linkframe.specs.Frames.{frame_octets}
+use Rattle.its_unit.specs.Contending.{left_in, contended, verified_octets}
+use Rattle.its_unit.specs.Contending.{cancels_by_answer, due_of_answer}
+use Rattle.its_unit.specs.declared.limiting.Limiting.{Limiting}
 
 -- a unit of the model
 pub record UnitModel : Type 0 where
   pub station : StationModel
+  pub contention : Option (Buffer Waiting)  -- the frames that wait, if it contends
   pub governor : Governor
 
 -- a unit as contracts see it
 pub record UnitState : Type 0 where
   pub station : StationState
+  pub contention : Option (Buffer Waiting)
   pub governor : Governor
   pub counts : Counts
 
--- The unit represents the one of the model: its station does, and it has these limits.
+-- The unit represents the one of the model: its station does, the same frames wait, and it has
+-- these limits.
 pub record RepresentsUnit (st : UnitState) (u : UnitModel) : Type 0 where
   pub station : RepresentsStation st.station u.station
+  pub contention : u.contention ≡ st.contention
   pub governor : u.governor ≡ st.governor
 
 -- A call of a unit: one of its own applications, a frame that came, or a secured frame that came with
@@ -89,35 +100,78 @@ pub data UnitAnswer : Type 0 where
   Repeated : UnitAnswer
   OverRate : UnitAnswer
 
--- what a unit answers, and the unit afterwards
+-- What a unit answers; when the frame is due that begins to wait, if one does; whether a frame that
+-- waited is cancelled; and the unit afterwards.
 pub record UnitStep : Type 0 where
   pub answer : UnitAnswer
+  pub due : Option ℕ
+  pub cancelled : Bool
   pub unit : UnitModel
 
 abbrev pub answer_by : Bool → Answer Transmission → UnitAnswer
 answer_by true answer = UnitAnswer.Repeated
 answer_by false answer = UnitAnswer.Passed answer
 
--- what passes of a step of the station
-abbrev pub passed_step : UnitModel → ℕ → UnitCall → Step → UnitStep
-passed_step u now call step =
+-- the octets of a frame in which the packet of a call goes on: a secured one has the message that came
+abbrev pub octets_in : UnitCall → Transmission → List ℕ
+octets_in (UnitCall.ReceiveVerified call) = verified_octets call
+octets_in call = frame_octets
+
+-- what contention leaves of a step of the station: the answer without a frame that waits
+abbrev pub left_step : UnitModel → ℕ → UnitCall → Step → Step
+left_step u now call step =
+    record step {
+      answer = left_in u.contention (Some u.governor) step.station now (frame_of call) step.answer;
+    }
+
+-- the frames that wait after a step of the station
+abbrev pub waiting_after : UnitModel → ℕ → UnitCall → Step → Option (Buffer Waiting)
+waiting_after u now call step =
+    contended u.contention (Some u.governor) step.station now (octets_in call)
+    (receiver_of u.station now (frame_of call)).knew_source (frame_of call) step.answer
+
+-- when the frame is due that begins to wait by a step of the station, if one does
+abbrev pub due_after : UnitModel → ℕ → UnitCall → Step → Option ℕ
+due_after u now call step =
+    due_of_answer u.contention (Some u.governor) step.station now (frame_of call) step.answer
+
+-- whether a step of the station cancels a frame that waits
+abbrev pub cancels_after : UnitModel → UnitCall → Step → Bool
+cancels_after u call step =
+    cancels_by_answer u.contention step.station (octets_in call) (frame_of call) step.answer
+
+-- what passes of what contention leaves, by the frames that wait afterwards
+abbrev pub limited_step : UnitModel → ℕ → UnitCall → Option (Buffer Waiting) → Option ℕ → Bool → Step
+    → UnitStep
+limited_step u now call waiting due cancelled step =
     record {
+      due = due;
+      cancelled = cancelled;
       answer = answer_by (is_repeated_in u.governor now (frame_of call) step.answer)
           (governed u.governor (receiver_of u.station now (frame_of call)) now (frame_of call)
           step.answer);
       unit = record {
         station = step.station;
+        contention = waiting;
         governor = after_call u.governor (receiver_of u.station now (frame_of call)) now
             (is_request call) (frame_of call) step.answer;
       };
     }
+
+-- what passes of a step of the station
+abbrev pub passed_step : UnitModel → ℕ → UnitCall → Step → UnitStep
+passed_step u now call step =
+    limited_step u now call (waiting_after u now call step) (due_after u now call step)
+    (cancels_after u call step) (left_step u now call step)
 
 -- a request that is refused for its rate: the station makes no call
 abbrev pub refused_step : UnitModel → UnitStep
 refused_step u =
     record {
       answer = UnitAnswer.OverRate;
-      unit = record { station = u.station; governor = after_refusal u.governor };
+      due = None;
+      cancelled = false;
+      unit = record u { governor = after_refusal u.governor };
     }
 
 -- The step of a unit: the station's, of whose answer that is kept which passes; or a request at a time
@@ -128,13 +182,64 @@ unit_step u now call =
     then refused_step u
     else passed_step u now call (step_within u.station now call)
 
+-- the step of a unit for a packet that came in a frame, if `say` makes the octets of such frames
+abbrev pub unit_step_of : (Transmission → List ℕ) → UnitModel → ℕ → Transmission → UnitStep
+unit_step_of say u now t =
+    let call = UnitCall.Receive (model.Call.Receive t) in
+    let step = station_step u.station now (model.Call.Receive t) in
+    limited_step u now call
+    (contended u.contention (Some u.governor) step.station now say
+    (receiver_of u.station now (Some t)).knew_source (Some t) step.answer)
+    (due_after u now call step)
+    (cancels_by_answer u.contention step.station say (Some t) step.answer)
+    (left_step u now call step)
+
+-- ---- past the limits
+
+-- what comes of a step of the station past the limits, if `say` makes the octets of such frames
+abbrev pub past_step : (Transmission → List ℕ) → UnitModel → ℕ → UnitCall → Step → UnitStep
+past_step say u now call step =
+    record {
+      answer = UnitAnswer.Passed
+          (left_in u.contention None step.station now (frame_of call) step.answer);
+      due = due_of_answer u.contention None step.station now (frame_of call) step.answer;
+      cancelled = cancels_by_answer u.contention step.station say (frame_of call) step.answer;
+      unit = record u {
+        station = step.station;
+        contention = contended u.contention None step.station now say
+            (receiver_of u.station now (frame_of call)).knew_source (frame_of call) step.answer;
+      };
+    }
+
+-- The step of a unit past its limits: none applies to the call, which takes nothing from one.
+abbrev pub unlimited_step : UnitModel → ℕ → UnitCall → UnitStep
+unlimited_step u now call =
+    past_step (octets_in call) u now call (step_within u.station now call)
+
+-- so for a packet that came in a frame
+abbrev pub unlimited_step_of : (Transmission → List ℕ) → UnitModel → ℕ → Transmission → UnitStep
+unlimited_step_of say u now t =
+    past_step say u now (UnitCall.Receive (model.Call.Receive t))
+    (station_step u.station now (model.Call.Receive t))
+
+-- such a step, within the limits or past them
+abbrev pub step_of_by : Limiting → (Transmission → List ℕ) → UnitModel → ℕ → Transmission → UnitStep
+step_of_by Limiting.Within = unit_step_of
+step_of_by Limiting.Past = unlimited_step_of
+
+-- the step of a unit, within its limits or past them
+abbrev pub step_by : Limiting → UnitModel → ℕ → UnitCall → UnitStep
+step_by Limiting.Within = unit_step
+step_by Limiting.Past = unlimited_step
+
 -- ---- words of private functions
 
--- the receiver of a frame as a unit sees it, which looks the source up under pressure only
+-- the receiver of a frame as a unit sees it, which looks the source up under pressure, and if it
+-- contends
 abbrev pub asked : UnitModel → ℕ → ℕ → Receiver
 asked u now source =
     record {
       address = u.station.address;
-      knew_source = is_pressed u.governor.forward u.governor.shares now
+      knew_source = (is_some u.contention || is_pressed u.governor.forward u.governor.shares now)
           && knows u.station now source;
     }

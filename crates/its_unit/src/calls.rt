@@ -1,6 +1,8 @@
 //! The calls of a unit that tell nothing but that they were made.
 
-ghost use Rattle.std.specs.Prelude.{◌≡◌, ◌≢◌, Err, OnErr};
+ghost use Rattle.std.specs.Prelude.{◌≡◌, ◌≢◌, Err, OnErr, OnOk};
+ghost use Rattle.std.specs.Option.{option_map};
+ghost use Rattle.its_contention.specs.Buffer.{cleared};
 ghost use Rattle.its_gnvalue.specs.Values.{IsSpeed};
 ghost use Rattle.its_model.specs.Calls.{Moved, Opened, Closed, Restarted};
 ghost use Rattle.its_model.specs.Calls.OwnCall.{Move, Open, Close, Restart};
@@ -30,6 +32,7 @@ impl<S: LocationStore> Unit<S> {
             (unit_step u now (Own (Move place pai speed heading))) }
         ensures counts { self.new.counts ≡ counted_done result self.old.counts }
         ensures limits { self.new.governor ≡ self.old.governor }
+        ensures contention { self.new.contention ≡ self.old.contention }
         ensures unchanged { OnErr result (IsSameUnit self.old self.new) }
         ensures memory { result ≢ Err Refused.NoMemory }
     {
@@ -55,6 +58,7 @@ impl<S: LocationStore> Unit<S> {
             (unit_step u now (MoveAt fix place pai speed heading)) }
         ensures counts { self.new.counts ≡ counted_done result self.old.counts }
         ensures limits { self.new.governor ≡ self.old.governor }
+        ensures contention { self.new.contention ≡ self.old.contention }
         ensures unchanged { OnErr result (IsSameUnit self.old self.new) }
         ensures memory { result ≢ Err Refused.NoMemory }
     {
@@ -70,6 +74,7 @@ impl<S: LocationStore> Unit<S> {
             (unit_step u now (Own (Open port))) }
         ensures counts { self.new.counts ≡ counted_done result self.old.counts }
         ensures limits { self.new.governor ≡ self.old.governor }
+        ensures contention { self.new.contention ≡ self.old.contention }
         ensures unchanged { OnErr result (IsSameUnit self.old self.new) }
         ensures memory { result ≢ Err Refused.NoMemory }
     {
@@ -85,6 +90,7 @@ impl<S: LocationStore> Unit<S> {
             (unit_step u now (Own (Close port))) }
         ensures counts { self.new.counts ≡ counted_done result self.old.counts }
         ensures limits { self.new.governor ≡ self.old.governor }
+        ensures contention { self.new.contention ≡ self.old.contention }
         ensures unchanged { OnErr result (IsSameUnit self.old self.new) }
         ensures memory { result ≢ Err Refused.NoMemory }
     {
@@ -93,19 +99,24 @@ impl<S: LocationStore> Unit<S> {
         said
     }
 
-    /// The station begins again with this sequence number, as `Station::restart` says. The limits and
-    /// the counts stay.
+    /// The station begins again with this sequence number, as `Station::restart` says. The frames that
+    /// wait are dropped. The limits and the counts stay.
     pub fn restart(&mut self, now: u64, number: u16) -> Result<(), Refused>
         ensures step { (u : UnitModel) → RepresentsUnit self.old u →
             IsStepOf (SaysPassed (Says Restarted)) result self.new
             (unit_step u now (Own (Restart number))) }
         ensures counts { self.new.counts ≡ counted_done result self.old.counts }
         ensures limits { self.new.governor ≡ self.old.governor }
+        ensures contention { OnOk result
+            (self.new.contention ≡ option_map cleared self.old.contention) }
         ensures unchanged { OnErr result (IsSameUnit self.old self.new) }
         ensures memory { result ≢ Err Refused.NoMemory }
     {
         let said = self.station.restart(now, number);
         self.counts.note_done(&said);
+        if let (Ok(()), Some(contention)) = (&said, &mut self.contention) {
+            contention.clear();
+        }
         said
     }
 }

@@ -21,6 +21,12 @@ use its_model::laws::every_schedule;
 /// source, and the own packets are within the limits; a message is delivered if no copy of its packet
 /// was, and not twice. Under pressure a frame is withheld for a reason that is named, one that keeps the
 /// rules is forwarded, and new sources take nothing of the lower four fifths of the bucket of all.
+///
+/// With releases between the calls, the station within is the one that its calls alone make. What is
+/// released is what the station answered when it accepted a packet, from its due time to 1000 ms after
+/// it. Each frame that begins to wait is released, cancelled or dropped, or waits in the end. One that is
+/// cancelled has copies of it from as many other stations as the rule asks for, since it was put. All
+/// frames that are forwarded, at once or by releases, are within their rate together.
 pub fn units_are_lawful()
     ensures { (limits : GivenLimits) (u : UnitModel) → IsNewGovernor limits u.governor →
         IsLawful limits u }

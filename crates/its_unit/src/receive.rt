@@ -16,13 +16,17 @@ ghost use Rattle.its_station.specs.Receiving.{IsVerifiedCall, sealed_by, verifie
 ghost use Rattle.its_station.specs.Steps as station;
 ghost use Rattle.its_station.specs.Receiving.VerifiedCall.{Faulty};
 ghost use Rattle.its_governor.specs.Governing.{governed, after_call, is_repeated_in};
-ghost use Rattle.its_unit.specs.Unit.{UnitModel, RepresentsUnit, unit_step};
+ghost use Rattle.its_unit.specs.Unit.{UnitModel, RepresentsUnit, unit_step, unit_step_of};
+ghost use Rattle.its_unit.specs.Unit.{unlimited_step};
+ghost use Rattle.its_unit.specs.Waits.{AreSaid};
 ghost use Rattle.its_unit.specs.Unit.UnitCall.{Receive, ReceiveVerified};
 ghost use Rattle.its_unit.specs.Unit.{answer_by, asked, knows};
-ghost use Rattle.its_unit.specs.Steps.{IsStepOf, IsRefusedStep, TellsUnit, WherePassed, IsSameUnit};
+ghost use Rattle.its_unit.specs.Steps.{IsReactionOf, IsRefusedStep, TellsUnit, WherePassed, IsSameUnit};
 ghost use Rattle.its_unit.specs.Steps.{counted_received};
 
-use crate::outcome::UnitOutcome;
+use crate::contending::{Left, contend};
+use crate::limiting::Limiting;
+use crate::outcome::{Reaction, UnitOutcome};
 use crate::unit::Unit;
 use its_gnvalue::GnAddress;
 use its_governor::{Accepted, Governor, Receiver};
@@ -33,11 +37,13 @@ use its_station::{LAST_MOMENT, Outcome, ReceivedFrame, Refused};
 impl<S: LocationStore> Unit<S> {
     /// Receives the octets that came, as `Station::receive` does, and keeps what passes of its
     /// outcome: a frame that doesn't pass is not sent, and a packet that was delivered before is
-    /// `Repeated`. It is refused as there, also for memory. Then nothing changes but the counts.
-    pub fn receive<'a>(&mut self, now: u64, frame: &'a [u8]) -> Result<UnitOutcome<'a>, Refused>
+    /// `Repeated`. If the unit contends, a frame that waits is not sent either (`next_due`), and a
+    /// duplicate may cancel one. It is refused as there, also for memory. Then nothing changes but the
+    /// counts.
+    pub fn receive<'a>(&mut self, now: u64, frame: &'a [u8]) -> Result<Reaction<'a>, Refused>
         ensures step { (call : Call) × IsFrameCall frame.now call
             × ((u : UnitModel) → RepresentsUnit self.old u →
-            IsStepOf (TellsUnit Tells) result self.new (unit_step u now (Receive call))) }
+            IsReactionOf Tells result self.new (unit_step u now (Receive call))) }
         ensures counts { self.new.counts ≡ counted_received result self.old.counts }
         ensures memory { (s : StationModel) (t : Transmission) →
             RepresentsStation self.old.station s → EncodesFrame t frame.now →
@@ -45,11 +51,11 @@ impl<S: LocationStore> Unit<S> {
             (verdict s now t ≡ stations.Verdict.Accept) × TakesMemory s now t }
         ensures junk { result ≡ Err Refused.NoMemory → IsFrame frame.now }
         ensures unchanged { OnErr result (IsSameUnit self.old self.new) }
-        ensures payload { IfOk result (WherePassed (DeliversEndOf frame.now)) }
-        ensures short_frame { IfOk result (WherePassed (SendsAtMost 1468)) }
+        ensures payload { IfOk result (λ r. WherePassed (DeliversEndOf frame.now) r.outcome) }
+        ensures short_frame { IfOk result (λ r. WherePassed (SendsAtMost 1468) r.outcome) }
     {
         match read_frame(frame) {
-            Ok(view) => self.receive_frame(now, &view),
+            Ok(view) => self.receive_frame(now, frame, &view),
             Err(fault) => Err(self.refuse_frame(now, fault)),
         }
     }
@@ -61,10 +67,10 @@ impl<S: LocationStore> Unit<S> {
         now: u64,
         frame: &[u8],
         plain: &'a [u8],
-    ) -> Result<UnitOutcome<'a>, Refused>
+    ) -> Result<Reaction<'a>, Refused>
         ensures step { (call : VerifiedCall) × IsVerifiedCall frame.now plain.now call
             × ((u : UnitModel) → RepresentsUnit self.old u →
-            IsStepOf (TellsUnit (TellsBy (sealed_by call))) result self.new
+            IsReactionOf (TellsBy (sealed_by call)) result self.new
             (unit_step u now (ReceiveVerified call))) }
         ensures counts { self.new.counts ≡ counted_received result self.old.counts }
         ensures memory { (s : StationModel) (v : Verified) →
@@ -73,38 +79,65 @@ impl<S: LocationStore> Unit<S> {
             (verdict s now v.frame ≡ stations.Verdict.Accept) × TakesMemory s now v.frame }
         ensures junk { result ≡ Err Refused.NoMemory → IsVerified frame.now plain.now }
         ensures unchanged { OnErr result (IsSameUnit self.old self.new) }
-        ensures payload { IfOk result (WherePassed (DeliversEndOf plain.now)) }
-        ensures short_frame { IfOk result (WherePassed (SendsAtMost 2310)) }
+        ensures payload { IfOk result (λ r. WherePassed (DeliversEndOf plain.now) r.outcome) }
+        ensures short_frame { IfOk result (λ r. WherePassed (SendsAtMost 2310) r.outcome) }
     {
         match VerifiedFrame::read(frame, plain) {
-            Ok(verified) => self.receive_frame(now, &verified),
+            Ok(verified) => self.receive_frame(now, frame, &verified),
             Err(fault) => Err(self.refuse_secured(now, fault)),
         }
     }
 
-    /// Receives a frame that was read, as `receive` does with its octets, and `receive_verified` with
-    /// those of a secured frame and its plain part.
+    /// Receives a frame that was read of these octets, as `receive` does with its octets, and
+    /// `receive_verified` with those of a secured frame and its plain part.
+    ///
+    /// - `step`: `say` is how the octets of such frames are made of packets.
     pub fn receive_frame<'a, F: ReceivedFrame<'a>>(
         &mut self,
         now: u64,
+        octets: &[u8],
         frame: &F,
-    ) -> Result<UnitOutcome<'a>, Refused>
-        ensures step { (u : UnitModel) → RepresentsUnit self.old u →
-            IsStepOf (TellsUnit (TellsBy (F.Encodes frame.now))) result self.new
-            (unit_step u now (Receive (IsReceived (F.frame frame.now)))) }
+    ) -> Result<Reaction<'a>, Refused>
+        ensures step { (say : Transmission → List ℕ) → AreSaid (F.Encodes frame.now) say →
+            octets.now ≡ say (F.frame frame.now) → (u : UnitModel) → RepresentsUnit self.old u →
+            IsReactionOf (TellsBy (F.Encodes frame.now)) result self.new
+            (unit_step_of say u now (F.frame frame.now)) }
         ensures counts { self.new.counts ≡ counted_received result self.old.counts }
         ensures memory { (s : StationModel) → RepresentsStation self.old.station s →
             result ≡ Err Refused.NoMemory →
             (verdict s now (F.frame frame.now) ≡ stations.Verdict.Accept)
             × TakesMemory s now (F.frame frame.now) }
         ensures unchanged { OnErr result (IsSameUnit self.old self.new) }
-        ensures payload { IfOk result
-            (WherePassed (DeliversEndOf (payload_of (F.frame frame.now).pdu.body))) }
-        ensures short_frame { IfOk result (WherePassed (SendsAtMost (F.most frame.now))) }
+        ensures payload { IfOk result (λ r.
+            WherePassed (DeliversEndOf (payload_of (F.frame frame.now).pdu.body)) r.outcome) }
+        ensures short_frame { IfOk result (λ r.
+            WherePassed (SendsAtMost (F.most frame.now)) r.outcome) }
     {
         let receiver = self.receiver_of(now, frame);
         let said = match self.station.receive_frame(now, frame) {
-            Ok(outcome) => Ok(govern(&mut self.governor, now, &receiver, frame, outcome)),
+            Ok(outcome) => {
+                let left = contend(
+                    &mut self.contention,
+                    Limiting::Within,
+                    &self.governor,
+                    &self.station,
+                    now,
+                    octets,
+                    receiver.knew_source,
+                    frame,
+                    outcome,
+                );
+                let Left {
+                    outcome,
+                    due,
+                    cancelled,
+                } = left;
+                Ok(Reaction {
+                    outcome: govern(&mut self.governor, now, &receiver, frame, outcome),
+                    due,
+                    cancelled,
+                })
+            }
             Err(refused) => Err(refused),
         };
         self.note_received(&said);
@@ -112,13 +145,13 @@ impl<S: LocationStore> Unit<S> {
     }
 
     /// Returns the station as the receiver of a frame that it has not received yet. The source is
-    /// looked up under pressure only.
+    /// looked up under pressure, and if the unit contends.
     fn receiver_of<'a, F: ReceivedFrame<'a>>(&self, now: u64, frame: &F) -> Receiver
         ensures { (u : UnitModel) → RepresentsUnit self.now u →
             result ≡ asked u now (F.frame frame.now).pdu.vector.address }
     {
-        let knew_source = self.governor.is_pressed(now)
-            && self.knows(now, frame.vector().address());
+        let asks = self.contention.is_some() || self.governor.is_pressed(now);
+        let knew_source = asks && self.knows(now, frame.vector().address());
         Receiver {
             address: self.station.address(),
             knew_source,
@@ -127,7 +160,7 @@ impl<S: LocationStore> Unit<S> {
 
     /// Whether the station, at a time that it accepts, has a live entry of a source in its location
     /// table.
-    fn knows(&self, now: u64, source: GnAddress) -> bool
+    pub(crate) fn knows(&self, now: u64, source: GnAddress) -> bool
         ensures { (s : StationModel) → RepresentsStation self.now.station s →
             result ≡ knows s now source }
     {
@@ -140,6 +173,8 @@ impl<S: LocationStore> Unit<S> {
     pub fn refuse_frame(&mut self, now: u64, fault: FrameFault) -> Refused
         ensures step { (u : UnitModel) → RepresentsUnit self.old u →
             IsRefusedStep result self.new (unit_step u now (Receive (Junk fault))) }
+        ensures unlimited { (u : UnitModel) → RepresentsUnit self.old u →
+            IsRefusedStep result self.new (unlimited_step u now (Receive (Junk fault))) }
         ensures station { (s : StationModel) → RepresentsStation self.old.station s →
             station.IsRefusedStep result self.new.station (station_step s now (Junk fault)) }
         ensures counts { self.new.counts ≡ counted_received (Err result) self.old.counts }
@@ -156,6 +191,8 @@ impl<S: LocationStore> Unit<S> {
     pub fn refuse_secured(&mut self, now: u64, fault: SecuredFault) -> Refused
         ensures step { (u : UnitModel) → RepresentsUnit self.old u →
             IsRefusedStep result self.new (unit_step u now (ReceiveVerified (Faulty fault))) }
+        ensures unlimited { (u : UnitModel) → RepresentsUnit self.old u →
+            IsRefusedStep result self.new (unlimited_step u now (ReceiveVerified (Faulty fault))) }
         ensures station { (s : StationModel) → RepresentsStation self.old.station s →
             station.IsRefusedStep result self.new.station (verified_step s now (Faulty fault)) }
         ensures counts { self.new.counts ≡ counted_received (Err result) self.old.counts }
@@ -169,15 +206,18 @@ impl<S: LocationStore> Unit<S> {
 
     /// Counts the outcome of a frame. A packet that was delivered before is counted as one that is
     /// accepted, and neither delivered nor forwarded.
-    fn note_received(&mut self, said: &Result<UnitOutcome<'_>, Refused>)
+    pub(crate) fn note_received(&mut self, said: &Result<Reaction<'_>, Refused>)
         ensures station { self.new.station ≡ self.old.station }
+        ensures contention { self.new.contention ≡ self.old.contention }
         ensures governor { self.new.governor ≡ self.old.governor }
         ensures counts { self.new.counts ≡ counted_received said.now self.old.counts }
     {
         self.counts.note_frame();
         match said {
-            Ok(UnitOutcome::Passed(outcome)) => self.counts.note_outcome(outcome),
-            Ok(UnitOutcome::Repeated) => self.counts.note_accepted(false, false),
+            Ok(reaction) => match &reaction.outcome {
+                UnitOutcome::Passed(outcome) => self.counts.note_outcome(outcome),
+                UnitOutcome::Repeated => self.counts.note_accepted(false, false),
+            },
             Err(refused) => self.counts.note_refused(*refused),
         }
     }

@@ -30,6 +30,7 @@ impl<S: LocationStore> Unit<S> {
             IsStepOf (SaysPassed TellsTick) result self.new (unit_step u now (Own (Tick jitter))) }
         ensures counts { self.new.counts ≡ counted_tick result self.old.counts }
         ensures limits { self.new.governor ≡ self.old.governor }
+        ensures contention { self.new.contention ≡ self.old.contention }
         ensures unchanged { OnErr result (IsSameUnit self.old self.new) }
         ensures memory { (s : StationModel) → RepresentsStation self.old.station s →
             result ≡ Err Refused.NoMemory →
@@ -56,6 +57,7 @@ impl<S: LocationStore> Unit<S> {
             × (self.new.station ≡ self.old.station) }
         ensures limit { IsTrue (is_over_rate self.old.governor self.old.station.clock now) →
             result ≡ Err Unsent.OverRate }
+        ensures contention { self.new.contention ≡ self.old.contention }
         ensures unchanged { (e : Refused) → result ≡ Err (Unsent.Refused e) →
             IsSameUnit self.old self.new }
         ensures memory { (s : StationModel) → RepresentsStation self.old.station s →
@@ -88,6 +90,7 @@ impl<S: LocationStore> Unit<S> {
             × (self.new.station ≡ self.old.station) }
         ensures limit { IsTrue (is_over_rate self.old.governor self.old.station.clock now) →
             result ≡ Err Unsent.OverRate }
+        ensures contention { self.new.contention ≡ self.old.contention }
         ensures unchanged { (e : Refused) → result ≡ Err (Unsent.Refused e) →
             IsSameUnit self.old self.new }
         ensures memory { (s : StationModel) → RepresentsStation self.old.station s →
@@ -121,6 +124,7 @@ impl<S: LocationStore> Unit<S> {
             × (self.new.station ≡ self.old.station) }
         ensures limit { IsTrue (is_over_rate self.old.governor self.old.station.clock now) →
             result ≡ Err Unsent.OverRate }
+        ensures contention { self.new.contention ≡ self.old.contention }
         ensures unchanged { (e : Refused) → result ≡ Err (Unsent.Refused e) →
             IsSameUnit self.old self.new }
         ensures memory { (s : StationModel) → RepresentsStation self.old.station s →
@@ -160,6 +164,7 @@ impl<S: LocationStore> Unit<S> {
         said: Result<Vec<u8>, Refused>,
     ) -> Result<Vec<u8>, Unsent>
         ensures station { self.new.station ≡ self.old.station }
+        ensures contention { self.new.contention ≡ self.old.contention }
         ensures counts { self.new.counts ≡ counted_request kind result self.old.counts }
         ensures said { result ≡ unsent_of said }
         ensures sent { OnOk result (self.new.governor ≡ after_sent self.old.governor now) }

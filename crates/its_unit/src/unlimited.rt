@@ -1,67 +1,180 @@
 //! What a unit does past its limits: for what a line of JSON asks for.
 
-ghost use Rattle.std.specs.Prelude.{◌≡◌, Err, IfOk, OnErr};
+ghost use Rattle.std.specs.Prelude.{◌≡◌, ◌&&◌, Err, IfOk, OnErr, List, ℕ, is_some};
 ghost use Rattle.its_headers.specs.Encoding.{payload_of};
-ghost use Rattle.its_model.specs.Calls.{Call as ModelCall, Receive};
-ghost use Rattle.its_model.specs.Station.{StationModel, station_step};
-ghost use Rattle.its_station.specs.Answers.{IsAnswerTo};
-ghost use Rattle.its_station.specs.Counting.{counted, counted_answer, counted_call, kind_sent};
+ghost use Rattle.its_model.specs.Packet.{Transmission};
+ghost use Rattle.its_model.specs.Station.{StationModel};
+ghost use Rattle.its_station.specs.Answers.{TellsAnswer};
+ghost use Rattle.its_station.specs.Counting.{counted_answer, own_kind};
 ghost use Rattle.its_station.specs.Receiving.{DeliversEndOf, SendsAtMost, TellsBy};
-ghost use Rattle.its_station.specs.Runs.{IsCall, IsInRange};
+ghost use Rattle.its_station.specs.Runs.{IsOwnInRange, own_of};
 ghost use Rattle.its_station.specs.State.{RepresentsStation};
-ghost use Rattle.its_station.specs.Steps.{IsStepOf};
+ghost use Rattle.its_unit.specs.Steps.{IsReactionOf, IsSameUnit, SaysPassed, WherePassed};
+ghost use Rattle.its_unit.specs.Steps.{AreKept, after_line, counted_received};
+ghost use Rattle.its_unit.specs.Unit.{RepresentsUnit, UnitModel, step_of_by, unlimited_step};
+ghost use Rattle.its_unit.specs.Unit.{knows, unlimited_step_of};
+ghost use Rattle.its_unit.specs.Unit.UnitCall.{Own};
+ghost use Rattle.its_unit.specs.Waits.{AreSaid};
 
+use crate::contending::{Left, contend};
+use crate::limiting::Limiting;
+use crate::outcome::{Reaction, UnitOutcome};
 use crate::unit::Unit;
 use its_gnvalue::NoMemory;
+use its_headers::Kind;
 use its_loctable::LocationStore;
-use its_station::{Call, Outcome, ReceivedFrame, Refused, StationAnswer};
+use its_station::{Answer, Counts, Outcome, OwnCall, ReceivedFrame, Refused, StationAnswer};
 
 impl<S: LocationStore> Unit<S> {
-    /// Makes a call as `Station::answer` does, and counts it. No limit applies to it, and it takes
-    /// nothing from one. `NoMemory` if an allocation failed: nothing changed then but the counts.
-    pub fn answer_unlimited(&mut self, now: u64, call: &Call) -> Result<StationAnswer, NoMemory>
-        requires { IsInRange call.now }
-        ensures step { IfOk result (λ answer. (c : ModelCall) × IsCall call.now c
-            × ((s : StationModel) → RepresentsStation self.old.station s →
-            IsAnswerTo answer self.new.station (station_step s now c))) }
+    /// Makes a call of the applications as `Station::answer_own` does, and counts it. No limit applies
+    /// to it, and it takes nothing from one. A restart drops the frames that wait. `NoMemory` if an
+    /// allocation failed: nothing changed then but the counts.
+    pub fn answer_unlimited(&mut self, now: u64, call: &OwnCall) -> Result<StationAnswer, NoMemory>
+        requires { IsOwnInRange call.now }
+        ensures step { (u : UnitModel) → RepresentsUnit self.old u → IfOk result (λ answer.
+            SaysPassed TellsAnswer answer (unlimited_step u now (Own (own_of call.now))).answer
+            × RepresentsUnit self.new (unlimited_step u now (Own (own_of call.now))).unit) }
         ensures counts { self.new.counts
-            ≡ counted_answer (kind_sent call.now) result
-            (counted_call call.now self.old.counts) }
+            ≡ counted_answer (own_kind call.now) result self.old.counts }
         ensures limits { self.new.governor ≡ self.old.governor }
-        ensures unchanged { OnErr result (self.new.station ≡ self.old.station) }
+        ensures contention { self.new.contention ≡ after_line result self.old.contention }
+        ensures unchanged { OnErr result (IsSameUnit self.old self.new) }
     {
-        let answer = self.station.answer(now, call);
-        self.counts.note_answer(call, &answer);
+        let answer = self.station.answer_own(now, call);
+        note_own(&mut self.counts, call, &answer);
+        if let (Ok(Answer::Restarted), Some(contention)) = (&answer, &mut self.contention) {
+            contention.clear();
+        }
         answer
     }
 
-    /// Receives a frame that was read as `Station::receive_frame` does, and counts it. No limit applies
-    /// to it, and it takes nothing from one.
+    /// Receives a frame that was read of these octets as `receive_frame` does, but no limit applies to
+    /// it, and it takes nothing from one. It may wait or cancel frames that do, as any.
     pub fn receive_unlimited<'a, F: ReceivedFrame<'a>>(
         &mut self,
         now: u64,
+        octets: &[u8],
         frame: &F,
-    ) -> Result<Outcome<'a>, Refused>
-        ensures step { (s : StationModel) → RepresentsStation self.old.station s →
-            IsStepOf (TellsBy (F.Encodes frame.now)) result self.new.station
-            (station_step s now (Receive (F.frame frame.now))) }
-        ensures counts { self.new.counts ≡ counted result self.old.counts }
+    ) -> Result<Reaction<'a>, Refused>
+        ensures step { (say : Transmission → List ℕ) → AreSaid (F.Encodes frame.now) say →
+            octets.now ≡ say (F.frame frame.now) → (u : UnitModel) → RepresentsUnit self.old u →
+            IsReactionOf (TellsBy (F.Encodes frame.now)) result self.new
+            (unlimited_step_of say u now (F.frame frame.now)) }
+        ensures counts { self.new.counts ≡ counted_received result self.old.counts }
         ensures limits { self.new.governor ≡ self.old.governor }
-        ensures unchanged { OnErr result (self.new.station ≡ self.old.station) }
-        ensures payload { IfOk result (DeliversEndOf (payload_of (F.frame frame.now).pdu.body)) }
-        ensures short_frame { IfOk result (SendsAtMost (F.most frame.now)) }
+        ensures unchanged { OnErr result (IsSameUnit self.old self.new) }
+        ensures payload { IfOk result (λ r.
+            WherePassed (DeliversEndOf (payload_of (F.frame frame.now).pdu.body)) r.outcome) }
+        ensures short_frame { IfOk result (λ r.
+            WherePassed (SendsAtMost (F.most frame.now)) r.outcome) }
     {
-        let said = self.station.receive_frame(now, frame);
-        self.counts.note_received(&said);
+        let knew_source = self.knew(now, frame);
+        let said = match self.station.receive_frame(now, frame) {
+            Ok(outcome) => {
+                let left = contend(
+                    &mut self.contention,
+                    Limiting::Past,
+                    &self.governor,
+                    &self.station,
+                    now,
+                    octets,
+                    knew_source,
+                    frame,
+                    outcome,
+                );
+                let Left {
+                    outcome,
+                    due,
+                    cancelled,
+                } = left;
+                Ok(Reaction {
+                    outcome: UnitOutcome::Passed(outcome),
+                    due,
+                    cancelled,
+                })
+            }
+            Err(refused) => Err(refused),
+        };
+        self.note_received(&said);
         said
+    }
+
+    /// Whether the station knows the source of a frame, which is asked only if the unit contends.
+    fn knew<'a, F: ReceivedFrame<'a>>(&self, now: u64, frame: &F) -> bool
+        ensures { (s : StationModel) → RepresentsStation self.now.station s →
+            result ≡ is_some self.now.contention
+            && knows s now (F.frame frame.now).pdu.vector.address }
+    {
+        self.contention.is_some() && self.knows(now, frame.vector().address())
+    }
+
+    /// Receives a frame that was read of these octets, within the limits (`receive_frame`) or past them
+    /// (`receive_unlimited`).
+    pub fn receive_frame_by<'a, F: ReceivedFrame<'a>>(
+        &mut self,
+        limiting: Limiting,
+        now: u64,
+        octets: &[u8],
+        frame: &F,
+    ) -> Result<Reaction<'a>, Refused>
+        ensures step { (say : Transmission → List ℕ) → AreSaid (F.Encodes frame.now) say →
+            octets.now ≡ say (F.frame frame.now) → (u : UnitModel) → RepresentsUnit self.old u →
+            IsReactionOf (TellsBy (F.Encodes frame.now)) result self.new
+            (step_of_by limiting say u now (F.frame frame.now)) }
+        ensures counts { self.new.counts ≡ counted_received result self.old.counts }
+        ensures limits { AreKept limiting self.old.governor self.new.governor }
+        ensures unchanged { OnErr result (IsSameUnit self.old self.new) }
+        ensures payload { IfOk result (λ r.
+            WherePassed (DeliversEndOf (payload_of (F.frame frame.now).pdu.body)) r.outcome) }
+        ensures short_frame { IfOk result (λ r.
+            WherePassed (SendsAtMost (F.most frame.now)) r.outcome) }
+    {
+        match limiting {
+            Limiting::Within => self.receive_frame(now, octets, frame),
+            Limiting::Past => self.receive_unlimited(now, octets, frame),
+        }
     }
 
     /// Counts a frame that came, for which there was no memory.
     pub fn note_no_memory(&mut self)
         ensures { self.new ≡ record self.old {
-          counts = counted (Err Refused.NoMemory) self.old.counts;
+          counts = counted_received (Err Refused.NoMemory) self.old.counts;
         } }
     {
         self.counts.note_received(&Err(Refused::NoMemory));
+    }
+}
+
+/// Counts a call of the applications by its answer.
+fn note_own(counts: &mut Counts, call: &OwnCall, answer: &Result<StationAnswer, NoMemory>)
+    ensures { counts.new ≡ counted_answer (own_kind call.now) answer.now counts.old }
+{
+    match answer {
+        Ok(Answer::Sent(_)) => {
+            if let Some(kind) = own_kind(call) {
+                counts.note_sent(kind);
+            }
+        }
+        Ok(Answer::Ignored(why)) => counts.note_outcome(&Outcome::Ignored(*why)),
+        Ok(Answer::Accepted { handed, sent }) => {
+            counts.note_accepted(handed.is_some(), sent.is_some());
+        }
+        Ok(Answer::Refused(refused)) => counts.note_refused(*refused),
+        Ok(Answer::Moved | Answer::Opened | Answer::Closed | Answer::Restarted | Answer::Quiet) =>
+            {}
+        Err(_) => counts.note_refused(Refused::NoMemory),
+    }
+}
+
+/// The kind of packet that a call sends, if it sends one.
+fn own_kind(call: &OwnCall) -> Option<Kind>
+    ensures { result ≡ own_kind call.now }
+{
+    match call {
+        OwnCall::Tick(_) => Some(Kind::Beacon),
+        OwnCall::SendShb(_) => Some(Kind::Shb),
+        OwnCall::SendGeobroadcast(_) => Some(Kind::Gbc),
+        OwnCall::SendGeoanycast(_) => Some(Kind::Gac),
+        OwnCall::MoveTo { .. } | OwnCall::Open(_) | OwnCall::Close(_) | OwnCall::Restart(_) => None,
     }
 }

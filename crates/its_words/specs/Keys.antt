@@ -40,6 +40,11 @@ word_of keys.Loss = codes "loss"
 word_of keys.Seed = codes "seed"
 word_of keys.Beacons = codes "beacons"
 word_of keys.Until = codes "until"
+word_of keys.Contention = codes "contention"
+word_of keys.ContentionMax = codes "contention_max"
+word_of keys.ContentionMin = codes "contention_min"
+word_of keys.ContentionRange = codes "contention_range"
+word_of keys.ContentionCopies = codes "contention_copies"
 word_of keys.Period = codes "period"
 word_of keys.Octets = codes "octets"
 word_of keys.Send = codes "send"
@@ -69,6 +74,9 @@ least_of keys.B = pos 1
 least_of keys.Range = pos 1
 least_of keys.Period = pos 1
 least_of keys.Gone = pos 1
+least_of keys.ContentionMax = pos 1
+least_of keys.ContentionRange = pos 1
+least_of keys.ContentionCopies = pos 1
 least_of key = pos 0
 
 -- the greatest number that a key takes; 0 where its value is no number
@@ -110,6 +118,10 @@ most_of keys.Air = pos 0
 most_of keys.Every = pos 0
 most_of keys.Moves = pos 0
 most_of keys.Expect = pos 0
+most_of keys.Contention = pos 0
+most_of keys.ContentionMax = pos 1000
+most_of keys.ContentionMin = pos 1000
+most_of keys.ContentionCopies = pos 3
 most_of key = pos 65535
 
 -- the number is one that the key takes

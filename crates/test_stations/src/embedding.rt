@@ -5,13 +5,13 @@ mod known;
 mod mobile;
 mod roadside;
 
-use crate::vectors::{GEOBROADCAST, beacon_of};
 use its_faults::{Fault, FaultKind, FrameFault};
 use its_gnvalue::{GnAddress, Place};
 use its_loctable::SortedTable;
 use its_station::{Outcome, Refused, RefusedCode, Station};
 use std::alloc::{AllocError, Global};
 use std::test::Fail;
+use test_support::{GEOBROADCAST_OCTETS, beacon_of};
 
 /// What the example keeps.
 #[derive(Drop)]
@@ -71,7 +71,7 @@ fn kept_of_link(alloc: Global) -> Option<Kept> {
         (1001, &first),
         (999, &first),
         (1002, &ninth),
-        (1010, &GEOBROADCAST),
+        (1010, &GEOBROADCAST_OCTETS),
     ];
     let mut station = station_of_the_example(alloc)?;
     station.open(0, 2002).ok()?;

@@ -3,16 +3,10 @@
 #![tactic(auto)]
 
 #[cfg(test)]
-mod contention;
-#[cfg(test)]
 mod embedding;
 #[cfg(test)]
 mod endurance;
 #[cfg(test)]
 mod fates;
 #[cfg(test)]
-mod governor;
-#[cfg(test)]
 mod stations;
-#[cfg(test)]
-mod vectors;

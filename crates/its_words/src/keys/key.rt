@@ -77,6 +77,19 @@ pub enum Key {
     Beacons,
     /// The last time that is run, in milliseconds: 0 to 2^62.
     Until,
+    /// Whether stations contend before they forward a packet inside its area: true or false
+    /// (default false).
+    Contention,
+    /// The greatest wait of a station that contends, in milliseconds: 1 to 1000 (default 100).
+    ContentionMax,
+    /// The least wait of a station that contends, in milliseconds: 0 to 1000, and at most the
+    /// greatest (default 1).
+    ContentionMin,
+    /// The distance of the sender from which on the wait is the least: 1 to 65535 m (default 1000).
+    ContentionRange,
+    /// How many other stations have to have sent a frame that waits to cancel it: 1 to 3
+    /// (default 2).
+    ContentionCopies,
     /// The milliseconds from one send to the next: 1 to 4294967295.
     Period,
     /// The length of the payload in octets: 0 to 1394.
@@ -149,6 +162,11 @@ impl Key {
             Key::Seed => "seed",
             Key::Beacons => "beacons",
             Key::Until => "until",
+            Key::Contention => "contention",
+            Key::ContentionMax => "contention_max",
+            Key::ContentionMin => "contention_min",
+            Key::ContentionRange => "contention_range",
+            Key::ContentionCopies => "contention_copies",
             Key::Period => "period",
             Key::Octets => "octets",
             Key::Send => "send",
@@ -176,6 +194,7 @@ impl Key {
             Key::Speed => -16384,
             Key::Capacity | Key::Remember | Key::A | Key::B | Key::Range => 1,
             Key::Period | Key::Gone => 1,
+            Key::ContentionMax | Key::ContentionRange | Key::ContentionCopies => 1,
             _ => 0,
         }
     }
@@ -186,7 +205,7 @@ impl Key {
     {
         match self {
             Key::Address | Key::Do | Key::Pai | Key::Payload | Key::Shape | Key::Beacons => 0,
-            Key::Absent | Key::Id | Key::Mid | Key::Ports => 0,
+            Key::Absent | Key::Id | Key::Mid | Key::Ports | Key::Contention => 0,
             Key::Event | Key::Air | Key::Every | Key::Moves | Key::Expect => 0,
             Key::Lat | Key::Alat => 900_000_000,
             Key::Lon | Key::Alon => 1_800_000_000,
@@ -194,6 +213,8 @@ impl Key {
             Key::Capacity => 4096,
             Key::Remember => 64,
             Key::Loss => 100,
+            Key::ContentionMax | Key::ContentionMin => 1000,
+            Key::ContentionCopies => 3,
             Key::Tc | Key::Lt | Key::Hops => 255,
             Key::Angle => 359,
             Key::Frame | Key::Send | Key::Period | Key::Gone => 4_294_967_295,
@@ -208,14 +229,15 @@ impl Key {
     pub(crate) fn kind(self) -> &'static str {
         match self {
             Key::Address | Key::Do | Key::Payload | Key::Shape | Key::Id | Key::Mid => "a text",
-            Key::Pai | Key::Beacons | Key::Absent => "true or false",
+            Key::Pai | Key::Beacons | Key::Absent | Key::Contention => "true or false",
             Key::Reached => "a whole number or all",
             Key::Lat | Key::Lon | Key::Alat | Key::Alon => {
                 "a whole number of tenths of a microdegree: 481000000 is 48.1 degrees"
             }
-            Key::Range | Key::A | Key::B => "a whole number of metres",
+            Key::Range | Key::ContentionRange | Key::A | Key::B => "a whole number of metres",
             Key::At | Key::Until | Key::Delay | Key::Jitter => "a whole number of milliseconds",
             Key::Period | Key::Gone | Key::Begin | Key::Within => "a whole number of milliseconds",
+            Key::ContentionMax | Key::ContentionMin => "a whole number of milliseconds",
             Key::Loss => "a whole number of percent, from 0 to 100",
             Key::Speed => "a whole number of 0.01 m/s: 1390 is 13.9 m/s",
             Key::Heading => "a whole number of 0.1 degree: 900 is east",

@@ -14,6 +14,8 @@ pub enum Wrong {
     Kind,
     /// It is this whole number, which is out of the key's range.
     Range(i64),
+    /// It is this whole number, which is over the given one that bounds it.
+    Over(i64, u16),
     /// It is of the kind that the key takes, but not a value that the key takes.
     Value,
     /// It is not 0, as it has to be for a circle.
@@ -50,7 +52,10 @@ impl<T: fmt::Display> fmt::Display for WrongValue<T> {
     fn fmt<W: fmt::Write>(&self, f: &mut fmt::Formatter<W>) -> fmt::Result {
         let wrong = self.wrong;
         match (&self.value, wrong.1) {
-            (None, _) | (_, Wrong::Missing | Wrong::Range(_) | Wrong::NoStation(_)) => wrong.fmt(f),
+            (None, _) => wrong.fmt(f),
+            (_, Wrong::Missing | Wrong::Range(_) | Wrong::Over(..) | Wrong::NoStation(_)) => {
+                wrong.fmt(f)
+            }
             (Some(value), Wrong::Near(_)) => write!(f, "{value}: {wrong}"),
             (Some(value), _) => write!(f, "{value} is {wrong}"),
         }
@@ -66,6 +71,7 @@ fn explain<W: fmt::Write>(f: &mut fmt::Formatter<W>, key: Key, wrong: Wrong) -> 
         Wrong::Unlisted(verbs) => write!(f, "{}", NotOneOf(verbs.all())),
         Wrong::NoStation(number) => write!(f, "the scenario has no station {number}"),
         Wrong::Range(number) => { write!(f, "{number} is not in {}..={}", key.least(), key.most()) }
+        Wrong::Over(number, most) => write!(f, "{number} is over {most}"),
         Wrong::Value => match key.form() {
             Some(form) => write!(f, "not {form}"),
             None => write!(f, "not in {}..={}", key.least(), key.most()),

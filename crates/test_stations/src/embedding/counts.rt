@@ -3,7 +3,6 @@
 ghost use Rattle.its_station.specs.Runs.{IsInRange};
 
 use crate::stations::{circle, receiver, request};
-use crate::vectors::{GEOBROADCAST, beacon_of};
 use its_gnvalue::NoMemory;
 use its_headers::Kind;
 use its_loctable::SortedTable;
@@ -11,7 +10,7 @@ use its_station::{
     Call, Counts, GbcRequest, IgnoredCounts, OwnCall, RefusedCounts, SentCounts, Station,
 };
 use std::test::Fail;
-use test_support::PORT;
+use test_support::{GEOBROADCAST_OCTETS, PORT, beacon_of};
 
 type Unit = Station<SortedTable>;
 
@@ -87,11 +86,11 @@ fn counts_of_frames(station: &mut Unit) -> Counts {
     let beacon = beacon_of(5);
     let mut counts = Counts::new();
     for (now, octets) in [
-        (1000, GEOBROADCAST.as_slice()),
-        (1001, &GEOBROADCAST),
+        (1000, GEOBROADCAST_OCTETS.as_slice()),
+        (1001, &GEOBROADCAST_OCTETS),
         (1002, &beacon),
         (1003, &[]),
-        (0, &GEOBROADCAST),
+        (0, &GEOBROADCAST_OCTETS),
     ] {
         receive(&mut counts, station, now, octets);
     }
@@ -196,7 +195,7 @@ static OF_REPLIES: Counts = Counts {
 
 #[test]
 fn replies_are_counted_as_what_they_tell(rt: HostRuntime) -> Result<(), Fail> {
-    let octets = Vec::from_slice(rt.alloc(), &GEOBROADCAST)?;
+    let octets = Vec::from_slice(rt.alloc(), &GEOBROADCAST_OCTETS)?;
     let mut station = receiver(rt.alloc())?;
     let counts = counts_of_replies(&mut station, octets, Vec::new(rt.alloc()));
     assert_eq!(rt; counts, OF_REPLIES);

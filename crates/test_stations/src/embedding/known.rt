@@ -2,14 +2,13 @@
 
 use crate::fates::{Fate, fate_of};
 use crate::stations::{circle, receiver, request};
-use crate::vectors::{GEOBROADCAST, beacon_of};
 use its_gnvalue::{GnAddress, Place};
 use its_linkframe::{FrameView, read_frame};
 use its_loctable::{LocationStore, OrderedTable, SortedTable};
 use its_station::{FrameContents, GbcRequest, KnownFrame, Outcome, Station};
 use std::alloc::Global;
 use std::test::Fail;
-use test_support::{FIRST, PORT, SECOND};
+use test_support::{FIRST, GEOBROADCAST_OCTETS, PORT, SECOND, beacon_of};
 
 /// Whether a frame is delivered, as "hi" for `PORT`, and relayed in 76 octets.
 fn is_delivered(station: &mut Station<SortedTable>, now: u64, frame: &FrameView<'_>) -> bool {
@@ -31,7 +30,7 @@ fn is_refused(station: &mut Station<SortedTable>, now: u64, frame: &FrameView<'_
 /// The frame is delivered and relayed once, and refused at a moment of the past.
 #[test]
 fn a_frame_is_read_once(rt: HostRuntime) -> Result<(), Fail> {
-    let frame = read_frame(&GEOBROADCAST)?;
+    let frame = read_frame(&GEOBROADCAST_OCTETS)?;
     let mut station = receiver(rt.alloc())?;
     assert!(rt; frame.packet.vector().address().as_u64() == FIRST);
     assert!(rt; is_delivered(&mut station, 1000, &frame));
@@ -66,7 +65,7 @@ fn is_known_refused<S: LocationStore>(
 
 /// Whether two stations receive a frame that is read once, and one refuses it at a time of the past.
 fn are_served(sorted: &mut Station<SortedTable>, ordered: &mut Station<OrderedTable>) -> bool {
-    let octets = GEOBROADCAST.as_slice();
+    let octets = GEOBROADCAST_OCTETS.as_slice();
     let Ok(contents) = FrameContents::read(octets) else {
         return false;
     };
@@ -163,7 +162,7 @@ fn hears<S: LocationStore>(station: &mut Station<S>) -> bool {
             return false;
         }
     }
-    fate_of(station, 1010, &GEOBROADCAST) == Fate::DeliveredAndRelayed
+    fate_of(station, 1010, &GEOBROADCAST_OCTETS) == Fate::DeliveredAndRelayed
 }
 
 /// Whether the ends of the addresses of the neighbours after 21 s are these.

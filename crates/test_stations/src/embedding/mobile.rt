@@ -1,13 +1,12 @@
 //! The flag by which a station's packets say that it is mobile (EN 302 636-4-1, Common Header).
 
 use crate::stations::{circle, receiver, request};
-use crate::vectors::GEOBROADCAST;
 use its_gnvalue::TrafficClass;
 use its_loctable::{LocationStore, OrderedTable, SortedTable};
 use its_station::{GbcRequest, Outcome, ShbRequest, Station};
 use std::alloc::Global;
 use std::test::Fail;
-use test_support::{LINK, PORT};
+use test_support::{GEOBROADCAST_OCTETS, LINK, PORT};
 
 /// Where the flags stand in a frame.
 const FLAGS: usize = LINK + 7;
@@ -55,7 +54,7 @@ fn of_beacon<S: LocationStore>(station: &mut Station<S>, now: u64) -> Option<u8>
 
 /// The flags of the relay of what a mobile source sent.
 fn of_relay<S: LocationStore>(station: &mut Station<S>, now: u64) -> Option<u8> {
-    match station.receive(now, &GEOBROADCAST) {
+    match station.receive(now, &GEOBROADCAST_OCTETS) {
         Ok(Outcome::Accepted { sent, .. }) => flags_of(sent),
         Ok(Outcome::Ignored(_)) | Err(_) => None,
     }

@@ -5,14 +5,13 @@ ghost use Rattle.its_station.specs.Runs.{IsOwnInRange};
 
 use crate::fates::{DUPLICATE, Fate, gives, gives_of_frame};
 use crate::stations::{circle, receiver};
-use crate::vectors::GEOBROADCAST;
 use its_btp::PortFault;
 use its_gnvalue::{Lifetime, Place, TrafficClass};
 use its_loctable::{LocationStore, OrderedTable, SortedTable};
 use its_station::{Call, OwnCall, OwnedGbcRequest, OwnedShbRequest, Refused, Station};
 use std::alloc::Global;
 use std::test::Fail;
-use test_support::PORT;
+use test_support::{GEOBROADCAST_OCTETS, PORT};
 
 const OPEN_TWICE: Fate = Fate::Refused(Refused::Port(PortFault::AlreadyOpen));
 
@@ -53,11 +52,16 @@ fn moves<S: LocationStore>(near: &mut Station<S>) -> bool {
 
 /// The same frame comes inside of its area, again, and outside after a restart.
 fn receives<S: LocationStore>(alloc: Global, near: &mut Station<S>) -> bool {
-    gives_of_frame(alloc, near, 1010, &GEOBROADCAST, Fate::DeliveredAndRelayed)
-        && gives_of_frame(alloc, near, 1011, &GEOBROADCAST, DUPLICATE)
+    gives_of_frame(
+        alloc,
+        near,
+        1010,
+        &GEOBROADCAST_OCTETS,
+        Fate::DeliveredAndRelayed,
+    ) && gives_of_frame(alloc, near, 1011, &GEOBROADCAST_OCTETS, DUPLICATE)
         && moves(near)
         && does(near, 1013, OwnCall::Restart(7), Fate::Done)
-        && gives_of_frame(alloc, near, 1014, &GEOBROADCAST, Fate::Relayed)
+        && gives_of_frame(alloc, near, 1014, &GEOBROADCAST_OCTETS, Fate::Relayed)
 }
 
 fn ticks<S: LocationStore>(near: &mut Station<S>) -> bool {

@@ -2,10 +2,10 @@
 
 use crate::fates::{Fate, fate_of};
 use crate::stations::receiver;
-use crate::vectors::beacon_of_many;
 use its_loctable::{LocationStore, OrderedTable, SortedTable};
 use its_station::{Refused, Station};
 use std::test::Fail;
+use test_support::beacon_of_many;
 
 const SOURCES: u16 = 10_000;
 

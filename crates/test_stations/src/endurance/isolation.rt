@@ -2,13 +2,12 @@
 
 use crate::fates::{DUPLICATE, Fate, SHORT, are_fates, fate_of, gives, gives_of_frame, run};
 use crate::stations::{receiver, station_of};
-use crate::vectors::{GEOBROADCAST, beacon_of};
 use its_loctable::{LocationStore, OrderedTable, SortedTable};
 use its_station::{Call, OwnCall, Station};
 use std::alloc::Global;
 use std::process::Abort;
 use std::test::Fail;
-use test_support::{PORT, SECOND};
+use test_support::{GEOBROADCAST_OCTETS, PORT, SECOND, beacon_of};
 
 /// What is no frame.
 const JUNK: [u8; 3] = [0, 1, 2];
@@ -48,10 +47,10 @@ fn is_so_alone<S: LocationStore>(near: &mut Station<S>, packet: Vec<u8>, again: 
 /// The packet, junk, the beacon and the packet again, each with its moment and what becomes of it.
 fn frames_of<'a>(beacon: &'a [u8]) -> [(u64, &'a [u8], Fate); 4] {
     [
-        (1010, &GEOBROADCAST, Fate::DeliveredAndRelayed),
+        (1010, &GEOBROADCAST_OCTETS, Fate::DeliveredAndRelayed),
         (1011, &JUNK, SHORT),
         (1012, beacon, Fate::Kept),
-        (1013, &GEOBROADCAST, DUPLICATE),
+        (1013, &GEOBROADCAST_OCTETS, DUPLICATE),
     ]
 }
 
@@ -84,17 +83,17 @@ fn with_others<S: LocationStore>(
     near: &mut Station<S>,
     beacon: &[u8],
 ) -> Option<bool> {
-    let packet = Vec::from_slice(alloc, &GEOBROADCAST).ok()?;
+    let packet = Vec::from_slice(alloc, &GEOBROADCAST_OCTETS).ok()?;
     let junk = Vec::from_slice(alloc, &JUNK).ok()?;
     let beacon = Vec::from_slice(alloc, beacon).ok()?;
-    let again = Vec::from_slice(alloc, &GEOBROADCAST).ok()?;
+    let again = Vec::from_slice(alloc, &GEOBROADCAST_OCTETS).ok()?;
     Some(is_so_with_others(near, packet, junk, beacon, again))
 }
 
 /// Alone, in one run.
 fn alone<S: LocationStore>(alloc: Global, near: &mut Station<S>) -> Option<bool> {
-    let packet = Vec::from_slice(alloc, &GEOBROADCAST).ok()?;
-    let again = Vec::from_slice(alloc, &GEOBROADCAST).ok()?;
+    let packet = Vec::from_slice(alloc, &GEOBROADCAST_OCTETS).ok()?;
+    let again = Vec::from_slice(alloc, &GEOBROADCAST_OCTETS).ok()?;
     Some(is_so_alone(near, packet, again))
 }
 

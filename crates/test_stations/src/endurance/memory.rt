@@ -2,13 +2,12 @@
 
 use crate::fates::{DUPLICATE, Fate, SHORT, fate_of};
 use crate::stations::receiver;
-use crate::vectors::{GEOBROADCAST, beacon_of, geobroadcast_of};
 use its_loctable::{LocationStore, OrderedTable, SortedTable};
 use its_station::{Refused, Station, Why};
 use std::alloc::Global;
 use std::process::Abort;
 use std::test::Fail;
-use test_support::{LINK, MOST, STEP, Shortage};
+use test_support::{GEOBROADCAST_OCTETS, LINK, MOST, STEP, Shortage, beacon_of, geobroadcast_of};
 
 /// What becomes of the second packet of the source, which goes on.
 fn fate_of_new<S: LocationStore>(near: &mut Station<S>, now: u64) -> Fate {
@@ -39,7 +38,7 @@ fn to_another() -> [u8; 76] {
 /// What takes no memory of the same source: a duplicate, a packet with its last hop, a geoanycast,
 /// a beacon.
 fn accepted_takes_none<S: LocationStore>(near: &mut Station<S>) -> bool {
-    fate_of(near, 1011, &GEOBROADCAST) == DUPLICATE
+    fate_of(near, 1011, &GEOBROADCAST_OCTETS) == DUPLICATE
         && fate_of(near, 1011, &last_hop()) == Fate::Delivered
         && fate_of(near, 1011, &anycast()) == Fate::Delivered
         && fate_of(near, 1011, &beacon_of(1)) == Fate::Kept
@@ -78,7 +77,7 @@ fn is_one_allocation<S: LocationStore>(
     alloc: Global,
     near: &mut Station<S>,
 ) -> Result<(), Fail> {
-    assert!(rt; fate_of(near, 1010, &GEOBROADCAST) == Fate::DeliveredAndRelayed);
+    assert!(rt; fate_of(near, 1010, &GEOBROADCAST_OCTETS) == Fate::DeliveredAndRelayed);
     let mut shortage = Shortage::new(alloc)?;
     assert!(rt; shortage.leave(0));
     assert!(rt; accepted_takes_none(near) && refused_takes_none(near));

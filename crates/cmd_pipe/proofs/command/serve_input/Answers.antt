@@ -1,13 +1,15 @@
-use Rattle.std.proofs.Common.{rules, ◌≡◌, ◌∙◌, ℕ, List, [], Option, Some, None, refl, ap, subst}
+use Rattle.std.proofs.Common.{rules, ◌≡◌, ◌∙◌, ℕ, List, [], Option, Some, None, refl, sym, ap, subst}
 use Rattle.std.proofs.Common.{if◌then◌else◌, ◌==◌, Ok, Err}
 use Rattle.std.specs.Prelude.{IfOk, Result}
 use Rattle.std.specs.Io.Buffered.{reader_buffer, reader_capacity, reader_inner, reader_remaining}
 use Rattle.std.specs.Io.KnownBytes.{prepend_known}
 use Rattle.std.specs.declared.io.buffered.BufReader.{BufReader}
-use Rattle.its_station.specs.declared.counts.Counts.{Counts}
-use Rattle.its_station.specs.State.{StationState}
+use Rattle.its_model.specs.Contention.{ContentionRule}
+use Rattle.its_governor.specs.Governing.{IsNewGovernor}
+use Rattle.its_governor.specs.declared.governor.Governor.{Governor}
+use Rattle.its_unit.specs.Unit.{UnitState}
 use Rattle.its_world.specs.declared.config.Config.{Config}
-use Rattle.cmd_pipe.specs.Serving.{IsServed, ServesInput, beginning}
+use Rattle.cmd_pipe.specs.Serving.{IsServed, ServesInput, beginning, no_limits}
 use Rattle.cmd_pipe.specs.declared.ended.Ended.{Ended}
 use Rattle.its_lines.specs.declared.response.Response.{Response}
 use Rattle.cmd_pipe.proofs.command.serve_input.Goals as goal
@@ -26,15 +28,17 @@ all_left remaining r inner is empty capacity =
     ∙ ap (λ (b : List ℕ). prepend_known b (remaining r.inner)) empty
     ∙ behind_nothing (remaining r.inner) ∙ ap remaining is
 
-served : {E : Type 0} (config : Config) (station : StationState) (counts : Counts)
-    (Took : List Response → Type 0) (input whole : Option (List ℕ)) (r : Result Ended E)
-    → input ≡ whole
-    → IfOk r (λ ended. IsServed (beginning config) station counts ended Took input)
-    → IfOk r (λ ended. ServesInput config ended whole)
-served config station counts Took input whole (Err e) is h = tt
-served config station counts Took input whole (Ok ended) is h =
-    subst (ServesInput config ended) is
+served : {E : Type 0} (config : Config) (rule : Option ContentionRule) (governor : Governor)
+    (st : UnitState) (Took : List Response → Type 0) (input whole : Option (List ℕ))
+    (r : Result Ended E) → IsNewGovernor no_limits governor → input ≡ whole
+    → IfOk r (λ ended. IsServed (beginning config rule governor) st ended Took input)
+    → IfOk r (λ ended. ServesInput config rule ended whole)
+served config rule governor st Took input whole (Err e) new is h = tt
+served config rule governor st Took input whole (Ok ended) new is h =
+    subst (ServesInput config rule ended) is
     (record {
+      governor = governor;
+      limits_are = new;
       lines = h.lines;
       lines_are = h.lines_are;
       told = h.told;
@@ -50,7 +54,15 @@ returns g c =
     let inner = subst (λ r. IfOk r (λ r. reader_inner r ≡ c.args.input)) gave c.new.ensures.inner in
     let empty = subst (λ r. IfOk r (λ r. reader_buffer r ≡ [])) gave c.new.ensures.empty in
     let room = subst (λ r. IfOk r (λ r. reader_capacity r ≡ 8192)) gave c.new.ensures.capacity in
-    served c.args.config.now c.serve.new.unit.station c.serve.new.unit.counts _
+    let unit = c.in_ok-unit in
+    served c.args.config.now c.args.rule unit.unit.governor c.serve.new.unit _
     (reader_remaining g.R.Read.remaining reader) (g.R.Read.remaining c.args.input) c.serve.result
-    (all_left g.R.Read.remaining reader c.args.input inner empty room)
-    (c.serve.ensures (beginning c.args.config.now) (c.in_ok-unit.ensures.station, c.in_ok-unit.ensures.counts) tt)
+    unit.ensures.limits (all_left g.R.Read.remaining reader c.args.input inner empty room)
+    (c.serve.ensures (beginning c.args.config.now c.args.rule unit.unit.governor) (
+      record {
+        station = unit.ensures.station;
+        contention = sym unit.ensures.contention;
+        governor = refl;
+      },
+      unit.ensures.counts,
+    ) tt)

@@ -8,7 +8,7 @@ pub loop-number-init : goal.loop-number-init
 loop-number-init g c = (
   c.in_ok-line.ensures,
   λ s rep took.
-      serving_none s c.args.unit.now.station c.args.unit.now.counts (g.S.ResponseSink.Took c.args.sink.now)
+      serving_none s c.args.unit.now (g.S.ResponseSink.Took c.args.sink.now)
       (g.R.Read.remaining c.args.reader.now) rep took,
 )
 
@@ -20,7 +20,7 @@ returns-then-not-branch g c = λ s rep took.
     let left = g.R.Read.remaining c.loop-number.reader in
     let rest = g.R.Read.remaining c.read.new.reader in
     let serving = c.loop-number.invariant.1 s rep took in
-    serving_all s c.loop-number.number c.loop-number.unit.station c.loop-number.unit.counts
+    serving_all s c.loop-number.number c.loop-number.unit
     c.loop-number.ended (g.S.ResponseSink.Took c.loop-number.sink) input left serving
     (before_end input left rest serving.served.lines c.read.new.self
     (read_of left rest c.read.new.self c.read.result false c.read.ensures.line (gave ∙ ap Ok none)))
@@ -35,8 +35,7 @@ loop-number-preserved g c = (
       let left = g.R.Read.remaining c.loop-number.reader in
       let rest = g.R.Read.remaining c.read.new.reader in
       let before = c.loop-number.invariant.1 s rep took in
-      serving_more s c.loop-number.number c.loop-number.unit.station c.serve_line.new.unit.station
-      c.loop-number.unit.counts c.serve_line.new.unit.counts
+      serving_more s c.loop-number.number c.loop-number.unit c.serve_line.new.unit
       c.loop-number.ended c.in_ok-next.next (g.S.ResponseSink.Took c.loop-number.sink)
       (g.S.ResponseSink.Took c.serve_line.new.sink) (text_of c.read.new.self) input left rest before
       (before_more input left rest before.served.lines c.read.new.self

@@ -1,6 +1,5 @@
 use Rattle.std.proofs.Common.{◌≡◌, []}
-use Rattle.its_lines.specs.Knowing.{Counted}
-use Rattle.its_lines.specs.Serving.{RepresentsCounted}
+use Rattle.cmd_pipe.specs.Serving.{CountedUnit, IsCounted}
 use Rattle.cmd_pipe.proofs.Served.{Serving}
 use Rattle.cmd_pipe.proofs.serving.serve.Given as goal
 
@@ -8,7 +7,7 @@ use Rattle.cmd_pipe.proofs.serving.serve.Given as goal
 abbrev pub invariant-loop-number : goal.invariant-loop-number
 invariant-loop-number g l =
     (l.line.most ≡ 65536)
-    × ((s : Counted) → RepresentsCounted l.fn.unit.station l.fn.unit.counts s
+    × ((s : CountedUnit) → IsCounted l.fn.unit s
     → g.S.ResponseSink.Took l.fn.sink []
-    → Serving s l.number l.unit.station l.unit.counts l.ended (g.S.ResponseSink.Took l.sink)
+    → Serving s l.number l.unit l.ended (g.S.ResponseSink.Took l.sink)
     (g.R.Read.remaining l.fn.reader) (g.R.Read.remaining l.reader))

@@ -1,22 +1,24 @@
 use Rattle.std.proofs.Common.{rules, subst, Err}
-use Rattle.its_linkframe.specs.Frames.{transmission_of}
+use Rattle.its_linkframe.specs.Frames.{frame_octets, transmission_of}
 use Rattle.its_model.specs.Calls.Call.{Receive as IsReceived, Junk}
 use Rattle.its_station.specs.Receiving.{Tells}
 use Rattle.its_unit.specs.Unit.{unit_step, Receive}
-use Rattle.its_unit.specs.Steps.{TellsUnit, counted_received}
+use Rattle.its_unit.specs.Steps.{counted_received}
 use Rattle.its_unit.proofs.Passing.{passed_end}
 use Rattle.its_c.specs.Told.{ShowsReceived}
 use Rattle.its_c.specs.declared.layout.Reception.{Reception}
-use Rattle.its_c.proofs.Opens.{counts_held, held_unit, same_open, stays_open}
+use Rattle.its_c.proofs.Opens.{counts_held, held_unit, reacts_open, same_open}
 use Rattle.its_c.proofs.receiving.geostation_receive.Goals as goal
 
 pub invariant_of-s : goal.invariant_of-s
 invariant_of-s c =
     record {
-      represents = stays_open (TellsUnit Tells) c.receive_frame-said.result c.deref_mut.result.now
+      represents = reacts_open Tells c.receive_frame-said.result c.deref_mut.result.now
           c.receive_frame-said.new.self
           (λ u. unit_step u c.args.now (Receive (IsReceived (transmission_of c.in-Ok.view))))
-          c.args.s.now.held.unit c.put.new.self.unit c.receive_frame-said.ensures.step
+          c.args.s.now.held.unit c.put.new.self.unit
+          (c.receive_frame-said.ensures.step frame_octets (λ t w encodes. encodes.octets)
+          (rw c.in-Ok.is at c.read_unpadded-frame.ensures.found).octets)
           c.receive_frame-said.ensures.unchanged (search rules) (search rules)
           c.args.s.now.represents;
     }
@@ -46,7 +48,9 @@ returns-in-Ok-clause-step c =
                 said = said;
                 after = c.receive_frame-said.new.self;
                 held = search rules;
-                done = c.receive_frame-said.ensures.step u rep;
+                done = c.receive_frame-said.ensures.step frame_octets
+                    (λ t w encodes. encodes.octets)
+                    (rw c.in-Ok.is at c.read_unpadded-frame.ensures.found).octets u rep;
                 code = search rules;
                 shown = subst (λ (r : Reception). ShowsReceived w r c.told_outcome.new.reception
                     c.told_outcome.new.relay said) c.reception_of-heard.ensures

@@ -2,22 +2,25 @@ use Rattle.std.proofs.Common.{refl, rules, subst, sym, ap, ◌∙◌, Err}
 use Rattle.its_model.specs.Calls.Call.{Receive as IsReceived}
 use Rattle.its_station.specs.Receiving.{EncodesSealed, TellsBy}
 use Rattle.its_station.specs.Receiving.VerifiedCall.{Came, Faulty}
-use Rattle.its_unit.specs.Unit.{unit_step, Receive}
-use Rattle.its_unit.specs.Steps.{TellsUnit, counted_received}
+use Rattle.its_unit.specs.Contending.{verified_octets}
+use Rattle.its_unit.specs.Unit.{unit_step, ReceiveVerified}
+use Rattle.its_unit.specs.Steps.{counted_received}
 use Rattle.its_unit.proofs.Passing.{verified_passed_end}
 use Rattle.its_c.specs.Told.{IsHeard, ShowsReceived, reception_of}
 use Rattle.its_c.specs.declared.layout.Reception.{Reception}
-use Rattle.its_c.proofs.Opens.{counts_held, held_unit, same_open, stays_open}
+use Rattle.its_c.proofs.Opens.{counts_held, held_unit, reacts_open, same_open}
 use Rattle.its_c.proofs.receiving.geostation_receive_verified.Goals as goal
 
 pub invariant_of-s : goal.invariant_of-s
 invariant_of-s c =
     let v = c.in-Ok.verified in
     record {
-      represents = stays_open (TellsUnit (TellsBy (EncodesSealed v.message)))
+      represents = reacts_open (TellsBy (EncodesSealed v.message))
           c.receive_frame-said.result c.deref_mut.result.now c.receive_frame-said.new.self
-          (λ u. unit_step u c.args.now (Receive (IsReceived v.frame))) c.args.s.now.held.unit
-          c.put.new.self.unit c.receive_frame-said.ensures.step
+          (λ u. unit_step u c.args.now (ReceiveVerified (Came v))) c.args.s.now.held.unit
+          c.put.new.self.unit
+          (c.receive_frame-said.ensures.step (verified_octets (Came v))
+          (λ t w encodes. encodes.octets) c.in-Ok.ensures.found.secured.octets)
           c.receive_frame-said.ensures.unchanged (search rules) (search rules)
           c.args.s.now.represents;
     }
@@ -48,7 +51,8 @@ returns-in-Ok-clause-step c =
                 said = said;
                 after = c.receive_frame-said.new.self;
                 held = search rules;
-                done = c.receive_frame-said.ensures.step u rep;
+                done = c.receive_frame-said.ensures.step (verified_octets (Came v))
+                    (λ t w encodes. encodes.octets) c.in-Ok.ensures.found.secured.octets u rep;
                 code = search rules;
                 shown = subst (λ (r : Reception). ShowsReceived c.args.plain.now r
                     c.told_outcome.new.reception c.told_outcome.new.relay said)

@@ -14,4 +14,7 @@ returns-in_default-2 c =
     let receive : ¬ IsWord (view c.args.members.now.0.now) (codes "receive") =
     not_word (view c.args.members.now.0.now) c.args.word line_words.Receive
     c.requires.none (λ some. search rules) in
-    not_secured (view c.args.members.now.0.now) seal receive
+    let release : ¬ IsWord (view c.args.members.now.0.now) (codes "release") =
+    not_word (view c.args.members.now.0.now) c.args.word line_words.Release
+    c.requires.none (λ some. search rules) in
+    not_secured (view c.args.members.now.0.now) seal release receive

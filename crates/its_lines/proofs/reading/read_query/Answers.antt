@@ -26,4 +26,8 @@ returns-in_default-clause-none c =
     let seal : ¬ IsWord (view c.args.members.now.0.now) (codes "seal") =
     not_word (view c.args.members.now.0.now) c.args.word line_words.Seal
     c.requires.none (λ some. search rules) in
+    let next_due : ¬ IsWord (view c.args.members.now.0.now) (codes "next_due") =
+    not_word (view c.args.members.now.0.now) c.args.word line_words.NextDue
+    c.requires.none (λ some. search rules) in
     not_query (view c.args.members.now.0.now) next_beacon neighbours look_up read_frame counts seal
+    next_due

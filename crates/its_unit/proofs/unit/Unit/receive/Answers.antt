@@ -1,5 +1,5 @@
 use Rattle.its_model.specs.Calls.{Receive, Junk}
-use Rattle.its_linkframe.specs.Frames.{transmission_of}
+use Rattle.its_linkframe.specs.Frames.{frame_octets, transmission_of}
 use Rattle.its_unit.proofs.Passing.{passed_end}
 use Rattle.its_unit.proofs.unit.Unit.receive.Goals as goal
 
@@ -7,7 +7,8 @@ pub returns-in-Ok-clause-step : goal.returns-in-Ok-clause-step
 returns-in-Ok-clause-step g c = (
   Receive (transmission_of c.in-Ok.view),
   c.in-Ok.ensures.found,
-  c.receive_frame.ensures.step,
+  c.receive_frame.ensures.step frame_octets (λ t w encodes. encodes.octets)
+      c.in-Ok.ensures.found.octets,
 )
 
 pub returns-in-Ok-clause-payload : goal.returns-in-Ok-clause-payload

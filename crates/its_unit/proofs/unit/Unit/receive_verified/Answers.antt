@@ -1,4 +1,5 @@
 use Rattle.its_station.specs.Receiving.VerifiedCall.{Came, Faulty}
+use Rattle.its_unit.specs.Contending.{verified_octets}
 use Rattle.its_unit.proofs.Passing.{verified_passed_end}
 use Rattle.its_unit.proofs.unit.Unit.receive_verified.Goals as goal
 
@@ -6,7 +7,8 @@ pub returns-in-Ok-clause-step : goal.returns-in-Ok-clause-step
 returns-in-Ok-clause-step g c = (
   Came c.in-Ok.verified,
   c.in-Ok.ensures.found,
-  c.receive_frame.ensures.step,
+  c.receive_frame.ensures.step (verified_octets (Came c.in-Ok.verified))
+      (λ t w encodes. encodes.octets) c.in-Ok.ensures.found.secured.octets,
 )
 
 pub returns-in-Ok-clause-payload : goal.returns-in-Ok-clause-payload

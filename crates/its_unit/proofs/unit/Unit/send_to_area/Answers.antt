@@ -28,6 +28,7 @@ returns-clause-step g c = λ u rep.
     (area_step said u c.args.now c.args.self.now c.note_request.new.self
     (kind_of_cast c.args.cast) (gbc_request c.args.r.now) rep
     (sym c.is_over_rate.ensures ∙ c.if-is_over_rate.false)
+    (note.contention ∙ ap (λ (st : UnitState). st.contention) c.self.view_is)
     (subst (λ (st : StationState).
     IsStepOf TellsSent said st (station_step u.station c.args.now (Own call))) (sym note.station)
     (c.send_to_area-said.ensures.step u.station

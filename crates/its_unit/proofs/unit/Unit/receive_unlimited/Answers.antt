@@ -1,0 +1,98 @@
+use Rattle.std.proofs.Common.{◌≡◌, ◌∙◌, ◌&&◌, List, ℕ, is_some, refl, rules, sym, subst}
+use Rattle.std.specs.Prelude.{Result, IfOk}
+use Rattle.its_headers.specs.Encoding.{payload_of}
+use Rattle.its_model.specs.Calls.Call.{Receive}
+use Rattle.its_model.specs.Station.{station_step}
+use Rattle.its_station.specs.State.{RepresentsStation, StationState}
+use Rattle.its_station.specs.Steps.{IsRefusedStep}
+use Rattle.its_station.specs.Receiving.{DeliversEndOf, SendsAtMost, TellsBy}
+use Rattle.its_station.specs.declared.refused.Refused.{Refused}
+use Rattle.its_gnvalue.specs.Values.{mid_of}
+use Rattle.its_unit.specs.Contending.{cancels}
+use Rattle.its_unit.specs.declared.outcome.Reaction.{Reaction}
+use Rattle.its_unit.specs.declared.outcome.UnitOutcome.TheVariants as units
+use Rattle.its_unit.specs.Steps.{IsReactionOf, WherePassed}
+use Rattle.its_unit.specs.Unit.{RepresentsUnit, UnitState, knows, unlimited_step_of}
+use Rattle.its_unit.proofs.Contended.{accepted_in_time, past_limits, refused_past}
+use Rattle.its_unit.proofs.unit.Unit.receive_unlimited.Goals as goal
+use Rattle.its_unit.proofs.unit.Unit.receive_unlimited.Goals.{in-Ok, in-Err}
+
+pub returns-clause-payload : goal.returns-clause-payload
+returns-clause-payload g c =
+    let w = payload_of (g.F.ReceivedFrame.frame c.args.frame.now).pdu.body in
+    elim c.match-receive_frame.branch [
+      | in-Ok b ↦ subst (λ (x : Result Reaction Refused).
+          IfOk x (λ r. WherePassed (DeliversEndOf w) r.outcome))
+          (sym b.said-is) (b.contend-left.ensures.payload w b.in-Ok.ensures.payload)
+      | in-Err b ↦ subst (λ (x : Result Reaction Refused).
+          IfOk x (λ r. WherePassed (DeliversEndOf w) r.outcome))
+          (sym b.said-is) tt
+    ]
+
+pub returns-clause-short_frame : goal.returns-clause-short_frame
+returns-clause-short_frame g c =
+    let most = g.F.ReceivedFrame.most c.args.frame.now in
+    elim c.match-receive_frame.branch [
+      | in-Ok b ↦ subst (λ (x : Result Reaction Refused).
+          IfOk x (λ r. WherePassed (SendsAtMost most) r.outcome))
+          (sym b.said-is) (b.contend-left.ensures.short_frame most b.in-Ok.ensures.short_frame)
+      | in-Err b ↦ subst (λ (x : Result Reaction Refused).
+          IfOk x (λ r. WherePassed (SendsAtMost most) r.outcome))
+          (sym b.said-is) tt
+    ]
+
+pub returns-clause-step : goal.returns-clause-step
+returns-clause-step g c = λ say said octets u rep.
+    let encodes = g.F.ReceivedFrame.Encodes c.args.frame.now in
+    let t = g.F.ReceivedFrame.frame c.args.frame.now in
+    let now = c.args.now in
+    let new = c.note_received.new.self in
+    let step = station_step u.station now (Receive t) in
+    let in_time = accepted_in_time u.station now t in
+    let old : UnitState = record {
+      station = c.self.inside.station;
+      contention = c.self.inside.contention;
+      governor = c.self.inside.governor;
+      counts = c.self.inside.counts;
+    } in
+    let seen : c.args.self.now ≡ old = search rules in
+    let held : RepresentsUnit old u = subst (λ (x : UnitState). RepresentsUnit x u) seen rep in
+    elim c.match-receive_frame.branch [
+      | in-Ok b ↦
+          let told = b.in-Ok.ensures.step u.station held.station in
+          let stands : new.station ≡ c.receive_frame.new.self = search rules in
+          let waits : new.contention ≡ b.contend-left.new.waiting = search rules in
+          let limits : new.governor ≡ old.governor = search rules in
+          let left = b.contend-left.result in
+          let reaction : Reaction = record {
+            outcome = units.Passed left.outcome;
+            due = left.due;
+            cancelled = left.cancelled;
+          } in
+          subst (λ (r : Result Reaction Refused).
+          IsReactionOf (TellsBy encodes) r new (unlimited_step_of say u now t)) (sym b.said-is)
+          (past_limits encodes say u now t left.outcome reaction c.knew-knew_source.result old new held
+          (subst (λ (x : UnitState). c.knew-knew_source.result
+          ≡ (is_some x.contention && knows u.station now t.pdu.vector.address)) seen
+          (c.knew-knew_source.ensures u.station rep.station))
+          (subst (λ (s : StationState). RepresentsStation s step.station) (sym stands) told.1)
+          (b.contend-left.ensures.told step.station step.answer told.1 in_time told.0)
+          refl
+          (b.contend-left.ensures.due step.station step.answer told.1 in_time told.0)
+          (subst (λ (w : List ℕ). left.cancelled ≡ cancels old.contention
+          (mid_of step.station.address) w t.link_source step.answer) octets
+          (b.contend-left.ensures.cancelled step.station step.answer told.1 in_time told.0))
+          (waits ∙ b.contend-left.ensures.waiting step.station step.answer say told.1 in_time told.0
+          said octets)
+          limits)
+      | in-Err b ↦
+          let stands : new.station ≡ c.receive_frame.new.self = search rules in
+          let waits : new.contention ≡ old.contention = search rules in
+          let limits : new.governor ≡ old.governor = search rules in
+          subst (λ (r : Result Reaction Refused).
+          IsReactionOf (TellsBy encodes) r new (unlimited_step_of say u now t)) (sym b.said-is)
+          (refused_past say u now t b.in-Err.refused new (held.contention ∙ sym waits)
+          (held.governor ∙ sym limits)
+          (subst (λ (s : StationState). IsRefusedStep b.in-Err.refused s step) (sym stands)
+          (b.in-Err.ensures.step u.station held.station)))
+    ]
