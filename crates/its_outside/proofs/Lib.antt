@@ -1,0 +1,7 @@
+pub mod Spelled
+pub mod Packets
+pub mod Encodings
+pub mod Faults
+pub mod StandardFaults
+pub mod Answering
+pub mod Profile

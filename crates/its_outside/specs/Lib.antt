@@ -1,0 +1,5 @@
+pub mod Kinds
+pub mod Encoding
+pub mod Layout
+pub mod StandardFault
+pub mod Outside
