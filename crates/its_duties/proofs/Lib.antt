@@ -1,0 +1,14 @@
+pub mod Frames
+pub mod Kept
+pub mod Read
+pub mod Causes
+pub mod OwnLaws
+pub mod Waiting
+pub mod Received
+pub mod Counting
+pub mod RelayLaws
+pub mod NumberLaws
+pub mod AllLaws
+pub mod RowsOfBeacons
+mod RowsOfRelays
+mod RowsOfPlaces

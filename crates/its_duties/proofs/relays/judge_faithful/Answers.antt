@@ -1,0 +1,9 @@
+use Rattle.std.proofs.Common.{sym, ap, ◌∙◌}
+use Rattle.its_duties.specs.Verdicts.{is_fail}
+use Rattle.its_duties.proofs.RelayLaws.{search_proof}
+use Rattle.its_duties.proofs.relays.judge_faithful.Goals as goal
+
+pub returns-clause-fail_is_proof : goal.returns-clause-fail_is_proof
+returns-clause-fail_is_proof c = λ tap j r t all modelled found fails.
+    search_proof c.args.claims.now tap j r t c.args.search all modelled found
+    (ap is_fail (sym c.faithful_of.ensures) ∙ fails)

@@ -1,0 +1,11 @@
+pub mod Seen
+pub mod Times
+pub mod Places
+pub mod Scenario
+pub mod Verdicts
+pub mod Duties
+pub mod Heard
+pub mod Numbers
+pub mod Forwarding
+pub mod Relays
+pub mod Fails

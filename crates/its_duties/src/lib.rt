@@ -1,0 +1,54 @@
+//! Verdicts on another maker's station: does what it sent obey the rules? The command `verdict`
+//! calls this.
+//!
+//! The definitions are in `specs/`. `Claims` has what is claimed of a station and of a capture, and
+//! `Seen` is a record of it. A `Scenario` is one way in which the capture may have come about: what
+//! the station was asked and what it received, each at a time that fits the stamps. It `Explains`
+//! the capture if the frames of the station in it are those that were recorded.
+//!
+//! # What is proved
+//!
+//! Each `judge_` function returns the one verdict that the definitions name (`verdict`), and a fail
+//! is a proof (`fail_is_proof`): no scenario explains a capture with that record. So no station of
+//! the model, whatever it was asked and heard, can have made the capture, if these hold: the claims
+//! are true, a frame with the station's link source is the station's, time stamps are as near to
+//! the true times as claimed, and no transmission is recorded twice but for repeats of the link.
+//! What the caller found in the capture has to be so: the gap before a beacon (`IsBeaconAfter`),
+//! what a forwarded packet was made from (`IsSearch`), the step from one sequence number to the next
+//! (`IsNumberStep`). `laws::a_fail_is_proof` says the same of the
+//! definitions, for each duty that has a law (`has_law`). `judge_lifetime`, `judge_beacon`,
+//! `judge_numbers`, `judge_faithful`, `judge_in_time` and this law are of claims that the model has (`IsModelled`).
+//!
+//! Evaluated in `proofs/Rows*.antt`: why a beacon fails only if the station did not restart, and
+//! only if its call was later for sure; why a forwarded packet fails only if all that was received
+//! is recorded; and places near a border.
+//!
+//! No call has a condition, and none takes memory, by their types.
+//!
+//! # Not promised
+//!
+//! That a station that breaks a rule fails, or that a pass proves something.
+#![tactic(auto)]
+
+mod beacons;
+mod claims;
+mod duty;
+mod form;
+pub mod laws;
+mod numbers;
+mod octets;
+mod own;
+mod relays;
+mod spans;
+mod verdict;
+
+pub use beacons::{BeaconGap, judge_beacon};
+pub use claims::{AreaForwarding, BeaconReset, Claims, NonAreaForwarding, SequenceModulus};
+pub use duty::Duty;
+pub use form::judge_form;
+pub use numbers::{NumberStep, judge_numbers};
+pub use octets::named_source;
+pub use own::{judge_hops, judge_kind, judge_lifetime, judge_link_target, judge_mobile};
+pub use relays::{PacketOrigin, RelaySearch, judge_faithful, judge_in_time};
+pub use spans::{doubt_between, lag, longest, slack, wait};
+pub use verdict::{Breach, Doubt, Verdict};

@@ -1,0 +1,68 @@
+//! Verdicts: what was found of a record, and why.
+
+use its_faults::FrameFault;
+use its_gnvalue::Mac;
+use its_headers::Kind;
+
+/// What a duty says of a record (ISO/IEC 9646).
+#[derive(Clone, Copy, Debug, PartialEq, Eq)]
+pub enum Verdict {
+    /// The record obeys the rule.
+    Pass,
+    /// No station of the written rules made this capture, if the claims are true.
+    Fail(Breach),
+    /// Neither.
+    Inconclusive(Doubt),
+}
+
+/// Why a record breaks a rule.
+#[derive(Clone, Copy, Debug, PartialEq, Eq)]
+pub enum Breach {
+    /// The octets are no packet.
+    Form(FrameFault),
+    /// A beacon or a single-hop broadcast isn't sent to all.
+    LinkTarget(Mac),
+    /// The mobile bit is this one.
+    MobileBit(bool),
+    /// So many hops are left, of so many.
+    Hops(u8, u8),
+    /// The lifetime of a beacon is this one, in milliseconds.
+    Lifetime(u64),
+    /// This sequence number follows that one, sooner than the station can have used those between.
+    Number(u16, u16),
+    /// A beacon comes so early after a packet that puts it off, in nanoseconds.
+    BeaconEarly(u64),
+    /// A packet of this kind was forwarded.
+    Kind(Kind),
+    /// What was forwarded is no packet that was heard, with one hop fewer.
+    NotFaithful,
+    /// A packet was forwarded so late after its last copy with one hop more, in nanoseconds.
+    Late(u64),
+}
+
+/// Why it isn't known whether a record obeys a rule.
+#[derive(Clone, Copy, Debug, PartialEq, Eq)]
+pub enum Doubt {
+    /// The record doesn't have all octets of the frame.
+    Cut,
+    /// The frame is outside of the profile.
+    OutsideProfile(FrameFault),
+    /// The frame isn't read, and no source that it names is the station.
+    NotRead(FrameFault),
+    /// The capture doesn't have the link target.
+    NoLinkTarget,
+    /// No claim says what the mobile bit is.
+    NoMobile,
+    /// The standard and the profile differ on this lifetime, in milliseconds.
+    LifetimeRange(u64),
+    /// So many sequence numbers were used that no packet of the capture has.
+    NumbersNotSeen(u32),
+    /// A beacon comes so late after a packet that puts it off, in nanoseconds.
+    BeaconBetween(u64),
+    /// What was forwarded is no packet that is known to be heard, with one hop fewer.
+    NotFaithful,
+    /// A packet was forwarded so late after its last copy with one hop more, in nanoseconds.
+    Late(u64),
+    /// No copy of a forwarded packet with one hop more is known to be heard.
+    NeverReceived,
+}
