@@ -247,10 +247,30 @@ static size_t write_line(void) {
     return drawn(30) == 0 ? drawn((uint32_t)length) : length;
 }
 
-/* Makes a station again, with another capacity and another length of its duplicate lists. */
+/* Makes a station again that contends. */
+static void renew_contending(size_t i) {
+    struct geostation_config c;
+    geostation_config_init(&c);
+    c.address = FIRST_ADDRESS + i;
+    c.latitude = 449;
+    c.longitude = (int32_t)(900 * i);
+    c.area_forwarding = GEOSTATION_CONTENTION;
+    c.contention_max = 1 + drawn(1000);
+    c.contention_min = drawn(c.contention_max + 1);
+    c.contention_range = 1 + drawn(65535);
+    c.contention_copies = 1 + drawn(3);
+    add_status(geostation_new_from_config(&stations[i], &c));
+}
+
+/* Makes a station again, with another capacity and another length of its duplicate lists. Each
+ * second one contends. */
 static void renew(size_t i) {
     geostation_free(stations[i]);
     stations[i] = NULL;
+    if (i % 2 == 1) {
+        renew_contending(i);
+        return;
+    }
     const uint64_t latitude = dirty(449, 32), longitude = dirty(900 * i, 32);
     const uint64_t capacity = dirty(1 + drawn(64), 16);
     const uint64_t remember = dirty(1 + drawn(16), 8);
@@ -315,11 +335,19 @@ static void receive(geostation_handle *s, uint64_t at) {
     const uint64_t fields[] = {
         r.ignored, r.delivered, r.port, r.info, r.payload_start, r.payload_length, r.fault,
         r.fault_kind, r.fault_at, r.source, r.kind, r.number, r.traffic_class, r.hops_left,
+        r.due, r.held, r.cancelled,
     };
     add_octets(fields, sizeof fields);
     add_sent(status, r.relay_length);
     accepted += status == GEOSTATION_OK;
     delivered += r.delivered;
+}
+
+static void release(geostation_handle *s, uint64_t at) {
+    size_t length = 0;
+    const int status = geostation_release(s, at, out, sizeof out, &length);
+    add_sent(status, length);
+    add(geostation_next_due(s));
 }
 
 static void serve(geostation_handle *s, uint64_t at) {
@@ -391,7 +419,7 @@ static void call(void) {
     case 6: case 7: case 8: case 9: receive(s, at); break;
     case 10: case 11: case 12: serve(s, at); break;
     case 13: read_frame(); break;
-    case 14: look_up(s, at); break;
+    case 14: look_up(s, at); release(s, at); break;
     default:
         if (drawn(40) == 0) {
             add_status(wide_restart(s, at, dirty(drawn(65536), 16)));

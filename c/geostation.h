@@ -2,7 +2,7 @@
  * @file geostation.h
  * A GeoNetworking and BTP-B station (EN 302 636-4-1, EN 302 636-5-1) for C11 and C++.
  *
- * Link with `libgeostation.a` or `libgeostation.so.3`. The library has no global state, does no
+ * Link with `libgeostation.a` or `libgeostation.so.4`. The library has no global state, does no
  * input or output, and reads no clock. You pass in the time, the position and the frames that you
  * received. You get payloads, and frames to send.
  *
@@ -104,9 +104,9 @@ extern "C" {
  */
 
 /** The version of the library. */
-#define GEOSTATION_VERSION "0.2.0"
+#define GEOSTATION_VERSION "0.3.0"
 /** The version of the structs and functions in this header. */
-#define GEOSTATION_ABI 3
+#define GEOSTATION_ABI 4
 
 /** @} */
 
@@ -119,8 +119,9 @@ extern "C" {
 #define GEOSTATION_FRAME_MAX 1468
 /**
  * The longest secured frame, in bytes. The buffers to which geostation_receive_verified() and
- * geostation_seal() write need this size. So does that of geostation_handle_json() for a line whose
- * command is `seal`, or `receive` with a key `plain`.
+ * geostation_seal() write need this size, and it is enough for each frame that geostation_release()
+ * writes. The buffer of geostation_handle_json() needs it for a line whose command is `seal` or
+ * `release`, or `receive` with a key `plain`.
  */
 #define GEOSTATION_SECURED_FRAME_MAX 2310
 /** The longest line that geostation_handle_json() reads, in bytes. A longer one is malformed. */
@@ -208,6 +209,17 @@ enum geostation_why {
     GEOSTATION_REPEATED = 5
 };
 
+/** How a station forwards a GBC inside its area (EN 302 636-4-1, annex F). */
+enum geostation_area_forwarding {
+    /** At once (simple forwarding). */
+    GEOSTATION_SIMPLE = 0,
+    /**
+     * After a wait, and only if others have not sent the same frame meanwhile (contention-based
+     * forwarding). The farther the sender is, the shorter the wait.
+     */
+    GEOSTATION_CONTENTION = 1
+};
+
 /** The shape of an area (EN 302 931). */
 enum geostation_shape {
     /** A circle. */
@@ -246,7 +258,9 @@ enum geostation_command {
     GEOSTATION_COMMAND_LOOK_UP = 12,     /**< `look_up` */
     GEOSTATION_COMMAND_READ_FRAME = 13,  /**< `read_frame` */
     GEOSTATION_COMMAND_COUNTS = 14,      /**< `counts` */
-    GEOSTATION_COMMAND_SEAL = 15         /**< `seal` */
+    GEOSTATION_COMMAND_SEAL = 15,        /**< `seal` */
+    GEOSTATION_COMMAND_RELEASE = 16,     /**< `release` */
+    GEOSTATION_COMMAND_NEXT_DUE = 17     /**< `next_due` */
 };
 
 /** The outcome of a line of JSON. */
@@ -298,8 +312,8 @@ typedef struct geostation geostation_handle;
  * The result of geostation_receive() and geostation_receive_verified().
  *
  * If the status is not #GEOSTATION_OK, all fields are 0, except the fault fields in case of
- * #GEOSTATION_BAD_FRAME. The last five fields are set for each frame with status #GEOSTATION_OK,
- * whether it was ignored or not.
+ * #GEOSTATION_BAD_FRAME. `source` to `hops_left` are set for each frame with status
+ * #GEOSTATION_OK, whether it was ignored or not.
  */
 struct geostation_reception {
     uint32_t ignored;      /**< why the frame was ignored (enum geostation_why), or 0 */
@@ -317,6 +331,9 @@ struct geostation_reception {
     uint16_t number;       /**< sequence number of a GBC or GAC, otherwise 0 */
     uint8_t traffic_class; /**< traffic class byte; the forwarded frame has the same */
     uint8_t hops_left;     /**< remaining hop limit (RHL), from 1 */
+    uint64_t due;          /**< if `held` is 1: time at which the frame is due, otherwise 0 */
+    uint32_t held;         /**< 1 if the frame to forward is held, and `relay_length` is 0 */
+    uint32_t cancelled;    /**< 1 if this frame has cancelled a held one, otherwise 0 */
 };
 
 /** Parameters of a station. Call geostation_config_init(), then change what you need. */
@@ -344,6 +361,14 @@ struct geostation_config {
     uint32_t hop_cap;
     /** 0: a packet for an area may be delivered twice (default 1: #GEOSTATION_REPEATED) */
     uint32_t deliver_once;
+
+    /* Contention: see geostation_release(). All five fields are judged, also with
+     * #GEOSTATION_SIMPLE. */
+    uint32_t area_forwarding;   /**< enum geostation_area_forwarding (default 0) */
+    uint32_t contention_max;    /**< greatest wait, 1 to 1000 ms (default 100) */
+    uint32_t contention_min;    /**< least wait, 0 to `contention_max`, in ms (default 1) */
+    uint32_t contention_range;  /**< distance of the least wait, 1 to 65535 m (default 1000) */
+    uint32_t contention_copies; /**< copies that cancel a held frame, 1 to 3 (default 2) */
 };
 
 /** Counters of a station since it was created. A counter stops at `UINT64_MAX`. */
@@ -352,7 +377,7 @@ struct geostation_counts {
     uint64_t received;
     uint64_t accepted;  /**< frames whose packet was accepted */
     uint64_t delivered; /**< payloads that were delivered */
-    uint64_t relayed;   /**< frames that were written to a relay buffer */
+    uint64_t relayed;   /**< frames that were written to a relay buffer or released */
     /** Ignored frames, by enum geostation_why. */
     struct {
         uint64_t not_for_me;      /**< #GEOSTATION_NOT_FOR_ME */
@@ -379,6 +404,14 @@ struct geostation_counts {
     uint64_t suppressed; /**< frames that were not forwarded because of a limit */
     uint64_t repeated;   /**< packets that were delivered before: #GEOSTATION_REPEATED */
     uint64_t over_rate;  /**< calls that failed with #GEOSTATION_OVER_RATE */
+    /** Held frames; all 0 without contention. Those that wait are `held` less the next three. */
+    struct {
+        uint64_t held;      /**< frames that were held */
+        uint64_t released;  /**< frames that geostation_release() wrote */
+        uint64_t cancelled; /**< frames that others had sent */
+        uint64_t dropped;   /**< frames dropped: a restart, over 1 s late, or a limit */
+        uint64_t full;      /**< frames that were not held because 64 others were */
+    } contention;
 };
 
 /** A request for a single-hop broadcast (SHB). */
@@ -626,7 +659,8 @@ int geostation_close_port(geostation_handle *s, uint64_t now, uint16_t port)
 /**
  * Restarts the station: empties its location table and closes its ports.
  *
- * Its address, its position and its counters stay. Its next beacon is due at once (jitter 0).
+ * Its address, its position and its counters stay. Its next beacon is due at once (jitter 0). Held
+ * frames are dropped.
  *
  * @param s       the station
  * @param now     time, in ms
@@ -785,6 +819,12 @@ int geostation_send_shb_with_lifetime(geostation_handle *s, uint64_t now,
  * delivered all the same. With `deliver_once`, a packet for an area that was delivered before is
  * neither delivered nor forwarded: `ignored` is #GEOSTATION_REPEATED.
  *
+ * With contention, the frame to forward may be held instead: `held` is 1, and `due` is the time at
+ * which to send it. Sleep until geostation_next_due() plus a random time below 2 ms, chosen again
+ * when geostation_next_due() has changed. Pass in each frame as it comes, and then call
+ * geostation_release() until its length is 0. Send a released frame at once: the random wait above
+ * is for frames in `relay`.
+ *
  * In frames of up to 60 bytes, zeros after the packet are ignored: Ethernet pads short frames.
  *
  * @param s           the station
@@ -800,6 +840,32 @@ int geostation_send_shb_with_lifetime(geostation_handle *s, uint64_t now,
  */
 int geostation_receive(geostation_handle *s, uint64_t now, const uint8_t *frame, size_t length,
                        struct geostation_reception *out, uint8_t *relay, size_t room)
+    GEOSTATION_NODISCARD;
+
+/**
+ * Writes a held frame that is due, if there is one. It is for stations with #GEOSTATION_CONTENTION.
+ *
+ * Such a station holds the frame of each GBC that it forwards inside the area, up to 64 at a time.
+ * It waits from `contention_max` ms, if the sender is near, down to `contention_min` ms, if it is
+ * `contention_range` metres away or farther. If `contention_copies` other stations broadcast the
+ * same frame meanwhile, it is cancelled. If 64 frames are held, the next one is forwarded at once.
+ *
+ * Of several frames that are due, the one with the least time is written first. First, frames that
+ * were due more than 1000 ms before `now` are dropped. So are those for which the limits have no
+ * room. The call does not change the station's clock. Pass received frames to geostation_receive()
+ * first: they may cancel what is due.
+ *
+ * @param s            the station
+ * @param now          time, in ms
+ * @param[out] frame   the frame; send it at once
+ * @param room         size of `frame`, at least #GEOSTATION_FRAME_MAX, and at least the length of
+ *                     each held frame: #GEOSTATION_SECURED_FRAME_MAX is always enough
+ * @param[out] length  length of the frame, or 0 if none is due
+ * @return #GEOSTATION_OK, #GEOSTATION_NO_ROOM, #GEOSTATION_MOMENT_EARLIER or
+ *         #GEOSTATION_MOMENT_TOO_LATE
+ */
+int geostation_release(geostation_handle *s, uint64_t now, uint8_t *frame, size_t room,
+                       size_t *length)
     GEOSTATION_NODISCARD;
 
 /**
@@ -977,6 +1043,17 @@ uint64_t geostation_beacon_at(const geostation_handle *s, uint16_t jitter);
 uint64_t geostation_next_beacon(const geostation_handle *s);
 
 /**
+ * Returns the earliest time at which geostation_release() writes a held frame.
+ *
+ * It changes with geostation_receive(), geostation_receive_verified(), geostation_release(),
+ * geostation_restart() and lines of JSON.
+ *
+ * @param s  the station
+ * @return the time, in ms; `UINT64_MAX` if no frame is held
+ */
+uint64_t geostation_next_due(const geostation_handle *s);
+
+/**
  * Returns the sequence number of the station's next packet for an area.
  * @param s  the station
  * @return the sequence number
@@ -1074,7 +1151,7 @@ void geostation_counts(const geostation_handle *s, struct geostation_counts *out
  * @param[out] answer_length  length of the answer, 0 for a blank line
  * @param[out] frame          the frame to send
  * @param frame_room          size of `frame`, at least #GEOSTATION_FRAME_MAX. A line whose command
- *                            is `seal`, or `receive` with a key `plain`, needs
+ *                            is `seal` or `release`, or `receive` with a key `plain`, needs
  *                            #GEOSTATION_SECURED_FRAME_MAX. Nothing is done if it is too small.
  * @param[out] frame_length   length of the frame, or 0
  * @return #GEOSTATION_OK, #GEOSTATION_NO_MEMORY or #GEOSTATION_NO_ROOM
@@ -1177,7 +1254,7 @@ GEOSTATION_AT(vector, longitude, 16);
 GEOSTATION_AT(vector, speed, 20);
 GEOSTATION_AT(vector, heading, 22);
 GEOSTATION_AT(vector, accurate, 24);
-GEOSTATION_SIZE(config, 64);
+GEOSTATION_SIZE(config, 88);
 GEOSTATION_AT(config, address, 8);
 GEOSTATION_AT(config, latitude, 16);
 GEOSTATION_AT(config, longitude, 20);
@@ -1193,7 +1270,12 @@ GEOSTATION_AT(config, own_rate, 48);
 GEOSTATION_AT(config, own_burst, 52);
 GEOSTATION_AT(config, hop_cap, 56);
 GEOSTATION_AT(config, deliver_once, 60);
-GEOSTATION_SIZE(counts, 168);
+GEOSTATION_AT(config, area_forwarding, 64);
+GEOSTATION_AT(config, contention_max, 68);
+GEOSTATION_AT(config, contention_min, 72);
+GEOSTATION_AT(config, contention_range, 76);
+GEOSTATION_AT(config, contention_copies, 80);
+GEOSTATION_SIZE(counts, 208);
 GEOSTATION_AT(counts, accepted, 8);
 GEOSTATION_AT(counts, delivered, 16);
 GEOSTATION_AT(counts, relayed, 24);
@@ -1214,6 +1296,11 @@ GEOSTATION_AT(counts, sent.geoanycasts, 136);
 GEOSTATION_AT(counts, suppressed, 144);
 GEOSTATION_AT(counts, repeated, 152);
 GEOSTATION_AT(counts, over_rate, 160);
+GEOSTATION_AT(counts, contention.held, 168);
+GEOSTATION_AT(counts, contention.released, 176);
+GEOSTATION_AT(counts, contention.cancelled, 184);
+GEOSTATION_AT(counts, contention.dropped, 192);
+GEOSTATION_AT(counts, contention.full, 200);
 GEOSTATION_SIZE(shb_request, 6);
 GEOSTATION_AT(shb_request, info, 2);
 GEOSTATION_AT(shb_request, traffic_class, 4);
@@ -1248,7 +1335,7 @@ GEOSTATION_SIZE(message, 24);
 GEOSTATION_AT(message, payload_length, 8);
 GEOSTATION_AT(message, port, 16);
 GEOSTATION_AT(message, info, 18);
-GEOSTATION_SIZE(reception, 72);
+GEOSTATION_SIZE(reception, 88);
 GEOSTATION_AT(reception, delivered, 4);
 GEOSTATION_AT(reception, port, 8);
 GEOSTATION_AT(reception, info, 10);
@@ -1263,6 +1350,9 @@ GEOSTATION_AT(reception, kind, 64);
 GEOSTATION_AT(reception, number, 68);
 GEOSTATION_AT(reception, traffic_class, 70);
 GEOSTATION_AT(reception, hops_left, 71);
+GEOSTATION_AT(reception, due, 72);
+GEOSTATION_AT(reception, held, 80);
+GEOSTATION_AT(reception, cancelled, 84);
 GEOSTATION_SIZE(packet, 120);
 GEOSTATION_AT(packet, source, 6);
 GEOSTATION_AT(packet, kind, 12);

@@ -87,6 +87,13 @@ struct [[nodiscard]] Received {
     Status status;                  ///< status of the call
     geostation_reception reception; ///< the result, with the fault of a bad frame
     Octets payload;                 ///< the delivered payload
+
+    /// Returns whether the frame to forward is held: Station::release writes it.
+    bool held() const noexcept { return reception.held != 0; }
+    /// Returns the time at which the held frame is due, in ms, or 0 if none is held.
+    std::uint64_t due() const noexcept { return reception.due; }
+    /// Returns whether this frame has cancelled a held one.
+    bool cancelled() const noexcept { return reception.cancelled != 0; }
 };
 
 /// The result of message_of and plain_part.
@@ -300,7 +307,8 @@ class Station {
     }
 
     /// Processes a received frame. If the packet is to be forwarded, the frame to send is written
-    /// to `relay`: send it after a random wait, as geostation_receive() says.
+    /// to `relay`: send it after a random wait, as geostation_receive() says. With contention it may
+    /// be held instead.
     /// @return status Ok, MomentEarlier, MomentTooLate, BadFrame, TableFull or NoMemory
     Received receive(std::uint64_t now, Octets frame, Frame &relay) noexcept {
         Received got{};
@@ -333,11 +341,26 @@ class Station {
         return got;
     }
 
+    /// Writes a held frame that is due: geostation_release(). Otherwise the size of `frame` is 0.
+    /// Send it at once, and call this again until the size is 0.
+    /// @return Ok, MomentEarlier, MomentTooLate, or NoRoom if a secured frame is held that is too
+    ///         long
+    Status release(std::uint64_t now, Frame &frame) noexcept {
+        return Status(geostation_release(handle_, now, frame.octets.data(), frame.octets.size(),
+                                         &frame.size));
+    }
+    /// Writes a held frame that is due, secured or not.
+    /// @return Ok, MomentEarlier or MomentTooLate
+    Status release(std::uint64_t now, SecuredFrame &frame) noexcept {
+        return Status(geostation_release(handle_, now, frame.octets.data(), frame.octets.size(),
+                                         &frame.size));
+    }
+
     /// Executes one JSON request at time `now`: geostation_handle_json(). Failed calls and
     /// malformed lines are reported inside the answer. `number` is the line number, for a malformed
     /// line.
     /// @return Ok, NoMemory, or NoRoom for a line that needs a SecuredFrame: one whose command is
-    ///         `seal`, or `receive` with a key `plain`
+    ///         `seal` or `release`, or `receive` with a key `plain`
     Status handle_json(std::uint64_t now, std::uint64_t number, Octets line, Answer &answer,
                        Frame &frame) noexcept {
         return Status(geostation_handle_json(
@@ -387,6 +410,10 @@ class Station {
     std::uint64_t beacon_at(std::uint16_t jitter) const noexcept {
         return geostation_beacon_at(handle_, jitter);
     }
+
+    /// Returns the earliest time at which release() writes a held frame, in ms.
+    /// @return the time, or UINT64_MAX if no frame is held
+    std::uint64_t next_due() const noexcept { return geostation_next_due(handle_); }
 
     /// Returns the sequence number of the next packet for an area.
     std::uint16_t next_number() const noexcept { return geostation_next_number(handle_); }

@@ -228,8 +228,12 @@ int main(int argc, char **argv) {
     }
     for (int i = 0; i < 2; i++) {
         /* `sim` has no limits */
-        struct geostation_config config = { .size = sizeof config, .address = ADDRESS[i],
-            .longitude = LONGITUDE[i], .capacity = 64, .remember = 8, .mobile = 1 };
+        struct geostation_config config;
+        geostation_config_init(&config);
+        config.address = ADDRESS[i];
+        config.longitude = LONGITUDE[i];
+        config.forward_rate = config.source_rate = config.own_rate = 0;
+        config.hop_cap = config.deliver_once = 0;
         if (geostation_new_from_config(&station[i], &config) != GEOSTATION_OK) {
             return 1;
         }

@@ -1,6 +1,7 @@
 /* Prints what a station allocates, one line per size of its tables: `capacity remember`, the bytes, and
  * the size of each block. The first line is for the defaults. Ends with 1 if a station allocates more
- * when as many neighbours appear as its table holds, or if a block is left when it is freed.
+ * when as many neighbours appear as its table holds, if a block is left when it is freed, or if one
+ * that contends allocates over 7680 bytes more.
  *
  * Built with -Wl,--wrap=malloc,--wrap=calloc,--wrap=realloc,--wrap=free. */
 #include "geostation.h"
@@ -130,12 +131,28 @@ static void print(const struct geostation_config *config) {
     }
 }
 
+static size_t size_of(const struct geostation_config *config) {
+    geostation_handle *station = make(config);
+    const size_t size = total();
+    geostation_free(station);
+    return size;
+}
+
+static void check_contention(struct geostation_config config) {
+    const size_t simple = size_of(&config);
+    config.area_forwarding = GEOSTATION_CONTENTION;
+    if (size_of(&config) > simple + 7680) {
+        fail("a station that contends allocates over 7680 bytes more");
+    }
+}
+
 int main(void) {
     static const uint16_t capacities[] = { 1, 2, 63, 1000, 4096 }, lists[] = { 1, 7, 8, 64 };
     struct geostation_config config;
     geostation_config_init(&config);
     config.address = UINT64_C(0x1400020000000001);
     print(&config);
+    check_contention(config);
     for (size_t k = 0; k < sizeof capacities / sizeof *capacities; k++) {
         for (size_t n = 0; n < sizeof lists / sizeof *lists; n++) {
             config.capacity = capacities[k];

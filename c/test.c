@@ -41,7 +41,8 @@ static int is_nothing(void) {
     return r.ignored == 0 && r.delivered == 0 && r.port == 0 && r.info == 0
         && r.payload_start == 0 && r.payload_length == 0 && r.relay_length == 0
         && r.fault == 0 && r.fault_kind == 0 && r.fault_at == 0 && r.source == 0 && r.kind == 0
-        && r.number == 0 && r.traffic_class == 0 && r.hops_left == 0;
+        && r.number == 0 && r.traffic_class == 0 && r.hops_left == 0 && r.due == 0 && r.held == 0
+        && r.cancelled == 0;
 }
 
 /* The fields of the reception that each valid frame sets. */
@@ -1284,6 +1285,27 @@ static void test_restarted_source(void) {
     }
 }
 
+/* A station that does not contend holds nothing. contention.c has the tests of those that do. */
+static void test_nothing_is_held(void) {
+    struct geostation *a = station(A_ADDRESS, 0, 64), *b = station(B_ADDRESS, 900, 64);
+    struct geostation_counts counts;
+    size_t length = 1;
+    CHECK(geostation_send_gbc(a, 10, &AREA, HI, 2, frame, ROOM, &length) == GEOSTATION_OK);
+    CHECK(geostation_receive(b, 10, frame, length, &r, relay, ROOM) == GEOSTATION_OK);
+    CHECK(r.relay_length == length && r.held == 0 && r.due == 0);
+    CHECK(geostation_next_due(b) == UINT64_MAX);
+    CHECK(geostation_release(b, 10, other, ROOM, &length) == GEOSTATION_OK && length == 0);
+    CHECK(geostation_release(b, 10, other, ROOM - 1, &length) == GEOSTATION_NO_ROOM);
+    CHECK(geostation_release(b, 9, other, ROOM, &length) == GEOSTATION_MOMENT_EARLIER);
+    CHECK(geostation_release(b, GEOSTATION_LAST_MOMENT + 1, other, ROOM, &length)
+          == GEOSTATION_MOMENT_TOO_LATE);
+    geostation_counts(b, &counts);
+    CHECK(counts.contention.held == 0 && counts.contention.full == 0 && counts.relayed == 1);
+    CHECK(counts.refused.moment_earlier == 1 && counts.refused.moment_too_late == 1);
+    geostation_free(a);
+    geostation_free(b);
+}
+
 int main(int argc, char **argv) {
     test_limit_ranges();
     test_own_rate();
@@ -1293,6 +1315,7 @@ int main(int argc, char **argv) {
     test_hop_cap();
     test_echo();
     test_restarted_source();
+    test_nothing_is_held();
     test_new();
     test_config();
     test_padding();

@@ -75,6 +75,34 @@ void test_receiving(Station &b, const Frame &frame) {
     CHECK(got.status == Status::MomentEarlier && got.payload.size == 0);
 }
 
+void test_contention(const Frame &frame) {
+    geostation_config config = geostation::usual_config();
+    config.address = 0x1400020000000002, config.latitude = 449, config.longitude = 900;
+    config.area_forwarding = GEOSTATION_CONTENTION, config.contention_copies = 1;
+    auto b = Station::make(config);
+    CHECK(b && b->next_due() == UINT64_MAX);
+    Frame relay, copy = frame;
+    auto got = b->receive(11, view(frame), relay);
+    CHECK(got.status == Status::Ok && got.held() && relay.size == 0 && !got.cancelled());
+    CHECK(got.due() > 11 && got.due() <= 111 && b->next_due() == got.due());
+    CHECK(b->release(got.due() - 1, relay) == Status::Ok && relay.size == 0);
+    CHECK(b->release(10, relay) == Status::MomentEarlier && relay.size == 0);
+    CHECK(b->release(got.due(), relay) == Status::Ok && is(view(relay), relay.octets.data(), 76));
+    CHECK(relay.octets[11] == 2 && relay.octets[17] == 4 && b->next_due() == UINT64_MAX);
+    CHECK(b->counts().contention.released == 1);
+
+    b = Station::make(config);
+    CHECK(b && b->receive(11, view(frame), relay).held());
+    copy.octets[11] = 3, copy.octets[17] = 4;
+    got = b->receive(12, view(copy), relay);
+    CHECK(got.cancelled() && !got.held() && got.due() == 0);
+    SecuredFrame secured;
+    CHECK(b->release(200, secured) == Status::Ok && secured.size == 0);
+    config.contention_min = 101;
+    Status status = Status::Ok;
+    CHECK(!Station::make(config, &status) && status == Status::BadArgument);
+}
+
 void test_lines(Station &b) {
     static Answer answer;
     Frame frame;
@@ -98,5 +126,6 @@ int main() {
     test_parts(frame);
     test_receiving(*b, frame);
     test_lines(*b);
+    test_contention(frame);
     return 0;
 }

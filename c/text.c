@@ -3,11 +3,11 @@
 #include "geostation.h"
 
 /* The library's own release of a handle. It does not accept NULL. */
-void geostation_release(struct geostation *s);
+void geostation_dispose(struct geostation *s);
 
 void geostation_free(struct geostation *s) {
     if (s != NULL) {
-        geostation_release(s);
+        geostation_dispose(s);
     }
 }
 

@@ -95,6 +95,15 @@ class Results {
                             }));
         station->TraceConnectWithoutContext(
             "Running", Callback<void, bool>([this, i](bool runs) { RecordRunning(i, runs); }));
+        if (station->Contends()) {
+            contends_ = true;
+            station->TraceConnectWithoutContext(
+                "Held", Callback<void, const PacketKey &, Time>(
+                            [this](const PacketKey &key, Time) { RecordHeld(key, true); }));
+            station->TraceConnectWithoutContext(
+                "TakenBack", Callback<void, const PacketKey &>(
+                                 [this](const PacketKey &key) { RecordHeld(key, false); }));
+        }
     }
 
     /// Adds the stations of a container.
@@ -122,6 +131,7 @@ class Results {
         std::vector<std::size_t> inside; ///< other stations in the area, with the port open
         std::map<std::size_t, ns3::Time> firsts; ///< delay of the first delivery at each station
         std::uint64_t frames = 0, heard = 0, lost = 0, duplicates = 0, full = 0;
+        std::uint64_t held = 0, cancelled = 0;
         unsigned hops = 0;
 
         /// Returns how many of the stations in `inside` have got the packet.
@@ -145,11 +155,13 @@ class Results {
 
     const std::deque<Send> &GetSends() const { return sends_; }
 
-    /// Writes the columns of `--sends`. Delays have decimals if they are not whole milliseconds.
+    /// Writes the columns of `--sends`. Delays have decimals if they are not whole milliseconds. If
+    /// a station contends, the last columns are `held` and `cancelled`.
     void WriteSends(std::ostream &out) {
         JudgeFrames(ns3::Time::Max());
         out << "send,moment,station,kind,port,inside,reached,delivered,frames,heard,lost,"
-               "duplicates,full,hops,first,p50,p95,last\n";
+               "duplicates,full,hops,first,p50,p95,last"
+            << (contends_ ? ",held,cancelled\n" : "\n");
         for (const Send &send : sends_) {
             out << send.number << ',' << send.at.GetMilliSeconds() << ',' << send.station << ','
                 << (send.kind == GEOSTATION_GBC ? "gbc" : "gac") << ',' << send.port << ','
@@ -162,6 +174,9 @@ class Results {
             for (const std::size_t percent : {0U, 50U, 95U, 100U}) {
                 out << ',' << Milliseconds(send.Quantile(percent));
             }
+            if (contends_) {
+                out << ',' << send.held << ',' << send.cancelled;
+            }
             out << '\n';
         }
     }
@@ -170,7 +185,8 @@ class Results {
     void WriteStations(std::ostream &out) {
         JudgeFrames(ns3::Time::Max());
         out << "station,id,address,from,to,away,sent,relayed,octets,heard,delivered,duplicates,"
-               "ignored,refused,full,lost,busy,busiest\n";
+               "ignored,refused,full,lost,busy,busiest"
+            << (contends_ ? ",held,cancelled\n" : "\n");
         for (std::size_t i = 0; i < stations_.size(); i++) {
             const Row &row = stations_[i];
             const Counts counts = row.application->GetCounts();
@@ -200,6 +216,9 @@ class Results {
                 out << row.busy << ',' << row.busiest;
             } else {
                 out << ',';
+            }
+            if (contends_) {
+                out << ',' << counts.contention.held << ',' << counts.contention.cancelled;
             }
             out << '\n';
         }
@@ -347,6 +366,14 @@ class Results {
         }
     }
 
+    void RecordHeld(const PacketKey &key, bool held) {
+        const std::ptrdiff_t index = SendOf(key);
+        if (index >= 0) {
+            Send &send = sends_[static_cast<std::size_t>(index)];
+            (held ? send.held : send.cancelled)++;
+        }
+    }
+
     // Counts the stations that have missed the frames which are at least as old as this.
     void JudgeFrames(ns3::Time until) {
         while (!by_age_.empty()) {
@@ -367,6 +394,7 @@ class Results {
     }
 
     double range_;
+    bool contends_ = false;
     std::function<std::pair<double, double>(std::size_t)> busy_;
     std::deque<Row> stations_;
     std::deque<Send> sends_;

@@ -259,8 +259,8 @@ class StationApplication : public ns3::Application {
                     [&](Frame &frame) { return station_->tick(Now(), jitter, frame); });
     }
 
-    /// Makes the station forget what it received. Frames that wait are dropped. The next packet for
-    /// an area has this sequence number. Ports stay open.
+    /// Makes the station forget what it received. Frames that wait or are held are dropped. The next
+    /// packet for an area has this sequence number. Ports stay open.
     Status Restart(std::uint16_t number = 0) {
         if (!station_) {
             return Status::BadArgument;
@@ -310,6 +310,9 @@ class StationApplication : public ns3::Application {
         return AddressOf(ns3::Mac48Address::ConvertFrom(FindDevice()->GetAddress()));
     }
 
+    /// Returns whether the station contends: the attribute `Contention`.
+    bool Contends() const { return contention_; }
+
     Plane GetPlane() const { return Plane({origin_latitude_, origin_longitude_}); }
 
     /// Returns the current position of the node.
@@ -321,7 +324,8 @@ class StationApplication : public ns3::Application {
 
   protected:
     /// Returns how long a frame that goes to all stations waits before it is passed to the device.
-    /// The default is a random time below `RelaySpread`. A subclass may have another rule.
+    /// The default is a random time below `RelaySpread`. A subclass may have another rule. It is not
+    /// asked for frames that the station holds (`Contention`).
     virtual ns3::Time WaitOf(const Reception &) {
         return ns3::Seconds(random_->GetValue(0, relay_spread_.GetSeconds()));
     }
@@ -344,6 +348,7 @@ class StationApplication : public ns3::Application {
     static constexpr std::size_t kHeader = 14; // target, source and EtherType, before a packet
     static constexpr std::size_t kTrafficClass = kHeader + 4 + 2;
     static constexpr std::size_t kMaxPorts = 64;
+    static constexpr std::uint64_t kNever = UINT64_MAX;
 
     static std::uint64_t Now() {
         return static_cast<std::uint64_t>(ns3::Simulator::Now().GetMilliSeconds());
@@ -371,6 +376,11 @@ class StationApplication : public ns3::Application {
         sum.suppressed += more.suppressed;
         sum.repeated += more.repeated;
         sum.over_rate += more.over_rate;
+        sum.contention.held += more.contention.held;
+        sum.contention.released += more.contention.released;
+        sum.contention.cancelled += more.contention.cancelled;
+        sum.contention.dropped += more.contention.dropped;
+        sum.contention.full += more.contention.full;
     }
 
     ns3::Ptr<ns3::NetDevice> FindDevice() const {
@@ -393,6 +403,12 @@ class StationApplication : public ns3::Application {
             config.forward_rate = config.source_rate = config.own_rate = 0;
             config.hop_cap = config.deliver_once = 0;
         }
+        NS_ABORT_MSG_IF(contention_min_ > contention_max_, "ContentionMin is over ContentionMax");
+        config.area_forwarding = contention_ ? GEOSTATION_CONTENTION : GEOSTATION_SIMPLE;
+        config.contention_max = contention_max_;
+        config.contention_min = contention_min_;
+        config.contention_range = contention_range_;
+        config.contention_copies = contention_copies_;
         Status status;
         station_ = Station::make(config, &status);
         Check(status);
@@ -429,6 +445,8 @@ class StationApplication : public ns3::Application {
             waiting.second.Cancel();
         }
         waiting_.clear();
+        release_.Cancel();
+        due_ = kNever;
     }
 
     // Passes the node's position to the station, unless the last one is recent enough.
@@ -507,9 +525,12 @@ class StationApplication : public ns3::Application {
         } else if (got.ignored != 0) {
             ignored_(packet, reception);
             TakeBack(reception);
+        } else if (result.held()) {
+            held_(reception.key, ns3::MilliSeconds(result.due()));
         } else if (relay.size != 0) {
             Forward(reception, relay);
         }
+        PlanRelease();
         // The application may send, restart or stop in answer to the payload, so this comes last.
         if (got.delivered != 0) {
             delivered_(Delivery{reception.key, got, result.payload});
@@ -530,7 +551,47 @@ class StationApplication : public ns3::Application {
         });
     }
 
+    // Held frames are released when the first one is due, plus a random time. It is drawn again if
+    // another frame is due first.
+    void PlanRelease() {
+        const std::uint64_t due = station_->next_due();
+        if (due == due_) {
+            return;
+        }
+        due_ = due;
+        release_.Cancel();
+        if (due != kNever) {
+            const ns3::Time at =
+                ns3::MilliSeconds(due) +
+                ns3::Seconds(random_->GetValue(0, relay_spread_.GetSeconds()));
+            release_ = ns3::Simulator::Schedule(ns3::Max(at - ns3::Simulator::Now(), ns3::Time(0)),
+                                                &StationApplication::AwaitCopies, this);
+        }
+    }
+
+    // Frames that arrive at this time come first: they may cancel what is due.
+    void AwaitCopies() {
+        release_ = ns3::Simulator::ScheduleNow(&StationApplication::Release, this);
+    }
+
+    void Release() {
+        due_ = kNever;
+        Frame frame;
+        do {
+            Check(station_->release(Now(), frame));
+            if (frame.size != 0) {
+                const geostation_packet packet =
+                    read_frame({frame.octets.data(), frame.size}).packet;
+                Put({packet.kind, packet.vector.address, packet.number}, frame, forwarded_);
+            }
+        } while (frame.size != 0);
+        PlanRelease();
+    }
+
     void TakeBack(const Reception &duplicate) {
+        if (duplicate.result.cancelled()) {
+            taken_back_(duplicate.key);
+        }
         if (duplicate.result.reception.ignored != GEOSTATION_DUPLICATE) {
             return;
         }
@@ -566,7 +627,9 @@ class StationApplication : public ns3::Application {
     std::uint32_t device_index_ = 0;
     std::uint8_t station_type_ = 5;
     std::uint16_t capacity_ = 256, remember_ = 8, number_ = 0;
-    bool mobile_ = true, beacons_ = true, limits_ = false;
+    bool mobile_ = true, beacons_ = true, limits_ = false, contention_ = false;
+    std::uint16_t contention_min_ = 1, contention_max_ = 100, contention_range_ = 1000;
+    std::uint8_t contention_copies_ = 2;
     std::int32_t origin_latitude_ = 0, origin_longitude_ = 0;
     ns3::Time fix_interval_, relay_spread_;
 
@@ -576,6 +639,7 @@ class StationApplication : public ns3::Application {
         refused_;
     ns3::TracedCallback<const Delivery &> delivered_;
     ns3::TracedCallback<const PacketKey &> taken_back_;
+    ns3::TracedCallback<const PacketKey &, ns3::Time> held_;
     ns3::TracedCallback<bool> running_;
 
     std::vector<std::uint16_t> ports_;
@@ -588,7 +652,8 @@ class StationApplication : public ns3::Application {
     ns3::Ptr<ns3::UniformRandomVariable> random_ =
         ns3::CreateObject<ns3::UniformRandomVariable>();
     std::uint16_t jitter_ = 0;
-    ns3::EventId beacon_;
+    ns3::EventId beacon_, release_;
+    std::uint64_t due_ = kNever;
     std::map<PacketKey, ns3::EventId> waiting_;
 };
 
@@ -641,9 +706,29 @@ inline ns3::TypeId StationApplication::GetTypeId() {
             .AddAttribute("RelaySpread",
                           "A forwarded frame to all stations waits for a random time below this. "
                           "With 0 all stations that received a frame forward it in one slot, and "
-                          "these frames collide.",
+                          "these frames collide. A held frame is released at its time plus a "
+                          "random time below this.",
                           TimeValue(MilliSeconds(1)), MakeTimeAccessor(&Self::relay_spread_),
                           MakeTimeChecker())
+            .AddAttribute("Contention",
+                          "Whether the station holds the frame of a geobroadcast inside its area, "
+                          "and drops it if others send it.",
+                          BooleanValue(false), MakeBooleanAccessor(&Self::contention_),
+                          MakeBooleanChecker())
+            .AddAttribute("ContentionMin", "Least wait of a held frame, in ms.", UintegerValue(1),
+                          MakeUintegerAccessor(&Self::contention_min_),
+                          MakeUintegerChecker<std::uint16_t>(0, 1000))
+            .AddAttribute("ContentionMax", "Greatest wait of a held frame, in ms.",
+                          UintegerValue(100), MakeUintegerAccessor(&Self::contention_max_),
+                          MakeUintegerChecker<std::uint16_t>(1, 1000))
+            .AddAttribute("ContentionRange",
+                          "Distance of the sender from which on the wait is the least, in m.",
+                          UintegerValue(1000), MakeUintegerAccessor(&Self::contention_range_),
+                          MakeUintegerChecker<std::uint16_t>(1, 65535))
+            .AddAttribute("ContentionCopies",
+                          "Number of copies, each of another station, that cancel a held frame.",
+                          UintegerValue(2), MakeUintegerAccessor(&Self::contention_copies_),
+                          MakeUintegerChecker<std::uint8_t>(1, 3))
             .AddTraceSource("Sent", "A frame with a packet of this station goes to the device.",
                             MakeTraceSourceAccessor(&Self::sent_),
                             "geostation::StationApplication::FrameTrace")
@@ -663,7 +748,11 @@ inline ns3::TypeId StationApplication::GetTypeId() {
             .AddTraceSource("Delivered", "A payload has arrived at an open port.",
                             MakeTraceSourceAccessor(&Self::delivered_),
                             "geostation::StationApplication::DeliveryTrace")
-            .AddTraceSource("TakenBack", "A duplicate has taken back a frame that waited.",
+            .AddTraceSource("Held", "A frame is held; the time is when it is due.",
+                            MakeTraceSourceAccessor(&Self::held_),
+                            "geostation::StationApplication::HeldTrace")
+            .AddTraceSource("TakenBack",
+                            "A duplicate has cancelled a held frame, or one that waited.",
                             MakeTraceSourceAccessor(&Self::taken_back_),
                             "geostation::StationApplication::KeyTrace")
             .AddTraceSource("Running", "The station has started (true) or stopped (false).",

@@ -71,8 +71,13 @@ static void make_requests(void) {
 static struct geostation *station(uint64_t address, int32_t longitude) {
     struct geostation *s;
     /* without limits, as the loops that it is compared with */
-    struct geostation_config config = { .size = sizeof config, .address = address,
-        .latitude = 449, .longitude = longitude, .capacity = 64, .remember = 8, .mobile = 1 };
+    struct geostation_config config;
+    geostation_config_init(&config);
+    config.address = address;
+    config.latitude = 449;
+    config.longitude = longitude;
+    config.forward_rate = config.source_rate = config.own_rate = 0;
+    config.hop_cap = config.deliver_once = 0;
     if (geostation_new_from_config(&s, &config) != GEOSTATION_OK
         || geostation_open_port(s, 0, 2002) != GEOSTATION_OK) {
         exit(1);

@@ -32,6 +32,17 @@ static const char usage[] =
     "  --deliver-once N      Don't deliver or forward a packet for an area again within its\n"
     "                        lifetime, 0 or 1 [default: 1]\n"
     "\n"
+    "How a geobroadcast is forwarded inside its area:\n"
+    "  --area-forwarding METHOD\n"
+    "                        simple: at once; contention: after a wait, unless others have sent\n"
+    "                        the same frame meanwhile [default: simple]\n"
+    "  --contention-max MS   Greatest wait, 1 to 1000 ms [default: 100]\n"
+    "  --contention-min MS   Least wait, 0 to 1000 ms, at most the greatest [default: 1]\n"
+    "  --contention-range M  Wait least if the sender is that far away, 1 to 65535 m\n"
+    "                        [default: 1000]\n"
+    "  --contention-copies N\n"
+    "                        Copies of other stations that cancel a frame, 1 to 3 [default: 2]\n"
+    "\n"
     "The station:\n"
     "  --position LAT,LON    Position in degrees, with up to 7 decimals\n"
     "  --gpsd [HOST:PORT]    Take the position from gpsd [default: 127.0.0.1:2947]\n"
@@ -174,6 +185,10 @@ static bool judge(const struct options *o, struct fault *f) {
         return set_fault(f, BAD_ARGUMENTS, "a limit of each source needs a limit of all that is "
                          "low enough: see --forward-rate and --forward-burst, or set "
                          "--source-rate 0");
+    }
+    if (o->station.contention_min > o->station.contention_max) {
+        return set_fault(f, BAD_ARGUMENTS, "--contention-min %u: over --contention-max",
+                         o->station.contention_min);
     }
     return true;
 }

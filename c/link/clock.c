@@ -18,11 +18,13 @@ static int64_t from_boot_ms; /* the time at which the machine started */
 static int64_t steps_ms;     /* that were followed, in all */
 static int64_t offset_ms;    /* the last offset that was read */
 
-static int64_t ms_of(clockid_t id) {
+static int64_t micros_of(clockid_t id) {
     struct timespec t;
     clock_gettime(id, &t);
-    return (int64_t)t.tv_sec * 1000 + t.tv_nsec / 1000000;
+    return (int64_t)t.tv_sec * 1000000 + t.tv_nsec / 1000;
 }
+
+static int64_t ms_of(clockid_t id) { return micros_of(id) / 1000; }
 
 static int64_t moment_of(int64_t realtime) { return realtime - EPOCH * 1000 + ahead_ms; }
 
@@ -104,10 +106,10 @@ void clock_step(int64_t ms) {
     offset_ms -= ms;
 }
 
-uint64_t clock_micros(void) {
-    struct timespec t;
-    clock_gettime(CLOCK_MONOTONIC, &t);
-    return (uint64_t)t.tv_sec * 1000000 + (uint64_t)(t.tv_nsec / 1000);
+uint64_t clock_micros(void) { return (uint64_t)micros_of(CLOCK_MONOTONIC); }
+
+uint64_t clock_now_micros(void) {
+    return (uint64_t)(from_boot_ms * 1000 + micros_of(CLOCK_BOOTTIME));
 }
 
 struct instant clock_instant(void) {

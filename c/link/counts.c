@@ -69,6 +69,15 @@ static void members_of_station(struct page *p, const struct geostation_counts *c
     put(p, "}");
 }
 
+static void members_of_contention(struct page *p, const struct geostation_counts *c) {
+    object(p, "contention", "held", c->contention.held);
+    member(p, "released", c->contention.released);
+    member(p, "cancelled", c->contention.cancelled);
+    member(p, "dropped", c->contention.dropped);
+    member(p, "full", c->contention.full);
+    put(p, "}");
+}
+
 static void members_of_link(struct page *p, const struct station *s,
                             const struct geostation_counts *c) {
     struct link *l = s->link;
@@ -95,6 +104,9 @@ size_t counts_print(const struct station *s, char *out, size_t room) {
     station_counts(s, &counts);
     put(&p, "counts\"");
     members_of_station(&p, &counts);
+    if (station_contends(s)) {
+        members_of_contention(&p, &counts);
+    }
     members_of_link(&p, s, &counts);
     put(&p, "}");
     return p.length;
@@ -161,6 +173,16 @@ static void put_station(struct page *p, const struct geostation_counts *c) {
     counter(p, "repeated_total", "Packets withheld because they were delivered before", c->repeated);
 }
 
+static void put_contention(struct page *p, const struct geostation_counts *c) {
+    const struct labelled held[] = {
+        { "held", c->contention.held },           { "released", c->contention.released },
+        { "cancelled", c->contention.cancelled }, { "dropped", c->contention.dropped },
+        { "full", c->contention.full },
+    };
+    labelled(p, "contention_total", "outcome", "Frames that contend", held, 5);
+    gauge(p, "contention_waiting", "Frames that are held now", (double)handles_waiting(c));
+}
+
 static void put_link(struct page *p, const struct station *s) {
     struct link *l = s->link;
     counter(p, "link_frames_total", "Frames received from the link", l->frames);
@@ -225,6 +247,9 @@ size_t counts_print_metrics(const struct station *s, uint64_t now, char *out, si
     counter(&p, "over_rate_total", "Own packets that were over their rate", counts.over_rate);
     counter(&p, "address_conflicts_total", "Packets of this address that others sent",
             s->conflict.count);
+    if (station_contends(s)) {
+        put_contention(&p, &counts);
+    }
     put_link(&p, s);
     if (s->security != NULL) {
         put_security(&p, s->security);

@@ -4,6 +4,8 @@
 #include <inttypes.h>
 #include <string.h>
 
+enum { HELD_PLACES = 7680 /* bytes for held frames, at most */ };
+
 static geostation_handle *make(const struct geostation_config *c) {
     geostation_handle *handle;
     int status = geostation_new_from_config(&handle, c);
@@ -12,9 +14,10 @@ static geostation_handle *make(const struct geostation_config *c) {
              geostation_status_text(status));
     }
     if (status != GEOSTATION_OK) {
+        uint32_t places = c->area_forwarding == GEOSTATION_CONTENTION ? HELD_PLACES : 0;
         fail(FAILED, "out of memory: --capacity %u and --remember %u need %u kB of the limit "
              "(ulimit -v, MemoryMax=)", c->capacity, c->remember,
-             (37624 + c->capacity * (58 + 2u * c->remember)) / 1000 + 1);
+             (37728 + places + c->capacity * (58 + 2u * c->remember)) / 1000 + 1);
     }
     return handle;
 }
@@ -25,6 +28,7 @@ void handles_make(struct station *s, uint64_t moment, uint16_t number) {
     s->handle = make(&c);
     c.capacity = c.remember = 1;
     c.own_rate = c.forward_rate = c.source_rate = c.hop_cap = c.deliver_once = 0;
+    c.area_forwarding = GEOSTATION_SIMPLE;
     s->beacons = make(&c);
     ignore_status(geostation_restart(s->handle, moment, number));
     ignore_status(geostation_restart(s->beacons, moment, 0));
@@ -56,6 +60,11 @@ void station_counts(const struct station *s, struct geostation_counts *out) {
     add(out, s->beacons);
 }
 
+uint64_t handles_waiting(const struct geostation_counts *c) {
+    return c->contention.held - c->contention.released - c->contention.cancelled
+        - c->contention.dropped;
+}
+
 /* ---- an earlier moment */
 
 /* Only a port that is open can be closed. Returns how many were. */
@@ -69,11 +78,12 @@ static size_t close_ports(const struct station *s, uint16_t ports[PORTS]) {
     return count;
 }
 
-/* Numbers and counts go on, and ports stay open. */
+/* Numbers and counts go on, and ports stay open. Held frames are dropped. */
 void handles_renew(struct station *s, uint64_t moment) {
     uint16_t ports[PORTS];
     uint16_t number = geostation_next_number(s->handle);
     station_counts(s, &s->counts);
+    s->counts.contention.dropped += handles_waiting(&s->counts);
     size_t count = close_ports(s, ports);
     handles_free(s);
     handles_make(s, moment, number);

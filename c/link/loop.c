@@ -13,7 +13,7 @@ enum {
     ALL = FIRST_CLIENT + CLIENT_POLLS
 };
 /* A turn handles the frames of whole batches (link.c). */
-enum { FRAMES_A_TURN = 64, LONGEST_WAIT = 60000 /* ms */ };
+enum { FRAMES_A_TURN = 64, LONGEST_WAIT = 60000 /* ms */, LAST_WAIT = 500 /* ms */ };
 
 static int open_signals(void) {
     sigset_t set;
@@ -118,16 +118,24 @@ static uint64_t due_of(const struct program *p, uint64_t now) {
     return least(due, notify_due());
 }
 
+static uint64_t from_to(uint64_t at, uint64_t due) { return due > at ? due - at : 0; }
+
+static struct timespec time_of(uint64_t micros) {
+    return (struct timespec){ .tv_sec = (time_t)(micros / 1000000),
+                              .tv_nsec = (long)(micros % 1000000) * 1000 };
+}
+
 /* How long to wait: until something is due, or a frame is to be forwarded. */
 static struct timespec wait_of(const struct program *p) {
     uint64_t now = clock_now(), due = due_of(p, now), forward = forwards_due(&p->forwards);
     uint64_t micros = due <= now ? 0 : least(due - now, LONGEST_WAIT) * 1000;
     if (forward != UINT64_MAX) {
-        uint64_t at = clock_micros();
-        micros = least(micros, forward > at ? forward - at : 0);
+        micros = least(micros, from_to(clock_micros(), forward));
     }
-    return (struct timespec){ .tv_sec = (time_t)(micros / 1000000),
-                              .tv_nsec = (long)(micros % 1000000) * 1000 };
+    if (p->station.release_at != UINT64_MAX) {
+        micros = least(micros, from_to(clock_now_micros(), p->station.release_at));
+    }
+    return time_of(micros);
 }
 
 /* Waits, and fills in what is ready. */
@@ -150,12 +158,14 @@ static void wait_for(struct program *p, int signals, struct pollfd *on) {
     }
 }
 
-/* The station's own frames are sent before those that it forwards. */
+/* The station's own frames are sent before those that it forwards. Held frames are released only
+ * once the frames that came up to their time have been read. */
 static void turn(struct program *p, const struct pollfd *on) {
+    bool releases = releases_are_due(&p->station);
     if (on[WATCH].revents != 0) {
         look_at_link(p);
     }
-    if (on[LINK].revents != 0) {
+    if (on[LINK].revents != 0 || releases) {
         read_frames(&p->station);
     }
     steps_turn(&p->steps, &p->station, clock_now());
@@ -165,12 +175,45 @@ static void turn(struct program *p, const struct pollfd *on) {
     }
     station_beacon(&p->station, clock_now());
     clients_turn(&p->clients, on + FIRST_CLIENT);
+    if (releases) {
+        releases_turn(&p->station);
+    }
+    releases_plan(&p->station);
     forwards_send(&p->forwards, clock_micros());
     if (on[METRICS].revents != 0) {
         metrics_serve(&p->metrics, &p->station, clock_now());
     }
     metrics_write(&p->metrics, &p->station, clock_now());
     notify_alive(clock_now());
+}
+
+/* Waits for a frame or the security entity, up to this time in microseconds. */
+static void wait_for_copies(struct program *p, uint64_t until) {
+    struct timespec wait = time_of(from_to(clock_now_micros(), until));
+    struct pollfd on[2] = { { p->link.fd, POLLIN, 0 },
+                            { security_fd(p->station.security), POLLIN, 0 } };
+    if (ppoll(on, 2, &wait, NULL) < 0) {
+        on[1].revents = 0;
+    }
+    read_frames(&p->station);
+    if (p->station.security != NULL) {
+        security_turn(&p->security, on[1].revents != 0);
+    }
+}
+
+/* At the end: held frames that are due soon are sent at their times, unless they are cancelled. */
+static void release_last(struct program *p) {
+    struct station *s = &p->station;
+    uint64_t end = clock_now() + LAST_WAIT;
+    releases_plan(s);
+    while (s->release_due <= end && clock_now() <= end) {
+        s->release_at = least(s->release_at, end * 1000);
+        wait_for_copies(p, s->release_at);
+        if (releases_are_due(s)) {
+            releases_turn(s);
+        }
+        releases_plan(s);
+    }
 }
 
 void loop(struct program *p) {
@@ -185,6 +228,7 @@ void loop(struct program *p) {
         turn(p, on);
     }
     notify("STOPPING=1");
+    release_last(p);
     clients_drain(&p->clients);
     forwards_send(&p->forwards, UINT64_MAX);
     close(signals);

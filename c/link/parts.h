@@ -16,7 +16,7 @@ enum {
     BAD_ARGUMENTS = 2,
     FAILED = 3, /* the system refused something */
     ROAD_SIDE_UNIT = 15, /* a station type of EN 302 636-4-1 */
-    SETTINGS = 36,
+    SETTINGS = 41,
     PEERS = 16,
     PORTS = 64,
     CLIENTS = 17,             /* the first one is standard input and output */
@@ -142,6 +142,7 @@ uint64_t clock_now(void);    /* never goes back */
 uint64_t clock_moment(void); /* TAI since 2004-01-01 */
 uint64_t clock_moment_at(uint64_t now);
 uint64_t clock_now_at(uint64_t moment); /* UINT64_MAX stays */
+uint64_t clock_now_micros(void);        /* `now` in microseconds */
 struct clock_state clock_look(void);
 void clock_step(int64_t ms); /* the station's time is so much later from now on */
 uint64_t clock_micros(void); /* since the start of the machine */
@@ -319,6 +320,9 @@ struct station {
     uint64_t beacon_at; /* the moment at which that is due */
     bool has_sent;      /* an own packet was sent, or may have been */
     uint64_t own_at;    /* when the last one was */
+    uint32_t release_spread; /* held frames are released a time below this later, in microseconds */
+    uint64_t release_due;    /* when the first of them is due; UINT64_MAX: none is held */
+    uint64_t release_at;     /* when they are released, in microseconds */
     struct link *link;
     struct forwards *forwards;
     struct place *place;
@@ -339,11 +343,18 @@ void station_beacon(struct station *s, uint64_t now);
 void station_plan_beacon(struct station *s);
 void station_change_ports(struct station *s, const struct ports *old, const struct ports *new);
 
+/* releases.c: held frames that are due. */
+void releases_plan(struct station *s);
+bool releases_are_due(const struct station *s); /* as planned */
+void releases_turn(struct station *s);
+
 /* handles.c: its handles of the library. */
 void handles_make(struct station *s, uint64_t moment, uint16_t number); /* of the first packet */
 void handles_renew(struct station *s, uint64_t moment); /* which is earlier than their last one */
 void handles_free(struct station *s);
 void station_counts(const struct station *s, struct geostation_counts *out);
+uint64_t handles_waiting(const struct geostation_counts *c); /* held frames */
+bool station_contends(const struct station *s);
 
 /* steps.c: steps of the clock. */
 struct steps {

@@ -72,6 +72,13 @@ static bool take_short(struct options *o, const struct setting *s, struct fault 
     return good;
 }
 
+static bool take_forwarding(struct options *o, const struct setting *s, struct fault *f) {
+    bool contends = strcmp(s->value, "contention") == 0;
+    o->station.area_forwarding = contends ? GEOSTATION_CONTENTION : GEOSTATION_SIMPLE;
+    return contends || strcmp(s->value, "simple") == 0
+        || refuse_value(s, "not simple or contention", f);
+}
+
 static bool take_type(struct options *o, const struct setting *s, struct fault *f) {
     o->typed = true;
     return take_number(o, s, f);
@@ -136,6 +143,11 @@ static const struct row rows[] = {
     LIMIT("own-burst", FIELD(station.own_burst)),
     NUMBER("hop-cap", take_number, FIELD(station.hop_cap), 0, 255, 1),
     NUMBER("deliver-once", take_number, FIELD(station.deliver_once), 0, 1, 1),
+    TEXT("area-forwarding", take_forwarding, 0),
+    NUMBER("contention-max", take_number, FIELD(station.contention_max), 1, 1000, 1),
+    NUMBER("contention-min", take_number, FIELD(station.contention_min), 0, 1000, 1),
+    NUMBER("contention-range", take_number, FIELD(station.contention_range), 1, 65535, 1),
+    NUMBER("contention-copies", take_number, FIELD(station.contention_copies), 1, 3, 1),
     TEXT("position", take_position, 0),
     { "gpsd", optional_argument, take_gpsd, 0, 0, 0, 0 },
     NUMBER("gps-timeout", take_number, FIELD(gps_timeout), 1, 3600, 1000),

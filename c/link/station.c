@@ -17,6 +17,8 @@ void station_plan_beacon(struct station *s) {
 void station_open(struct station *s, const struct options *o) {
     uint64_t moment = clock_moment();
     s->config = o->station;
+    s->release_spread = o->forward_spread;
+    s->release_due = s->release_at = UINT64_MAX;
     /* A random first sequence number: others would ignore numbers that they remember. */
     handles_make(s, moment, o->numbered ? (uint16_t)o->first_number : draw());
     s->address = o->station.address;
@@ -137,6 +139,10 @@ void station_hear(struct station *s, const struct received *r) {
     } else {
         take_unsecured(s, r);
     }
+}
+
+bool station_contends(const struct station *s) {
+    return s->config.area_forwarding == GEOSTATION_CONTENTION;
 }
 
 /* With security, nothing is sent without the entity. */

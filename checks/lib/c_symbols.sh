@@ -38,7 +38,7 @@ cat > "$work/own.c" <<'C'
 void *rattle_alloc(void) { abort(); }
 void *rattle_realloc(void) { abort(); }
 void rattle_dealloc(void) { abort(); }
-void geostation_release(void) { abort(); }
+void geostation_dispose(void) { abort(); }
 int main(void) {
     geostation_handle *s;
     if (geostation_new(&s, 0x1400020000000001, 449, 0, 64, 8) != GEOSTATION_OK) {

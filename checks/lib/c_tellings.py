@@ -125,22 +125,35 @@ def check_texts(sources):
     return wrong + differences(path, "the message", frames, dict_in(path, sources, "FAULT_TEXTS"))
 
 
-def python_limits(text):
-    """The defaults of the limits in the package for Python."""
+def python_defaults(text, name):
+    """The defaults of a class in the package for Python."""
     classes = {it.name: it for it in ast.parse(text).body if isinstance(it, ast.ClassDef)}
-    rows = [it for it in classes["Limits"].body if isinstance(it, ast.AnnAssign)]
+    rows = [it for it in classes[name].body if isinstance(it, ast.AnnAssign)]
     return {it.target.id: int(it.value.value) for it in rows}
 
 
 def daemon_limits(text):
-    """The defaults of the limits in the help of the daemon."""
-    found = re.findall(r"^ *\"  --([a-z-]+) N .*?\[default: (\d+)\]", text, re.M | re.S)
+    """The defaults of the limits and of contention in the help of the daemon."""
+    found = re.findall(r"^ *\"  --([a-z-]+) (?:N|MS|M)\b.*?\[default: (\d+)\]", text, re.M | re.S)
     return {name.replace("-", "_"): int(number) for name, number in found}
+
+
+def contention_defaults(sources):
+    """The defaults of contention in the packages and in the help of the daemon, by source."""
+    path = f"{RUST}/station.rs"
+    made = re.search(r"Contention \{ (min: .*?) \}", sources.text(path))[1]
+    yield path, {name: int(number) for name, number in re.findall(r"(\w+): (\d+)", made)}
+    path = f"{PYTHON}/values.py"
+    yield path, python_defaults(sources.text(path), "Contention")
+    path = "c/link/arguments.c"
+    found = daemon_limits(sources.text(path))
+    names = ("max", "min", "range", "copies")
+    yield path, {name: found.get(f"contention_{name}") for name in names}
 
 
 def check_defaults(sources):
     """The default of each field of a config: in a comment of the header, in the definition of the
-    proved library, and of the limits in the packages and in the daemon's help. What a source has
+    proved library, and of limits and contention in the packages and in the daemon's help. What a source has
     besides is its own."""
     text = sources.text(HEADER)
     body = re.search(r"^struct geostation_config \{(.*?)^\};", text, re.M | re.S)[1]
@@ -151,7 +164,7 @@ def check_defaults(sources):
     wanted |= {name: int(number) for name, number in after}
     lost = [it.name for it in structs_of(sources)["config"] if it.name not in wanted]
     wrong = [f"{HEADER}: no default of {name}" for name in lost if name != "size"]
-    limits = [it.name for it in structs_of(sources)["config"]][8:]
+    limits = [it.name for it in structs_of(sources)["config"]][8:16]
     path = f"{LIBRARY}/specs/Configs.antt"
     usual = re.search(r"^usual_config =\n(.*?)\}", sources.text(path), re.M | re.S)[1]
     found = {name: int(number) for name, number in re.findall(r"(\w+) = (?:pos )?(\d+)", usual)}
@@ -161,7 +174,7 @@ def check_defaults(sources):
     made = re.search(r"fn default\(\) -> Limits \{(.*?)^    \}", sources.text(path), re.M | re.S)[1]
     rows = re.findall(r"(\w+): (\d+|true|false)", made)
     of_rust = {name: {"true": 1, "false": 0}.get(word) or int(word) for name, word in rows}
-    of_python = python_limits(sources.text(f"{PYTHON}/values.py"))
+    of_python = python_defaults(sources.text(f"{PYTHON}/values.py"), "Limits")
     of_daemon = daemon_limits(sources.text("c/link/arguments.c"))
     of_limits = {name: wanted.get(name) for name in limits}
     for where, found in (
@@ -170,4 +183,8 @@ def check_defaults(sources):
         ("c/link/arguments.c", {name: of_daemon.get(name) for name in limits}),
     ):
         wrong += differences(where, "the default", of_limits, found)
+    prefix = "contention_"
+    rule = {it.removeprefix(prefix): wanted[it] for it in wanted if it.startswith(prefix)}
+    for where, found in contention_defaults(sources):
+        wrong += differences(where, "the default", rule, found)
     return wrong

@@ -4,7 +4,8 @@
  *
  * Two stations get each line as it is, then DAMAGED copies (default 20) in which bytes are changed,
  * removed, repeated or cut off. Each frame that one of them sends is received by the other. The
- * checksum is over the statuses, answers and frames. It judges no result: compare the output of two
+ * second one contends, and releases what is due after each line. The checksum is over the statuses,
+ * answers and frames. It judges no result: compare the output of two
  * machines. The last line counts the answers and the frames. */
 #include "geostation.h"
 #include <inttypes.h>
@@ -18,7 +19,7 @@ static uint64_t drawing = 1, now = 1, number, answers, frames, refused;
 static uint64_t checksum = UINT64_C(0xcbf29ce484222325);
 static geostation_handle *stations[2];
 static uint8_t line[LINE], damaged[LINE + 16], answer[GEOSTATION_ANSWER_MAX];
-static uint8_t frame[GEOSTATION_FRAME_MAX], relay[GEOSTATION_FRAME_MAX];
+static uint8_t frame[GEOSTATION_SECURED_FRAME_MAX], relay[GEOSTATION_SECURED_FRAME_MAX];
 
 static uint32_t drawn(size_t below) {
     drawing ^= drawing << 13;
@@ -67,8 +68,30 @@ static void serve(int at, const uint8_t *text, size_t length) {
         add_number(reception.delivered);
         add_number(reception.ignored);
         add_number(reception.relay_length);
+        add_number(reception.due);
+        add_number(reception.cancelled);
         add(relay, reception.relay_length);
     }
+}
+
+static void release(geostation_handle *s) {
+    size_t length = 0;
+    do {
+        add_number((uint64_t)geostation_release(s, now, relay, sizeof relay, &length));
+        add(relay, length);
+        add_number(geostation_next_due(s));
+    } while (length != 0);
+}
+
+static geostation_handle *new_station(int i) {
+    struct geostation_config c;
+    geostation_handle *s;
+    geostation_config_init(&c);
+    c.address = UINT64_C(0x1400020000000001) + (uint64_t)i;
+    c.latitude = 449 * i;
+    c.area_forwarding = i == 1 ? GEOSTATION_CONTENTION : GEOSTATION_SIMPLE;
+    c.contention_max = 1000;
+    return geostation_new_from_config(&s, &c) == 0 ? s : NULL;
 }
 
 /* Damages a copy of the line in one to three positions, and returns its new length. */
@@ -97,8 +120,8 @@ int main(int count, char **words) {
         return 2;
     }
     for (int i = 0; i < 2; i++) {
-        const uint64_t address = UINT64_C(0x1400020000000001) + (uint64_t)i;
-        if (geostation_new(&stations[i], address, 449 * i, 0, 64, 8) != 0) {
+        stations[i] = new_station(i);
+        if (stations[i] == NULL) {
             return 1;
         }
     }
@@ -109,6 +132,7 @@ int main(int count, char **words) {
             for (long copy = 0; copy < copies; copy++) {
                 serve(i, damaged, damage(length));
             }
+            release(stations[i]);
         }
         printf("%016" PRIx64 "\n", checksum);
     }

@@ -26,7 +26,7 @@ EXAMPLES = re.compile(
 BLOCKS = re.compile(
     r"The limit of sources takes twice (\d+) bytes of it, and `deliver_once` (\d+)\."
 )
-OF_THE_DAEMON = re.compile(r"\((\d+) \+ c->capacity \* \((\d+) \+ (\d+)u \* c->remember\)\)")
+OF_THE_DAEMON = re.compile(r"\((\d+) \+ places \+ c->capacity \* \((\d+) \+ (\d+)u \* c->remember\)\)")
 
 
 def found(pattern, path):

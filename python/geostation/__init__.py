@@ -14,6 +14,8 @@ from .station import Station, frame_length, message_of, plain_part, read_frame, 
 from .values import (
     NO_LIMITS,
     Area,
+    Contention,
+    ContentionCounts,
     Counts,
     IgnoredCounts,
     IgnoreReason,
@@ -37,6 +39,8 @@ __all__ = [
     "Area",
     "BadArgument",
     "BadFrame",
+    "Contention",
+    "ContentionCounts",
     "Counts",
     "Ended",
     "Fault",
@@ -66,4 +70,4 @@ __all__ = [
     "read_frame",
     "seal",
 ]
-__version__ = "0.2.0"
+__version__ = "0.3.0"

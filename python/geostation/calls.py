@@ -361,7 +361,8 @@ class Calls(ABC):
         """Processes a received frame.
 
         If the packet is to be forwarded, the result has the frame to send as `relay`. On a radio,
-        send it after a random wait below 2 ms.
+        send it after a random wait below 2 ms. With contention the station may hold that frame
+        instead: `due` of the result is the time at which `release` returns it.
 
         Args:
             now: Time, in ms.
@@ -373,6 +374,24 @@ class Calls(ABC):
         """
         with self._calling:
             return self._receive(moment(now), octets("frame", frame))
+
+    def release(self, now: int) -> Optional[bytes]:
+        """Returns a held frame that is due, or `None`. It needs contention.
+
+        Send the frame at once, and call this method again until it returns `None`. Pass received
+        frames to `receive` first: they may cancel what is due. Frames that were due more than
+        1000 ms before `now` are dropped. The call does not change the station's clock.
+
+        Args:
+            now: Time, in ms: `next_due`, on a radio plus a random time below 2 ms.
+        """
+        with self._calling:
+            return self._release(moment(now))
+
+    def next_due(self) -> Optional[int]:
+        """Returns the earliest time at which `release` returns a held frame, in ms, or `None`."""
+        with self._calling:
+            return self._next_due()
 
     def receive_verified(self, now: int, frame: bytes, plain: bytes) -> Reception:
         """Processes a secured frame whose message was verified.
@@ -456,6 +475,12 @@ class Calls(ABC):
 
     @abstractmethod
     def _receive(self, now: int, frame: bytes) -> Reception: ...
+
+    @abstractmethod
+    def _next_due(self) -> Optional[int]: ...
+
+    @abstractmethod
+    def _release(self, now: int) -> Optional[bytes]: ...
 
     @abstractmethod
     def _receive_verified(self, now: int, frame: bytes, plain: bytes) -> Reception: ...

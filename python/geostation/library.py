@@ -14,10 +14,13 @@ from typing import Any
 from .errors import Fault
 
 # The layouts below are those of a header with this ABI.
-ABI = 3
+ABI = 4
 NAME = f"libgeostation.so.{ABI}"
-# What geostation_beacon_at returns for a jitter out of range.
+# What geostation_beacon_at returns for a jitter out of range, and geostation_next_due if no frame is
+# held.
 NEVER = (1 << 64) - 1
+# The number of GEOSTATION_CONTENTION, of `area_forwarding`.
+CONTENTION = 1
 
 
 class Reception(c.Structure):
@@ -37,6 +40,9 @@ class Reception(c.Structure):
         ("number", c.c_uint16),
         ("traffic_class", c.c_uint8),
         ("hops_left", c.c_uint8),
+        ("due", c.c_uint64),
+        ("held", c.c_uint32),
+        ("cancelled", c.c_uint32),
     ]
 
 
@@ -58,6 +64,11 @@ class Config(c.Structure):
         ("own_burst", c.c_uint32),
         ("hop_cap", c.c_uint32),
         ("deliver_once", c.c_uint32),
+        ("area_forwarding", c.c_uint32),
+        ("contention_max", c.c_uint32),
+        ("contention_min", c.c_uint32),
+        ("contention_range", c.c_uint32),
+        ("contention_copies", c.c_uint32),
     ]
 
 
@@ -82,6 +93,7 @@ class Counts(c.Structure):
         ("suppressed", c.c_uint64),
         ("repeated", c.c_uint64),
         ("over_rate", c.c_uint64),
+        ("contention", _counters("held", "released", "cancelled", "dropped", "full")),
     ]
 
 
@@ -175,9 +187,9 @@ class LineResult(c.Structure):
 
 # The sizes that the header asserts for its structs.
 SIZES = {
-    Reception: 72,
-    Config: 64,
-    Counts: 168,
+    Reception: 88,
+    Config: 88,
+    Counts: 208,
     ShbRequest: 6,
     AreaRequest: 24,
     Vector: 32,
@@ -252,6 +264,7 @@ CALLS = {
         c.c_char_p,
         c.c_size_t,
     ),
+    "release": (c.c_int, c.c_void_p, c.c_uint64, *_WRITTEN),
     "message": (c.c_int, *_OCTETS, *_PART),
     "plain_part": (c.c_int, *_OCTETS, *_PART),
     "seal": (c.c_int, *_OCTETS, *_OCTETS, *_WRITTEN),
@@ -268,6 +281,7 @@ CALLS = {
         c.POINTER(LineResult),
     ),
     "beacon_at": (c.c_uint64, c.c_void_p, c.c_uint16),
+    "next_due": (c.c_uint64, c.c_void_p),
     "next_number": (c.c_uint16, c.c_void_p),
     "counts": (None, c.c_void_p, c.POINTER(Counts)),
     "frame_length": (c.c_size_t, *_OCTETS),

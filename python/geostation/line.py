@@ -5,12 +5,15 @@ from __future__ import annotations
 import json
 import os
 import subprocess
+from dataclasses import asdict
 from typing import Any, Dict, List, Optional, Sequence, Tuple, Union
 
 from .calls import FRAME_MAX, PAYLOAD_MAX, SECURED_FRAME_MAX, Calls, octets
 from .errors import BadArgument, Refused, Status, refused_by
 from .values import (
     Area,
+    Contention,
+    ContentionCounts,
     Counts,
     IgnoredCounts,
     IgnoreReason,
@@ -73,6 +76,7 @@ class PipeStation(Calls):
         degrees: Latitude and longitude in degrees, instead of these two.
         capacity: Size of the location table, 1 to 4096.
         remember: Length of each duplicate packet list, 1 to 64.
+        contention: How the station contends; `None`: it forwards at once.
         program: Name of the program, or a list with the first words of a command. The default is
             the variable `GEOSTATION_PROGRAM`, or `geostation` if that is not set.
 
@@ -85,22 +89,33 @@ class PipeStation(Calls):
     _process: Optional[subprocess.Popen[bytes]] = None
 
     def __init__(
-        self, *arguments: Any, program: Union[str, Sequence[str], None] = None, **more: Any
+        self,
+        *arguments: Any,
+        contention: Optional[Contention] = None,
+        program: Union[str, Sequence[str], None] = None,
+        **more: Any,
     ):
         if program is None:
             program = os.environ.get("GEOSTATION_PROGRAM", "geostation")
         self._program = [program] if isinstance(program, str) else list(program)
+        self._contention = contention
         super().__init__(*arguments, **more)
 
     def _make(
         self, address: int, latitude: int, longitude: int, capacity: int, remember: int
     ) -> None:
         place = [f"{address:016x}", str(latitude), str(longitude)]
-        sizes = [f"--capacity={capacity}", f"--remember={remember}"]
+        options = [f"--capacity={capacity}", f"--remember={remember}", *self._contends()]
         pipe = subprocess.PIPE
         self._process = subprocess.Popen(
-            [*self._program, "station", *place, *sizes], stdin=pipe, stdout=pipe, stderr=pipe
+            [*self._program, "station", *place, *options], stdin=pipe, stdout=pipe, stderr=pipe
         )
+
+    def _contends(self) -> List[str]:
+        if self._contention is None:
+            return []
+        told = [f"--contention-{name}={value}" for name, value in asdict(self._contention).items()]
+        return ["--area-forwarding=contention", *told]
 
     def _end(self) -> None:
         process, self._process = self._process, None
@@ -238,6 +253,7 @@ class PipeStation(Calls):
             ignored=IgnoredCounts(**told["ignored"]),
             refused=RefusedCounts(**told["refused"]),
             sent=SentCounts(**told["sent"]),
+            contention=ContentionCounts(**told.get("contention", {})),
         )
 
     def _look_up(self, now: int, address: int) -> Optional[Vector]:
@@ -313,10 +329,21 @@ class PipeStation(Calls):
 
     def _heard(self, answer: Dict[str, Any]) -> Reception:
         if answer["result"] == "ignored":
-            return Reception(ignored=_REASONS[answer["why"]])
+            return Reception(
+                ignored=_REASONS[answer["why"]], cancelled=answer.get("cancelled", False)
+            )
         delivered = _message(answer) if "payload" in answer else None
         relay = self._sent(answer) if "frame" in answer else None
-        return Reception(delivered=delivered, relay=relay, source=int(answer["source"], 16))
+        source = int(answer["source"], 16)
+        return Reception(delivered=delivered, relay=relay, source=source, due=answer.get("due"))
+
+    def _next_due(self) -> Optional[int]:
+        due: Optional[int] = self._ask("next_due").get("moment")
+        return due
+
+    def _release(self, now: int) -> Optional[bytes]:
+        answer = self._ask("release", now)
+        return self._sent(answer) if answer["result"] == "released" else None
 
 
 Line = PipeStation  # deprecated: the name until 0.1

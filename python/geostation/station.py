@@ -12,6 +12,8 @@ from .calls import moment, octets
 from .errors import BadArgument, BadFrame, Fault, OverRate, Refused, Status
 from .values import (
     Area,
+    Contention,
+    ContentionCounts,
     Counts,
     IgnoredCounts,
     IgnoreReason,
@@ -68,6 +70,7 @@ class Station(Calls):
             accepted nothing from this address for 20 s. docs/C.md says more ("Sequence numbers
             after a restart").
         limits: Limits on what is sent. `NO_LIMITS` turns them off.
+        contention: How the station contends; `None`: it forwards at once.
 
     Raises:
         BadArgument: An argument is out of its range.
@@ -89,9 +92,10 @@ class Station(Calls):
         mobile: bool = True,
         number: int = 0,
         limits: Limits = Limits(),
+        contention: Optional[Contention] = None,
     ):
         self._mobile, self._number = bool(mobile), whole("number", number, 0, 65535)
-        self._limits = limits
+        self._limits, self._contention = limits, contention
         super().__init__(
             address,
             latitude=latitude,
@@ -112,6 +116,10 @@ class Station(Calls):
         config.mobile, config.number = self._mobile, self._number
         for field in fields(self._limits):
             setattr(config, field.name, int(getattr(self._limits, field.name)))
+        if self._contention is not None:
+            config.area_forwarding = library.CONTENTION
+            for field in fields(self._contention):
+                setattr(config, "contention_" + field.name, getattr(self._contention, field.name))
         _done(self._library.new_from_config(handle, config))
         self._handle = handle
         self._frame = c.create_string_buffer(SECURED_FRAME_MAX)
@@ -223,7 +231,16 @@ class Station(Calls):
             delivered,
             c.string_at(self._frame, heard.relay_length) or None,
             None if heard.ignored else heard.source,
+            heard.due if heard.held else None,
+            heard.cancelled != 0,
         )
+
+    def _next_due(self) -> Optional[int]:
+        due = int(self._library.next_due(self._open()))
+        return None if due == library.NEVER else due
+
+    def _release(self, now: int) -> Optional[bytes]:
+        return self._written(self._library.release, now) or None
 
     def _next_beacon(self, jitter: int) -> int:
         due = int(self._library.beacon_at(self._open(), jitter))
@@ -356,7 +373,8 @@ class Station(Calls):
         ignored, refused = _numbers(told.ignored), _numbers(told.refused)
         parts = (IgnoredCounts(*ignored), RefusedCounts(*refused))
         withheld = (told.suppressed, told.repeated, told.over_rate)
-        return Counts(*first, *parts, SentCounts(*_numbers(told.sent)), *withheld)
+        contention = ContentionCounts(*_numbers(told.contention))
+        return Counts(*first, *parts, SentCounts(*_numbers(told.sent)), *withheld, contention)
 
     def _look_up(self, now: int, address: int) -> Optional[Vector]:
         told = library.Vector()

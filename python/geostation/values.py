@@ -215,6 +215,11 @@ class Reception:
     """The frame to forward, or `None`."""
     source: Optional[int] = None
     """GN address of the packet's source; `None` if the frame was ignored."""
+    due: Optional[int] = None
+    """With contention: the time, in ms, at which the frame to forward is due (`release`), or `None`.
+    While it is set, `relay` is `None`."""
+    cancelled: bool = False
+    """With contention: whether this frame has cancelled a held one."""
 
 
 @dataclass(frozen=True)
@@ -280,6 +285,33 @@ class Limits:
         whole("hop_cap", self.hop_cap, 0, 255)
 
 
+@dataclass(frozen=True)
+class Contention:
+    """How a station contends: it holds the frame of a GBC that it forwards inside the area.
+
+    If other stations broadcast the same frame before it is due, it is cancelled.
+
+    Raises:
+        BadArgument: A value is out of its range.
+        TypeError: A value is not an int.
+    """
+
+    min: int = 1
+    """Least wait, if the sender is `range` metres away or farther, in ms, 0 to `max`."""
+    max: int = 100
+    """Greatest wait, if the sender is near, in ms, 1 to 1000."""
+    range: int = 1000
+    """Distance of the least wait, in metres, 1 to 65535."""
+    copies: int = 2
+    """Copies, each from another station, that cancel a held frame, 1 to 3."""
+
+    def __post_init__(self) -> None:
+        whole("max", self.max, 1, 1000)
+        whole("min", self.min, 0, self.max)
+        whole("range", self.range, 1, 65535)
+        whole("copies", self.copies, 1, 3)
+
+
 NO_LIMITS = Limits(0, 0, 0, 0, 0, 0, 0, False)
 """All frames pass."""
 
@@ -323,6 +355,22 @@ class SentCounts:
 
 
 @dataclass(frozen=True)
+class ContentionCounts:
+    """Number of held frames, by their outcome; all 0 without contention."""
+
+    held: int = 0
+    """Frames that were held."""
+    released: int = 0
+    """Frames that `release` returned."""
+    cancelled: int = 0
+    """Frames that others had sent."""
+    dropped: int = 0
+    """Frames dropped: by `restart`, over 1 s late, or by a limit."""
+    full: int = 0
+    """Frames that were not held because 64 others were."""
+
+
+@dataclass(frozen=True)
 class Counts:
     """Counters of a station since it was created."""
 
@@ -333,7 +381,7 @@ class Counts:
     delivered: int
     """Payloads that were delivered."""
     relayed: int
-    """Frames to forward."""
+    """Frames to forward. A held frame counts once it is released."""
     ignored: IgnoredCounts
     refused: RefusedCounts
     sent: SentCounts
@@ -343,3 +391,4 @@ class Counts:
     """Packets that were ignored because they were delivered before: `IgnoreReason.REPEATED`."""
     over_rate: int = 0
     """Own packets that were refused for their rate."""
+    contention: ContentionCounts = ContentionCounts()

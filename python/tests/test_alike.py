@@ -11,6 +11,7 @@ from geostation import (
     Area,
     BadArgument,
     BadFrame,
+    Contention,
     PipeStation,
     ProcessExited,
     Reception,
@@ -35,9 +36,10 @@ def outcome(call, station):
 class Traffic:
     """Random calls: moments mostly rise, frames are those of another station, or nearly so."""
 
-    def __init__(self, seed):
+    def __init__(self, seed, contends=False):
         self.draws = random.Random(seed)
         self.now = 0
+        self.contends = contends
         self.others = [
             Station(0x1400020000000100 + n, latitude=n, longitude=0, limits=NO_LIMITS)
             for n in range(6)
@@ -107,6 +109,13 @@ class Traffic:
             plain = plain[: draws.randrange(len(plain) + 1)] + bytes(draws.choice([0, 1, 40000]))
         return frame, plain
 
+    def copy(self):
+        """The last frame, as another station forwards it."""
+        frame, sender = getattr(self, "last", b"")[:1468], self.draws.randrange(4)
+        if len(frame) < 18:
+            return frame
+        return frame[:11] + bytes([sender]) + frame[12:17] + bytes([frame[17] - 1 & 255]) + frame[18:]
+
     def call(self):
         """A call, as a function of a station."""
         draws = self.draws
@@ -116,7 +125,15 @@ class Traffic:
             ["move", "open_port", "close_port", "tick", "send_shb", "send_gbc", "send_gac"]
             + ["next_beacon", "look_up", "neighbours", "counts"] + ["receive"] * 7
             + ["receive_verified"] * 4 + ["restart"] * (draws.randrange(10) == 0) + ["bad"]
+            + ["release", "copy", "next_due"] * (3 * self.contends)
         )
+        if word == "release":
+            return lambda s: s.release(now)
+        if word == "next_due":
+            return lambda s: s.next_due()
+        if word == "copy":
+            copy = self.copy()
+            return lambda s: s.receive(now, copy)
         if word == "receive":
             frame = self.frame()
             if draws.randrange(4) == 0:
@@ -172,6 +189,23 @@ class Alike(unittest.TestCase):
         self.assertEqual(set(), wanted - kinds)
         self.assertTrue({"S3 L1", "S3 L3", "S3 L4"} <= kinds)
         self.assertTrue(any(kind.startswith("S3 L6 ") for kind in kinds))
+
+    def test_stations_that_contend(self):
+        place = {"latitude": 3, "longitude": -3, "capacity": 64, "remember": 64}
+        rule, traffic, kinds = Contention(2, 300, 1, 1), Traffic(8, contends=True), set()
+        address, keys = 0x1400020000000001, {**place, "contention": rule}
+        with Station(address, limits=NO_LIMITS, **keys) as station:
+            with PipeStation(address, program=PROGRAM, **keys) as line:
+                for number in range(1500):
+                    call = traffic.call()
+                    want = outcome(call, station)
+                    self.assertEqual(want, outcome(call, line), f"call {number}")
+                    if isinstance(want, Reception):
+                        kinds |= {"held"} if want.due is not None else set()
+                        kinds |= {"cancelled"} if want.cancelled else set()
+                counts = station.counts().contention
+        self.assertEqual({"held", "cancelled"}, kinds)
+        self.assertTrue(counts.released > 0 and counts.dropped > 0, counts)
 
     @staticmethod
     def kind(told):

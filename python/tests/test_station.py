@@ -25,6 +25,8 @@ from geostation import (
     Area,
     BadArgument,
     BadFrame,
+    Contention,
+    ContentionCounts,
     Fault,
     IgnoreReason,
     Kind,
@@ -488,6 +490,78 @@ class Messages(unittest.TestCase):
         )
         self.check(Status.HOP_LIMIT_ZERO, 5, gbc, lambda: a.send_gbc(5, **far))
         self.check(Status.JITTER_RANGE, 5, jitter, lambda: a.tick(5, jitter=751))
+
+
+def as_sent_by(frame, number, hops):
+    """The frame as the station with this last byte of its address forwards it."""
+    return frame[:11] + bytes([number]) + frame[12:17] + bytes([hops]) + frame[18:]
+
+
+class Contending(unittest.TestCase):
+    """The station is 300 m north of the sender: it waits for 71 ms of 1 to 100."""
+
+    def setUp(self):
+        a = Station(A, latitude=0, longitude=0)
+        a.move(500, latitude=0, longitude=0)
+        area = Area.circle(1000, latitude=0, longitude=0)
+        self.frame = a.send_gbc(1000, port=2002, payload=b"hi", area=area)
+
+    def station(self, **keys):
+        rule = Contention(**keys)
+        b = Station(B, latitude=26950, longitude=0, limits=NO_LIMITS, contention=rule)
+        b.open_port(0, 2002)
+        return b
+
+    def test_held_and_released(self):
+        b = self.station()
+        self.assertIsNone(b.next_due())
+        got = b.receive(1001, self.frame)
+        self.assertEqual((None, 1072, False), (got.relay, got.due, got.cancelled))
+        self.assertEqual((b"hi", A), (got.delivered.payload, got.source))
+        self.assertEqual((1072, None), (b.next_due(), b.release(1071)))
+        self.assertEqual(as_sent_by(self.frame, 2, 9), b.release(1072))
+        self.assertEqual((None, None), (b.release(1072), b.next_due()))
+        counts = b.counts()
+        self.assertEqual(ContentionCounts(held=1, released=1), counts.contention)
+        self.assertEqual(1, counts.relayed)
+        with self.assertRaises(Refused) as told:
+            b.release(1000)
+        self.assertEqual(Status.MOMENT_EARLIER, told.exception.status)
+
+    def test_copies(self):
+        b = self.station()
+        b.receive(1001, self.frame)
+        copies = [b.receive(1010, as_sent_by(self.frame, number, 9)) for number in (3, 3, 4)]
+        self.assertEqual([False, False, True], [got.cancelled for got in copies])
+        self.assertEqual([None] * 3, [got.due for got in copies])
+        self.assertIsNone(b.release(1072))
+        b.restart(1080, 0)
+        b.receive(1081, self.frame)
+        b.restart(1082, 0)
+        self.assertEqual(ContentionCounts(2, 0, 1, 1, 0), b.counts().contention)
+
+    def test_signed_packets(self):
+        b, secured = self.station(copies=1), seal(self.frame, b"s" * 2000)
+        self.assertEqual(1072, b.receive_verified(1001, secured, plain_part(self.frame)).due)
+        self.assertEqual(as_sent_by(secured, 2, 9), b.release(1072))
+
+    def test_values_out_of_range(self):
+        wrong = [("max", 0), ("max", 1001), ("min", -1), ("min", 101), ("range", 0)]
+        wrong += [("range", 65536), ("copies", 0), ("copies", 4)]
+        for name, value in wrong:
+            with self.assertRaises(BadArgument) as told:
+                Contention(**{name: value})
+            self.assertEqual(name, told.exception.name)
+        self.assertRaises(TypeError, lambda: Contention(copies=1.0))
+        for rule in (Contention(1000, 1000, 65535, 3), Contention(0, 1, 1, 1)):
+            Station(A, latitude=0, longitude=0, contention=rule).free()
+
+    def test_no_contention(self):
+        b = Station(B, latitude=26950, longitude=0)
+        got = b.receive(1001, self.frame)
+        self.assertEqual((as_sent_by(self.frame, 2, 9), None), (got.relay, got.due))
+        self.assertEqual((None, None), (b.next_due(), b.release(2000)))
+        self.assertEqual(ContentionCounts(), b.counts().contention)
 
 
 class Library(unittest.TestCase):

@@ -6,7 +6,8 @@ come at some rate, and an own warning every half second. The entity counts what 
 it had nothing to do. A cell is judged by these counts and never by a time:
 - each own warning is signed, and each frame has one outcome
 - what the entity accepted was used
-- it was busy if more came than it can do, and otherwise verified what came
+- it was busy if more came than it can do, and otherwise verified what came: half of it, if it gives
+  so few answers while a frame may wait that one of them is much
 - beside a flood of messages that it refuses, the messages of a neighbour are verified
 A cell that fails is run again, twice at most: the entity may have had no processor for a while.
 """
@@ -33,6 +34,7 @@ from net import Daemon
 OWN_EACH = 0.5  # seconds
 AT_A_TIME, TRIES = 3, 3
 SETTLED = 1.0  # seconds; then no frame waits any more
+WAITS = 0.4  # seconds; so long may a frame wait
 ACCEPTED, REFUSED, SIGNED, IDLE = range(4)
 JUNK = 0xFF  # the first octet of a message that the entity refuses
 NEIGHBOUR = OTHER & (1 << 48) - 1
@@ -223,7 +225,8 @@ def judge(cell, f):
     if more >= 1.5 and f["idle"] > 0.1:
         yield f"the entity had nothing to do for {f['idle']:.0%} of the time"
     spare = more <= 0.8 or (junk_rate and junk_from != "neighbour")
-    if spare and f["verified"] < 0.9 * f["good"]:
+    least = 0.9 if answers * WAITS >= 4 else 0.5
+    if spare and f["verified"] < least * f["good"]:
         yield f"{f['verified']} of {f['good']} good frames verified"
 
 

@@ -1,6 +1,6 @@
 #!/usr/bin/env python3
-"""Builds daemons with a mistake in what they do with an entity's answers. A forger has to be seen to
-gain by each.
+"""Builds daemons with a mistake: in what they do with an entity's answers, by which a forger has to be
+seen to gain, and in what they do with held frames. Each has a test that fails.
 
     planted.py PREFIX    PREFIX has the library and its header; CC is the compiler
 """
@@ -14,22 +14,28 @@ from pathlib import Path
 
 TEST = Path(__file__).resolve().parent
 
-# A name, a file, what stands there once, and what is planted.
+FORGER, COPY, END = "test_forger", "test_copy_that_waits_in_the_socket", "test_end_with_held_frames"
+# A test, a name, a file, what stands there once, and what is planted.
 MISTAKES = [
-    ("an answer kept for another message", "kept.c",
+    (FORGER, "an answer kept for another message", "kept.c",
      "k->hash == hash && k->length == n\n            && memcmp(k->message, message, n) == 0",
      "(k->hash == hash || k->length == n) && message != NULL"),
-    ("a frame delivered that the entity refused", "requests.c",
+    (FORGER, "a frame delivered that the entity refused", "requests.c",
      "    if (!good) {\n        a->kind = NOT_DONE;\n    }",
      "    if (!good && r->kind == VERIFY && part_length(r) > 1) {\n"
      "        a->kind = PLAIN_PART;\n"
      "        a->length = part_length(r) - 1;\n"
      "        memcpy(a->octets, part_of(r) + 1, a->length);\n"
      "    } else if (!good) {\n        a->kind = NOT_DONE;\n    }"),
-    ("another message forwarded", "station.c",
+    (FORGER, "another message forwarded", "station.c",
      "    forward(s, got.relay_length, since);\n    conflict_look(s, &got, frame + MAC_AT, a->",
      "    s->frame[got.relay_length > 0 ? got.relay_length - 1 : 0] ^= 1;\n"
      "    forward(s, got.relay_length, since);\n    conflict_look(s, &got, frame + MAC_AT, a->"),
+    (COPY, "a release before the frames that came are read", "loop.c",
+     "    if (on[LINK].revents != 0 || releases) {",
+     "    if (releases) {\n        releases_turn(&p->station);\n    }\n    if (on[LINK].revents != 0) {"),
+    (END, "held frames that are lost at the end", "loop.c",
+     "    release_last(p);", "    (void)release_last;"),
 ]
 
 
@@ -49,21 +55,21 @@ def build(prefix, room, name, old, new):
     return room / "bin/geostation-link"
 
 
-def is_seen(program):
-    run = subprocess.run([sys.executable, TEST / "test_link.py", program, "test_forger"],
+def is_seen(program, test):
+    run = subprocess.run([sys.executable, TEST / "test_link.py", program, test],
                          capture_output=True, text=True, check=False)
-    return run.returncode == 1 and run.stdout.endswith("failed: test_forger\n"), run
+    return run.returncode == 1 and run.stdout.endswith(f"failed: {test}\n"), run
 
 
 def main(prefix):
     os.environ["PYTHONDONTWRITEBYTECODE"] = "1"
-    for mistake, name, old, new in MISTAKES:
+    for test, mistake, name, old, new in MISTAKES:
         with tempfile.TemporaryDirectory() as room:
-            seen, run = is_seen(build(prefix, Path(room), name, old, new))
+            seen, run = is_seen(build(prefix, Path(room), name, old, new), test)
         if not seen:
             print(f"nobody saw {mistake}:\n{run.stdout}{run.stderr}")
             return 1
-    print(f"{len(MISTAKES)} daemons with a planted mistake give a forger something")
+    print(f"{len(MISTAKES)} daemons with a planted mistake are seen")
     return 0
 
 

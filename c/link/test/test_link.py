@@ -17,6 +17,7 @@ from pathlib import Path
 import frames
 import test_client_rights
 import test_clock
+import test_contention
 import test_faults
 import test_fixes
 import test_forger
@@ -428,8 +429,9 @@ def test_arguments():
 
 def main():
     tests = {}
-    for module in (sys.modules[__name__], test_client_rights, test_clock, test_faults, test_fixes,
-                   test_forger, test_limits, test_own, test_security, test_service, test_standard):
+    for module in (sys.modules[__name__], test_client_rights, test_clock, test_contention,
+                   test_faults, test_fixes, test_forger, test_limits, test_own, test_security,
+                   test_service, test_standard):
         named = ((k, v) for k, v in vars(module).items() if k.startswith("test_"))
         found = {k: v for k, v in named if callable(v)}
         assert not tests.keys() & found.keys(), tests.keys() & found.keys()

@@ -122,7 +122,7 @@ def refused_packets():
         "PKT-7": [(area, 5, b"\x60"), (area, 5, b"\x61")],
         "PKT-8": [(beacon, 0, b"\x10")],
         "PKT-9": [(area, 4, b"\0"), (hop, 4, b"\0"), (beacon, 4, b"\x20")],
-        "PKT-10": [(hop, 8, b"\0\0"), (area, 8, b"\0\3")],
+        "PKT-10": [(hop, 8, b"\0\0"), (area, 8, b"\0\3"), (beacon, 8, b"\0\4")],
         "PKT-11": [(beacon, 3, b"\0")],
         "PKT-12": [(beacon, 24, struct.pack(">i", 900000001)), (beacon, 14, b"\1"),
                    (hop, 28, struct.pack(">i", 1800000001))],

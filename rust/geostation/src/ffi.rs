@@ -39,6 +39,9 @@ pub(crate) struct Reception {
     pub(crate) number: u16,
     pub(crate) traffic_class: u8,
     pub(crate) hops_left: u8,
+    pub(crate) due: u64,
+    pub(crate) held: u32,
+    pub(crate) cancelled: u32,
 }
 
 /// `struct geostation_config`.
@@ -61,6 +64,11 @@ pub(crate) struct Config {
     pub(crate) own_burst: u32,
     pub(crate) hop_cap: u32,
     pub(crate) deliver_once: u32,
+    pub(crate) area_forwarding: u32,
+    pub(crate) contention_max: u32,
+    pub(crate) contention_min: u32,
+    pub(crate) contention_range: u32,
+    pub(crate) contention_copies: u32,
 }
 
 /// `struct geostation_counts`.
@@ -77,6 +85,7 @@ pub(crate) struct Counts {
     pub(crate) suppressed: u64,
     pub(crate) repeated: u64,
     pub(crate) over_rate: u64,
+    pub(crate) contention: [u64; 5],
 }
 
 /// `struct geostation_shb_request`.
@@ -179,9 +188,9 @@ pub(crate) struct Packet {
 // The sizes that the header asserts. 32-bit targets are not supported.
 const _: () = {
     use std::mem::size_of;
-    assert!(size_of::<Reception>() == 72 && size_of::<Packet>() == 120);
+    assert!(size_of::<Reception>() == 88 && size_of::<Packet>() == 120);
     assert!(size_of::<Message>() == 24);
-    assert!(size_of::<Config>() == 64 && size_of::<Counts>() == 168);
+    assert!(size_of::<Config>() == 88 && size_of::<Counts>() == 208);
     assert!(size_of::<ShbRequest>() == 6 && size_of::<AreaRequest>() == 24);
     assert!(size_of::<Vector>() == 32 && size_of::<Area>() == 16);
     assert!(size_of::<LineResult>() == 80);
@@ -294,6 +303,13 @@ extern "C" {
         relay: *mut u8,
         room: usize,
     ) -> c_int;
+    fn geostation_release(
+        s: *mut Opaque,
+        now: u64,
+        frame: *mut u8,
+        room: usize,
+        length: *mut usize,
+    ) -> c_int;
     fn geostation_message(
         frame: *const u8,
         length: usize,
@@ -341,6 +357,7 @@ extern "C" {
         frame_room: usize,
         out: *mut LineResult,
     ) -> c_int;
+    fn geostation_next_due(s: *const Opaque) -> u64;
     fn geostation_next_number(s: *const Opaque) -> u16;
     fn geostation_beacon_at(s: *const Opaque, jitter: u16) -> u64;
     fn geostation_counts(s: *const Opaque, out: *mut Counts);
@@ -558,6 +575,14 @@ impl Handle {
         (status, out)
     }
 
+    pub(crate) fn release(&mut self, now: u64, frame: &mut [u8]) -> Written {
+        let (s, mut length) = (self.0.as_ptr(), 0);
+        // SAFETY: the handle is valid, and in no other call; the buffer has the given length.
+        let status =
+            unsafe { geostation_release(s, now, frame.as_mut_ptr(), frame.len(), &mut length) };
+        (status, length)
+    }
+
     /// Afterwards, `answer` holds exactly the answer.
     pub(crate) fn handle_json(
         &mut self,
@@ -617,6 +642,11 @@ impl Handle {
         };
         answer.truncate(out.answer_length);
         (status, out)
+    }
+
+    pub(crate) fn next_due(&self) -> u64 {
+        // SAFETY: the handle is valid, and in no other call, since it isn't `Sync`.
+        unsafe { geostation_next_due(self.0.as_ptr()) }
     }
 
     pub(crate) fn next_number(&self) -> u16 {

@@ -44,8 +44,8 @@ pub use error::{Code, Error, Fault};
 pub use frame::{frame_length, read_frame, Area, Content, Message, Packet, Shape, Vector};
 pub use secured::{message_of, plain_part, seal};
 pub use station::{
-    AreaRequest, Config, Counts, IgnoreReason, IgnoredCounts, Limits, LineResult, Neighbours,
-    Place, Received, RefusedCounts, SentCounts, ShbRequest, Station,
+    AreaRequest, Config, Contention, ContentionCounts, Counts, IgnoreReason, IgnoredCounts, Limits,
+    LineResult, Neighbours, Place, Received, RefusedCounts, SentCounts, ShbRequest, Station,
 };
 
 /// The name of [`IgnoreReason`] until 0.1.

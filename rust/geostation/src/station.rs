@@ -67,6 +67,27 @@ impl Default for Limits {
     }
 }
 
+/// How a station contends: it holds the frame of a GBC that it forwards inside the area. If other
+/// stations broadcast the same frame before it is due, it is cancelled. See [`Station::release`].
+#[derive(Clone, Copy, Debug, PartialEq, Eq, Hash)]
+pub struct Contention {
+    /// Least wait, if the sender is `range` metres away or farther, in ms, 0 to `max`.
+    pub min: u16,
+    /// Greatest wait, if the sender is near, in ms, 1 to 1000.
+    pub max: u16,
+    /// Distance of the least wait, in metres, from 1.
+    pub range: u16,
+    /// Copies, each from another station, that cancel a held frame, 1 to 3.
+    pub copies: u8,
+}
+
+impl Default for Contention {
+    /// Waits of 1 to 100 ms, a range of 1000 m, and two copies.
+    fn default() -> Contention {
+        Contention { min: 1, max: 100, range: 1000, copies: 2 }
+    }
+}
+
 /// The parameters of a station.
 #[derive(Clone, Copy, Debug, PartialEq, Eq, Hash)]
 #[non_exhaustive]
@@ -90,12 +111,14 @@ pub struct Config {
     pub number: u16,
     /// Limits on what it sends.
     pub limits: Limits,
+    /// How it contends; `None`: it forwards at once.
+    pub contention: Option<Contention>,
 }
 
 impl Config {
     /// Returns the parameters of a mobile station with this address and position. The location
     /// table has 64 entries, each duplicate packet list has length 8, the first sequence number is
-    /// 0, and the limits are the defaults.
+    /// 0, the limits are the defaults, and it does not contend.
     pub fn new(address: u64, latitude: i32, longitude: i32) -> Config {
         Config {
             address,
@@ -106,6 +129,7 @@ impl Config {
             mobile: true,
             number: 0,
             limits: Limits::default(),
+            contention: None,
         }
     }
 }
@@ -218,7 +242,7 @@ pub struct Received<'a> {
     /// The payload that is delivered to an open port. It borrows the received frame, or its plain
     /// part.
     pub delivered: Option<Message<'a>>,
-    /// The frame to forward. It borrows the buffer.
+    /// The frame to forward. It borrows the buffer. It is `None` while `due` is `Some`.
     pub relay: Option<&'a [u8]>,
     /// GN address of the packet's source.
     pub source: u64,
@@ -228,6 +252,10 @@ pub struct Received<'a> {
     pub traffic_class: u8,
     /// Sequence number of a GBC or GAC.
     pub number: Option<u16>,
+    /// If the frame to forward is held: the time at which it is due, in ms ([`Station::release`]).
+    pub due: Option<u64>,
+    /// Whether this frame has cancelled a held one.
+    pub cancelled: bool,
 }
 
 impl<'a> Received<'a> {
@@ -259,6 +287,8 @@ impl<'a> Received<'a> {
             hops_left: r.hops_left,
             traffic_class: r.traffic_class,
             number: (r.kind == GBC || r.kind == GAC).then_some(r.number),
+            due: (r.held != 0).then_some(r.due),
+            cancelled: r.cancelled != 0,
         })
     }
 }
@@ -312,7 +342,7 @@ pub struct SentCounts {
 pub struct LineResult {
     /// The number of its command: 1 `move`, 2 `open`, 3 `close`, 4 `tick`, 5 `shb`, 6 `gbc`, 7
     /// `gac`, 8 `restart`, 9 `receive`, 10 `next_beacon`, 11 `neighbours`, 12 `look_up`, 13
-    /// `read_frame`, 14 `counts`, 15 `seal`; 0 if it has none.
+    /// `read_frame`, 14 `counts`, 15 `seal`, 16 `release`, 17 `next_due`; 0 if it has none.
     pub command: u32,
     /// 0 for a blank line, 1 if it was executed, 2 if it lacks its right, 3 if it was refused, 4 if
     /// its command is missing or unknown, 5 if it is malformed.
@@ -346,6 +376,21 @@ impl LineResult {
     }
 }
 
+/// Number of held frames, by their outcome; all 0 without contention.
+#[derive(Clone, Copy, Debug, Default, PartialEq, Eq, Hash)]
+pub struct ContentionCounts {
+    /// Frames that were held.
+    pub held: u64,
+    /// Frames that [`Station::release`] returned.
+    pub released: u64,
+    /// Frames that others had sent.
+    pub cancelled: u64,
+    /// Frames dropped: by a restart, over 1 s late, or by a limit.
+    pub dropped: u64,
+    /// Frames that were not held because 64 others were.
+    pub full: u64,
+}
+
 /// Counters of a station since it was created.
 #[derive(Clone, Copy, Debug, Default, PartialEq, Eq, Hash)]
 pub struct Counts {
@@ -355,7 +400,7 @@ pub struct Counts {
     pub accepted: u64,
     /// Payloads that were delivered.
     pub delivered: u64,
-    /// Frames to forward.
+    /// Frames to forward. A held frame counts once it is released.
     pub relayed: u64,
     /// Ignored frames.
     pub ignored: IgnoredCounts,
@@ -370,6 +415,8 @@ pub struct Counts {
     pub repeated: u64,
     /// Calls that failed with [`Error::OverRate`].
     pub over_rate: u64,
+    /// Held frames.
+    pub contention: ContentionCounts,
 }
 
 impl Counts {
@@ -377,6 +424,7 @@ impl Counts {
         let [not_for_me, own_source, sender_mismatch, duplicate] = told.ignored;
         let [moment_earlier, moment_too_late, frame, table_full, no_memory, other] = told.refused;
         let [beacons, single_hop, geobroadcasts, geoanycasts] = told.sent;
+        let [held, released, cancelled, dropped, full] = told.contention;
         Counts {
             received: told.received,
             accepted: told.accepted,
@@ -395,6 +443,7 @@ impl Counts {
             suppressed: told.suppressed,
             repeated: told.repeated,
             over_rate: told.over_rate,
+            contention: ContentionCounts { held, released, cancelled, dropped, full },
         }
     }
 }
@@ -436,7 +485,7 @@ impl Station {
     ///
     /// If the shared library that was loaded has another ABI than this crate.
     pub fn new(config: &Config) -> Result<Station, Error> {
-        let limits = config.limits;
+        let (limits, rule) = (config.limits, config.contention.unwrap_or_default());
         let config = ffi::Config {
             address: config.address,
             latitude: config.latitude,
@@ -453,6 +502,11 @@ impl Station {
             own_burst: limits.own_burst,
             hop_cap: limits.hop_cap.into(),
             deliver_once: limits.deliver_once.into(),
+            area_forwarding: config.contention.is_some().into(), // contention is 1
+            contention_max: rule.max.into(),
+            contention_min: rule.min.into(),
+            contention_range: rule.range.into(),
+            contention_copies: rule.copies.into(),
             ..ffi::usual_config()
         };
         match Handle::new(&config) {
@@ -665,6 +719,9 @@ impl Station {
     /// to the buffer. On a radio, send it after a random wait below 2 ms: otherwise the frames of
     /// all stations that forward it collide.
     ///
+    /// With [`Config::contention`] the station may hold that frame instead: `due` of the result is
+    /// the time at which [`Station::release`] returns it.
+    ///
     /// In frames of up to 60 bytes, zeros after the packet are ignored: Ethernet pads short frames.
     ///
     /// # Errors
@@ -762,6 +819,53 @@ impl Station {
         Received::shown(status, &r, plain, buffer.keep(r.relay_length))
     }
 
+    /// Writes and returns a held frame that is due, or `None`. Send it at once, and call this again
+    /// until it returns `None`. It needs [`Config::contention`].
+    ///
+    /// Sleep until [`Station::next_due`], on a radio plus a random time below 2 ms that you choose
+    /// again when the result has changed. Pass received frames to [`Station::receive`] first: they
+    /// may cancel what is due. Frames that were due more than 1000 ms before `now` are dropped. The
+    /// call does not change the station's clock.
+    ///
+    /// # Errors
+    ///
+    /// - [`Error::MomentEarlier`] if `now` is earlier than in an earlier call,
+    ///   [`Error::MomentTooLate`] if it is over [`LAST_MOMENT`](crate::LAST_MOMENT).
+    /// - [`Error::NoRoom`] if the buffer is shorter than a held frame:
+    ///   [`SECURED_FRAME_MAX`](crate::SECURED_FRAME_MAX) is enough.
+    ///
+    /// ```
+    /// # use geostation::{Area, AreaRequest, Config, Contention, Shape, Station};
+    /// # fn main() -> Result<(), geostation::Error> {
+    /// # let mut car = Station::new(&Config::new(0x1400_0200_0000_0001, 0, 0))?;
+    /// # let circle = Area { latitude: 0, longitude: 0, shape: Shape::Circle { radius: 100 } };
+    /// # let (mut sent, mut relay) = (Vec::new(), Vec::new());
+    /// let mut config = Config::new(0x1400_0200_0000_0002, 449, 0);
+    /// config.contention = Some(Contention::default());
+    /// let mut truck = Station::new(&config)?;
+    /// let frame = car.send_gbc(1000, &AreaRequest::new(2002, circle), b"ice", &mut sent)?;
+    /// let due = truck.receive(1001, frame, &mut relay)?.due.unwrap();
+    /// assert_eq!(Some(due), truck.next_due());
+    /// assert!(truck.release(due, &mut relay)?.is_some());
+    /// assert!(truck.release(due, &mut relay)?.is_none());
+    /// # Ok(())
+    /// # }
+    /// ```
+    pub fn release<'a, B: Buffer + ?Sized>(
+        &mut self,
+        now: u64,
+        buffer: &'a mut B,
+    ) -> Result<Option<&'a [u8]>, Error> {
+        let told = self.handle.release(now, buffer.room(SECURED_FRAME_MAX));
+        written(buffer, told).map(|frame| (!frame.is_empty()).then_some(frame))
+    }
+
+    /// Returns the earliest time at which [`Station::release`] returns a held frame, in ms; `None`
+    /// if no frame is held.
+    pub fn next_due(&self) -> Option<u64> {
+        Some(self.handle.next_due()).filter(|moment| *moment != u64::MAX)
+    }
+
     /// Returns the earliest time at which [`Station::tick`] with this jitter returns a beacon, in
     /// ms; `None` if the jitter is over 750 ms.
     ///
@@ -789,8 +893,8 @@ impl Station {
     /// # Errors
     ///
     /// - [`Error::NoMemory`] if an allocation fails.
-    /// - [`Error::NoRoom`] if the buffer is too short. A line whose command is `seal`, or `receive`
-    ///   with a key `plain`, needs [`SECURED_FRAME_MAX`](crate::SECURED_FRAME_MAX).
+    /// - [`Error::NoRoom`] if the buffer is too short. A line whose command is `seal` or `release`,
+    ///   or `receive` with a key `plain`, needs [`SECURED_FRAME_MAX`](crate::SECURED_FRAME_MAX).
     ///
     /// ```
     /// # use geostation::{Config, Station};

@@ -3,8 +3,8 @@
 
 use geostation::{
     frame_length, message_of, plain_part, read_frame, seal, Area, AreaRequest, Config, Content,
-    Error, Fault, IgnoreReason, Limits, Place, Shape, ShbRequest, Station, FRAME_MAX, LAST_MOMENT,
-    PAYLOAD_MAX, SECURED_FRAME_MAX,
+    Contention, Error, Fault, IgnoreReason, Limits, Place, Shape, ShbRequest, Station, FRAME_MAX,
+    LAST_MOMENT, PAYLOAD_MAX, SECURED_FRAME_MAX,
 };
 
 const A: u64 = 0x1400_0200_0000_0001;
@@ -352,6 +352,66 @@ fn forwarded_frames_hops_and_echoes_have_limits() {
     let counts = b.counts();
     assert_eq!((3, 1, 0), (counts.suppressed, counts.repeated, counts.over_rate));
     assert_eq!((4, 2), (counts.delivered, counts.relayed));
+}
+
+/// The frame as the station with this last byte of its address forwards it.
+fn as_sent_by(frame: &[u8], number: u8, hops: u8) -> Vec<u8> {
+    let mut copy = frame.to_vec();
+    (copy[11], copy[17]) = (number, hops);
+    copy
+}
+
+/// 300 m from the sender, it waits for 71 ms of 1 to 100.
+#[test]
+fn a_station_contends() {
+    let mut a = Station::new(&Config::new(A, 0, 0)).unwrap();
+    let place = Place { latitude: 0, longitude: 0, accurate: true, speed: 0, heading: 0 };
+    a.move_to(500, &place).unwrap();
+    let shape = Shape::Circle { radius: 1000 };
+    let request = AreaRequest::new(2002, Area { latitude: 0, longitude: 0, shape });
+    let mut config = Config::new(B, 26950, 0);
+    config.contention = Some(Contention::default());
+    let mut b = Station::new(&config).unwrap();
+    let (mut sent, mut relay) = (Vec::new(), Vec::new());
+    let frame = a.send_gbc(1000, &request, b"hi", &mut sent).unwrap();
+    let got = b.receive(1001, frame, &mut relay).unwrap();
+    assert_eq!((None, Some(1072), false), (got.relay, got.due, got.cancelled));
+    assert_eq!(Some(1072), b.next_due());
+    assert_eq!(Err(Error::MomentEarlier), b.release(1000, &mut relay));
+    assert_eq!(Err(Error::NoRoom), b.release(1072, &mut [0; FRAME_MAX - 1]));
+    assert_eq!(Ok(None), b.release(1071, &mut relay));
+    let relayed = as_sent_by(frame, 2, 9);
+    assert_eq!(Ok(Some(&relayed[..])), b.release(1072, &mut relay));
+    assert_eq!((Ok(None), None), (b.release(1072, &mut relay), b.next_due()));
+    let counts = b.counts();
+    assert_eq!((1, 1, 1), (counts.relayed, counts.contention.held, counts.contention.released));
+
+    b.restart(1073, 0).unwrap();
+    b.receive(1074, frame, &mut relay).unwrap();
+    let cancelled = [3, 3, 4].map(|number| {
+        let copy = as_sent_by(frame, number, 9);
+        b.receive(1075, &copy, &mut relay).unwrap().cancelled
+    });
+    assert_eq!([false, false, true], cancelled);
+    assert_eq!((1, 0), (b.counts().contention.cancelled, b.counts().contention.dropped));
+}
+
+#[test]
+fn contention_has_ranges() {
+    let usual = Contention::default();
+    let wrong = [
+        Contention { max: 0, min: 0, ..usual },
+        Contention { max: 1001, ..usual },
+        Contention { min: 101, ..usual },
+        Contention { range: 0, ..usual },
+        Contention { copies: 0, ..usual },
+        Contention { copies: 4, ..usual },
+    ];
+    let mut config = Config::new(A, 0, 0);
+    for rule in wrong {
+        config.contention = Some(rule);
+        assert_eq!(Some(Error::BadArgument), Station::new(&config).err(), "{rule:?}");
+    }
 }
 
 #[test]
