@@ -1,8 +1,12 @@
 -- Why a record has no frame.
-use Rattle.std.proofs.Common.{◌≡◌, List, ℕ, Option, Some, None, Result, Ok, Err, IfErr}
+use Rattle.std.proofs.Common.{◌≡◌, List, ℕ, Option, Some, None, Result, Ok, Err, IfOk, IfErr}
 use Rattle.std.proofs.Common.{rules, subst, sym}
-use Rattle.its_linkframe.specs.declared.frame.FrameView.{FrameView}
 use Rattle.cap_linklayers.specs.LinkLayers.{IsFrameIn}
+use Rattle.its_linkframe.specs.Frames.{EncodesFrame}
+use Rattle.its_model.specs.Packet.{Transmission}
+use Rattle.cap_records.specs.FoundFrames.{IsPlaced}
+use Rattle.cap_records.specs.declared.found.FoundFrame.{FoundFrame}
+use Rattle.cap_records.specs.RecordFrames.{HasFrame}
 use Rattle.cap_linklayers.specs.declared.link.LinkLayer.{LinkLayer}
 use Rattle.cap_pcap.specs.Records.{fault_of}
 use Rattle.cap_pcap.specs.declared.record.RecordHeader.{RecordHeader}
@@ -18,8 +22,8 @@ text_of_layer h layer w carried text is frame read =
     subst (λ (l : Option LinkLayer). IsText l w text) (sym is) (carried, frame, read)
 
 -- the fault of what a link layer carries is that of the record
-pub fault_of_carried : (h : RecordHeader) (layer : LinkLayer) (w carried : List ℕ)
-    (read : Result FrameView RecordFault) → fault_of h ≡ None → h.layer ≡ Some layer
+pub fault_of_carried : {T : Type 0} (h : RecordHeader) (layer : LinkLayer) (w carried : List ℕ)
+    (read : Result T RecordFault) → fault_of h ≡ None → h.layer ≡ Some layer
     → IsFrameIn layer w carried
     → IfErr read (λ f. (text : List ℕ) × IsReadAs layer carried text × IsNoFrame text f)
     → IfErr read (IsRecordFault h w)
@@ -32,3 +36,20 @@ fault_of_carried h layer w carried (Err (faults.Record f)) whole is frame fault 
 fault_of_carried h layer w carried (Err (faults.Link f)) whole is frame fault = absurd fault.2
 fault_of_carried h layer w carried (Err (faults.Signed f)) whole is frame fault = absurd fault.2
 fault_of_carried h layer w carried (Err (faults.Message f)) whole is frame fault = absurd fault.2
+
+-- the frame of what a link layer carries is that of the record
+pub frame_of_carried : (h : RecordHeader) (layer : LinkLayer) (w carried new : List ℕ)
+    (found : Result FoundFrame RecordFault) → fault_of h ≡ None → h.layer ≡ Some layer
+    → IsFrameIn layer w carried
+    → IfOk found (λ f. (t : Transmission) × (text : List ℕ) × IsReadAs layer carried text
+    × EncodesFrame t text × (f.secured ≡ None) × IsPlaced new t f.place)
+    → IfOk found (λ f. (t : Transmission) × HasFrame h w t × (f.secured ≡ None)
+    × IsPlaced new t f.place)
+frame_of_carried h layer w carried new (Err fault) whole is frame has = tt
+frame_of_carried h layer w carried new (Ok f) whole is frame has =
+    let (t, text, read, encodes, none, placed) = has in (
+      t,
+      (whole, text, text_of_layer h layer w carried text is frame read, encodes),
+      none,
+      placed,
+    )

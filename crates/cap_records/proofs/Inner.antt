@@ -16,8 +16,10 @@ use Rattle.cap_records.specs.SignedFrames.{IsSignedFaultIn, IsSignedFault, HasSi
 use Rattle.cap_records.specs.SignedFrames.{HasNoSignedFrame}
 use Rattle.cap_records.specs.declared.refusal.RecordFault.{RecordFault}
 use Rattle.cap_records.specs.declared.refusal.RecordFault.TheVariants as faults
-use Rattle.cap_records.specs.declared.frame.RecordFrame.{RecordFrame}
-use Rattle.its_linkframe.specs.Frames.{EncodesFrame, link_header, transmission_of}
+use Rattle.cap_records.specs.FoundFrames.{IsPlaced}
+use Rattle.cap_records.specs.declared.found.FoundFrame.{FoundFrame}
+use Rattle.its_linkframe.specs.Frames.{EncodesFrame, link_header}
+use Rattle.its_model.specs.Packet.{Transmission}
 use Rattle.its_linkframe.specs.Secured.{Secured, secured_octets, EncodesSecured, Verified, EncodesVerified}
 use Rattle.cap_records.specs.SignedFrames.{inner_frame, plain_octets}
 use Rattle.cap_records.specs.declared.signed.PlainPart.{PlainPart}
@@ -89,21 +91,22 @@ inner_encodes v w part enc =
     }
 
 -- what a record has, by what its link layer carries
-pub signed_has : (h : RecordHeader) (layer : LinkLayer) (w carried : List ℕ) (is_secured : Bool)
-    (read : Result RecordFrame RecordFault) → fault_of h ≡ None → h.layer ≡ Some layer
-    → IsFrameIn layer w carried → begins_secured carried ≡ is_secured
-    → IfOk read (λ f. IsSignedIn layer carried is_secured (transmission_of f.frame) f.secured)
-    → IfOk read (λ f. HasSignedFrame h w (transmission_of f.frame) f.secured)
-signed_has h layer w carried b (Ok f) whole of carries is has = record {
-  whole = whole;
-  layer = layer;
-  is_layer = of;
-  carried = carried;
-  carries = carries;
-  has = subst (λ (x : Bool). IsSignedIn layer carried x (transmission_of f.frame) f.secured)
-      (sym is) has;
-}
-signed_has h layer w carried b (Err fault) whole of carries is has = search rules
+pub signed_has : (h : RecordHeader) (layer : LinkLayer) (w carried new : List ℕ)
+    (is_secured : Bool) (found : Result FoundFrame RecordFault) → fault_of h ≡ None
+    → h.layer ≡ Some layer → IsFrameIn layer w carried → begins_secured carried ≡ is_secured
+    → IfOk found (λ f. (t : Transmission) × IsSignedIn layer carried is_secured t f.secured
+    × IsPlaced new t f.place)
+    → IfOk found (λ f. (t : Transmission) × HasSignedFrame h w t f.secured × IsPlaced new t f.place)
+signed_has h layer w carried new b (Ok f) whole of carries is has =
+    let signed : HasSignedFrame h w has.0 f.secured = record {
+      whole = whole;
+      layer = layer;
+      is_layer = of;
+      carried = carried;
+      carries = carries;
+      has = subst (λ (x : Bool). IsSignedIn layer carried x has.0 f.secured) (sym is) has.1;
+    } in (has.0, signed, has.2)
+signed_has h layer w carried new b (Err fault) whole of carries is has = tt
 
 -- a fault of what is carried is one of the record
 no_frame : (h : RecordHeader) (layer : LinkLayer) (w carried : List ℕ) (is_secured : Bool)
@@ -121,7 +124,7 @@ no_frame h layer w carried b fault whole of carries is none = record {
 
 -- why it has none
 pub signed_none : (h : RecordHeader) (layer : LinkLayer) (w carried : List ℕ) (is_secured : Bool)
-    (read : Result RecordFrame RecordFault) → fault_of h ≡ None → h.layer ≡ Some layer
+    (read : Result FoundFrame RecordFault) → fault_of h ≡ None → h.layer ≡ Some layer
     → IsFrameIn layer w carried → begins_secured carried ≡ is_secured
     → IfErr read (IsSignedFaultIn layer carried is_secured) → IfErr read (IsSignedFault h w)
 signed_none h layer w carried b (Ok f) whole of carries is fault = search rules

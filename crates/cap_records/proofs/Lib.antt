@@ -1,4 +1,6 @@
 pub mod Chosen
 pub mod Faults
+pub mod Placed
+pub mod FoundRecords
 pub mod Inner
 pub mod Steps

@@ -1,4 +1,5 @@
 pub mod FileFaults
+pub mod FoundFrames
 pub mod RecordFrames
 pub mod SignedFrames
 pub mod Selections

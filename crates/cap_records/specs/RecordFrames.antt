@@ -9,7 +9,6 @@ use Rattle.its_headers.specs.Fields.{kind_of_body}
 use Rattle.its_linkframe.specs.FrameFaults.{IsFrameFault}
 use Rattle.its_linkframe.specs.Frames.{EncodesFrame, transmission_of}
 use Rattle.its_linkframe.specs.Padding.{IsUnpadded}
-use Rattle.cap_records.specs.declared.frame.RecordFrame.{RecordFrame}
 use Rattle.cap_linklayers.specs.LinkLayers.{IsFrameIn, IsLinkFault}
 use Rattle.cap_linklayers.specs.declared.link.LinkFault.TheVariants as links
 use Rattle.cap_linklayers.specs.declared.link.LinkLayer.{LinkLayer}
@@ -124,12 +123,3 @@ AreTraits h w (Some traits) other =
     (t : Transmission) × HasFrame h w t × (traits ≡ traits_in t) × (other ≡ false)
 AreTraits h w None other =
     (fault : RecordFault) × IsRecordFault h w fault × (other ≡ is_other fault)
-
--- the same of what was read
-abbrev pub traits_read : Result RecordFrame RecordFault → Option Traits
-traits_read (Ok read) = Some (traits_in (transmission_of read.frame))
-traits_read (Err fault) = None
-
-abbrev pub other_read : Result RecordFrame RecordFault → Bool
-other_read (Ok read) = false
-other_read (Err fault) = is_other fault

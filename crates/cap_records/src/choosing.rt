@@ -1,12 +1,16 @@
 //! Which records of a capture a command is over.
 
-ghost use Rattle.std.specs.Prelude.{◌≡◌, ◌<◌, ◌^◌, ℕ, Option, true};
+ghost use Rattle.std.specs.Prelude.{◌≡◌, ◌<◌, ◌^◌, ℕ, Option, Some, false, true};
+ghost use Rattle.its_linkframe.specs.Frames.{transmission_of};
 ghost use Rattle.cap_records.specs.declared.choosing.Traits.{Traits};
 ghost use Rattle.cap_records.specs.Choosing.{allows, allows_port, has_kind, has_kind_of, holds as all_holds};
 ghost use Rattle.cap_records.specs.Choosing.{is_chosen as chosen, selects};
+ghost use Rattle.cap_records.specs.RecordFrames.{port_in, traits_in};
 
+use crate::frame::port_of;
 use its_gnvalue::{GnAddress, Mac};
 use its_headers::Kind;
+use its_linkframe::FrameView;
 
 /// The kinds of packet that are chosen.
 #[derive(Clone, Copy, Debug, PartialEq, Eq)]
@@ -111,6 +115,44 @@ impl Choice {
         ensures { result ≡ selects self.now moment frame is_other }
     {
         !(self.skips_others && is_other) && self.is_chosen(moment, frame)
+    }
+
+    /// Whether a record of this moment is selected, which has this frame. Only what is asked for is
+    /// read of the frame.
+    pub(crate) fn selects_frame(&self, moment: u64, frame: &FrameView<'_>) -> bool
+        ensures { result
+            ≡ selects self.now moment (Some (traits_in (transmission_of frame.now))) false }
+    {
+        !self.refused && self.holds_of(frame) && self.since <= moment && moment <= self.until
+    }
+
+    /// Whether all holds of this frame that is asked of frames.
+    fn holds_of(&self, frame: &FrameView<'_>) -> bool
+        ensures { result ≡ all_holds self.now (traits_in (transmission_of frame.now)) }
+    {
+        self.has_kind(frame.packet.kind())
+            && self.allows_source_of(frame)
+            && self.allows_mac(frame.from)
+            && self.allows_port_of(frame)
+    }
+
+    fn allows_source_of(&self, frame: &FrameView<'_>) -> bool
+        ensures { result ≡ allows self.now.source (transmission_of frame.now).pdu.vector.address }
+    {
+        match self.source {
+            Some(only) => only == frame.packet.vector().address(),
+            None => true,
+        }
+    }
+
+    fn allows_port_of(&self, frame: &FrameView<'_>) -> bool
+        ensures { result
+            ≡ allows_port self.now.port (port_in (transmission_of frame.now).pdu.body) }
+    {
+        match self.port {
+            Some(_) => self.allows_port(port_of(frame)),
+            None => true,
+        }
     }
 
     /// Whether all holds of a frame that is asked of frames.

@@ -1,8 +1,11 @@
 //! The frame of a record that was cut, read as far as it goes.
 
-ghost use Rattle.std.specs.Prelude.{◌≤◌, ◌<◌};
+ghost use Rattle.std.specs.Prelude.{◌≤◌, ◌<◌, IfOk};
+ghost use Rattle.its_model.specs.Packet.{Transmission};
+ghost use Rattle.cap_records.specs.FoundFrames.{IsPlaced};
 
 use crate::choosing::Traits;
+use crate::found::FramePlace;
 use crate::frame::traits_of;
 use crate::refusal::RecordFault;
 use cap_pcap::{RecordHeader, frame_start};
@@ -46,41 +49,28 @@ const PORT: usize = 2;
 /// The record was cut before its source's address ends.
 pub(crate) const CUT: RecordFault = RecordFault::Record(cap_pcap::RecordFault::CutFrame);
 
-/// A frame of which the last octets are missing.
-#[derive(Debug, Drop)]
-pub(crate) struct CutFrame<'a> {
-    /// The frame. Its missing octets are those of a packet with places, a payload and a time stamp
-    /// of 0, and so say nothing. So are those of a field that isn't wholly there.
-    pub(crate) frame: FrameView<'a>,
-    /// How many of its octets there are, without those of such a field: the source's address is
-    /// among them.
+/// A frame of which the last octets are missing, and which was completed: its missing octets are those
+/// of a packet with places, a payload and a time stamp of 0, and so say nothing. So are those of a
+/// field that isn't wholly there.
+#[derive(Clone, Copy)]
+pub(crate) struct Completed {
+    /// How many octets it has.
+    pub(crate) length: usize,
+    /// How many of them there are, without those of such a field.
     pub(crate) known: usize,
 }
 
-impl CutFrame<'_> {
-    /// What it is chosen by. A port of which an octet is missing is none.
-    pub(crate) fn traits(&self) -> Traits {
-        let traits = traits_of(&self.frame);
-        let packet = &self.frame.packet;
-        let before = packet.octets().len().saturating_sub(packet.payload().len());
-        let end = PACKET.saturating_add(before).saturating_add(PORT);
-        Traits {
-            port: traits.port.filter(|_| end <= self.known),
-            ..traits
-        }
-    }
-}
-
-/// Reads the frame of a record that was cut as far as it goes. Its octets begin with the header of
-/// their link layer; the frame is put together in `room`.
+/// Completes the frame of a record that was cut, in this room. The record's octets begin with the
+/// header of their link layer.
 ///
-/// The fault is that of the link layer's header, or the frame's first one, if what it is of is
-/// there; P4 if the record ends before the source's address does.
-pub(crate) fn cut_frame_of<'a>(
+/// The fault is that of the link layer's header, or P4 if the record ends before the packet begins.
+pub(crate) fn complete_frame(
     head: &RecordHeader,
     octets: &mut Vec<u8>,
-    room: &'a mut [u8; LONGEST_FRAME],
-) -> Result<CutFrame<'a>, RecordFault> {
+    room: &mut [u8; LONGEST_FRAME],
+) -> Result<Completed, RecordFault>
+    ensures { IfOk result (λ completed. completed.length ≤ 1468) }
+{
     let Some(layer) = head.layer else {
         return Err(CUT);
     };
@@ -91,7 +81,7 @@ pub(crate) fn cut_frame_of<'a>(
     }
     let known = clear_cut_field(room, known);
     let length = complete(room, known);
-    read_front(&room[..length], known)
+    Ok(Completed { length, known })
 }
 
 /// Puts the octets into the room, and 0 behind them. Returns how many there are.
@@ -161,21 +151,56 @@ fn complete_distance(room: &mut [u8; LONGEST_FRAME], known: usize, place: usize)
     }
 }
 
-/// Reads a frame of which so many octets are there.
-fn read_front(octets: &[u8], known: usize) -> Result<CutFrame<'_>, RecordFault> {
-    match read_frame(octets) {
-        Ok(frame) => {
-            let end = match frame.packet.kind() {
-                Kind::Beacon | Kind::Shb => ADDRESS_END,
-                Kind::Gbc | Kind::Gac => AREA_ADDRESS_END,
-            };
-            if known < PACKET + end {
-                Err(CUT)
-            } else {
-                Ok(CutFrame { frame, known })
-            }
-        }
-        Err(fault) => Err(fault_in_front(fault, octets, known)),
+/// A frame of which the last octets are missing, in a buffer.
+#[derive(Clone, Copy)]
+pub(crate) struct CutFrame {
+    pub(crate) place: FramePlace,
+    /// What it is chosen by. A port of which an octet is missing is none.
+    pub(crate) traits: Traits,
+}
+
+/// Reads a frame that was completed, of which so many octets are there.
+///
+/// The fault is the frame's first one, if what it is of is there; P4 if the record ends before the
+/// source's address does.
+pub(crate) fn read_front(octets: &[u8], known: usize) -> Result<CutFrame, RecordFault>
+    ensures { IfOk result (λ cut. (t : Transmission) × IsPlaced octets.now t cut.place) }
+{
+    let frame = match read_frame(octets) {
+        Ok(frame) => frame,
+        Err(fault) => return Err(fault_in_front(fault, octets, known)),
+    };
+    if known < PACKET + address_end(frame.packet.kind()) {
+        return Err(CUT);
+    }
+    Ok(CutFrame {
+        place: FramePlace {
+            start: 0,
+            end: octets.len(),
+        },
+        traits: known_traits(&frame, known),
+    })
+}
+
+/// Where the source's address ends in a packet of this kind.
+fn address_end(kind: Kind) -> usize
+    ensures { result ≤ 24 }
+{
+    match kind {
+        Kind::Beacon | Kind::Shb => ADDRESS_END,
+        Kind::Gbc | Kind::Gac => AREA_ADDRESS_END,
+    }
+}
+
+/// What a frame is chosen by of which so many octets are there.
+fn known_traits(frame: &FrameView<'_>, known: usize) -> Traits {
+    let traits = traits_of(frame);
+    let packet = &frame.packet;
+    let before = packet.octets().len().saturating_sub(packet.payload().len());
+    let end = PACKET.saturating_add(before).saturating_add(PORT);
+    Traits {
+        port: traits.port.filter(|_| end <= known),
+        ..traits
     }
 }
 

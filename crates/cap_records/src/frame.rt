@@ -1,47 +1,38 @@
 //! The frame of a record, or why it has none, and what it is chosen by.
 
-ghost use Rattle.std.specs.Prelude.{◌≡◌, ℕ, List, IfOk, IfErr};
+ghost use Rattle.std.specs.Prelude.{◌≡◌, ◌≤◌, ℕ, List, IfOk, IfErr, None, length, drop};
 ghost use Rattle.its_linkframe.specs.Frames.{EncodesFrame, transmission_of};
 ghost use Rattle.its_linkframe.specs.FrameFaults.{IsFrameFault};
-ghost use Rattle.cap_records.specs.RecordFrames.{HasFrame, IsRecordFault, traits_in};
+ghost use Rattle.its_model.specs.Packet.{Transmission};
+ghost use Rattle.cap_records.specs.FoundFrames.{IsPlaced};
+ghost use Rattle.cap_records.specs.RecordFrames.{HasFrame, IsRecordFault, port_in, traits_in};
 ghost use Rattle.cap_records.specs.RecordFrames.{IsReadAs, IsNoFrame};
 
 use crate::choosing::Traits;
+use crate::found::{FoundFrame, FramePlace};
 use crate::refusal::RecordFault;
-use crate::signed::SecuredFacts;
 use cap_pcap::{LinkLayer, RecordHeader, frame_start};
 use its_btp::split;
 use its_linkframe::{FrameView, Unpadded, read_frame, read_unpadded};
 
-/// The frame of a record.
-#[derive(Debug, Drop)]
-pub(crate) struct RecordFrame<'a> {
-    pub(crate) frame: FrameView<'a>,
-    /// What is known of the secured frame, if it is the inner frame of one.
-    pub(crate) secured: Option<SecuredFacts>,
-}
-
-/// Returns the frame of a record, or why the record is refused. Its octets are the first ones of
-/// the record, `LONGEST_RECORD` of them if there are so many. A frame that is found is put together
-/// among them: the header of its link layer is read first, and what Ethernet filled a short frame
-/// up with is left out.
+/// Finds the frame of a record, or why the record is refused. Its octets are the first ones of the
+/// record, `LONGEST_RECORD` of them if there are so many. A frame that is found is put together among
+/// them: the header of its link layer is read first, and what Ethernet filled a short frame up with
+/// is left out.
 ///
-/// - `frame`: the frame of a record (`HasFrame`): its link layer is read, it wasn't cut, and its
-///   octets are that frame: in pcap and pcapng what their link layer carries, without Ethernet's
-///   padding.
+/// - `frame`: the frame of a record (`HasFrame`), and where it is (`IsPlaced`): its link layer is
+///   read, it wasn't cut, and its octets are that frame: in pcap and pcapng what their link layer
+///   carries, without Ethernet's padding.
 /// - `fault`: otherwise its first fault (`IsRecordFault`), in this order: its link layer or its
 ///   being cut, its link layer's header, its octets.
-pub fn frame_of<'a>(
-    head: &RecordHeader,
-    octets: &'a mut Vec<u8>,
-) -> Result<FrameView<'a>, RecordFault>
-    ensures frame { IfOk result
-        (λ v. HasFrame head.now octets.old.items (transmission_of v)) }
+pub fn frame_of(head: &RecordHeader, octets: &mut Vec<u8>) -> Result<FoundFrame, RecordFault>
+    ensures frame { IfOk result (λ f. (t : Transmission) × HasFrame head.now octets.old.items t
+        × (f.secured ≡ None) × IsPlaced octets.new.items t f.place) }
     ensures fault { IfErr result (IsRecordFault head.now octets.old.items) }
 {
     let layer = head.whole_layer()?;
     let start = frame_start(layer, octets)?;
-    read_on(layer, &octets.as_slice()[start..])
+    find_on(layer, octets.as_slice(), start)
 }
 
 /// Returns the frame in octets that came from this link layer, and the octets of that frame alone:
@@ -63,17 +54,33 @@ pub fn read_from(layer: LinkLayer, octets: &[u8]) -> Unpadded<'_>
     }
 }
 
-/// The frame in octets that came from this link layer, or why they aren't a frame.
-pub(crate) fn read_on(layer: LinkLayer, octets: &[u8]) -> Result<FrameView<'_>, RecordFault>
-    ensures frame { IfOk result (λ v. (text : List ℕ) × IsReadAs layer octets.now text
-        × EncodesFrame (transmission_of v) text) }
-    ensures fault { IfErr result (λ f. (text : List ℕ) × IsReadAs layer octets.now text
-        × IsNoFrame text f) }
+/// Finds the frame in what this link layer carried, which are the octets from this one on, or why
+/// they aren't a frame.
+pub(crate) fn find_on(
+    layer: LinkLayer,
+    octets: &[u8],
+    start: usize,
+) -> Result<FoundFrame, RecordFault>
+    requires { start ≤ length octets.now }
+    ensures frame { IfOk result (λ f. (t : Transmission) × (text : List ℕ)
+        × IsReadAs layer (drop start octets.now) text × EncodesFrame t text
+        × (f.secured ≡ None) × IsPlaced octets.now t f.place) }
+    ensures fault { IfErr result (λ f. (text : List ℕ)
+        × IsReadAs layer (drop start octets.now) text × IsNoFrame text f) }
 {
-    let Unpadded { octets, frame } = read_from(layer, octets);
+    let Unpadded {
+        octets: text,
+        frame,
+    } = read_from(layer, &octets[start..]);
     match frame {
-        Ok(frame) => Ok(frame),
-        Err(fault) => Err(RecordFault::of(fault, octets)),
+        Ok(_) => Ok(FoundFrame {
+            place: FramePlace {
+                start,
+                end: start + text.len(),
+            },
+            secured: None,
+        }),
+        Err(fault) => Err(RecordFault::of(fault, text)),
     }
 }
 
@@ -81,14 +88,20 @@ pub(crate) fn read_on(layer: LinkLayer, octets: &[u8]) -> Result<FrameView<'_>, 
 pub fn traits_of(frame: &FrameView<'_>) -> Traits
     ensures { result ≡ traits_in (transmission_of frame.now) }
 {
-    let port = match split(frame.packet.payload()) {
-        Ok((port, _, _)) => Some(port),
-        Err(_) => None,
-    };
     Traits {
         kind: frame.packet.kind(),
         source: frame.packet.vector().address(),
         from: frame.from,
-        port,
+        port: port_of(frame),
+    }
+}
+
+/// The destination port of a frame; a beacon has none.
+pub(crate) fn port_of(frame: &FrameView<'_>) -> Option<u16>
+    ensures { result ≡ port_in (transmission_of frame.now).pdu.body }
+{
+    match split(frame.packet.payload()) {
+        Ok((port, _, _)) => Some(port),
+        Err(_) => None,
     }
 }

@@ -11,7 +11,9 @@
 //!   holds of the record's time and frame. `cmd_arguments` reads the options.
 //! - A pull returns the next selected record of the file, and skips the others (`Records::next_chosen`,
 //!   clause `next`: `IsNext`). Nothing is read once as many are selected as are wanted.
-//! - A walk counts each selected record, and each refused one of them (`Walked::after`: `counts`).
+//! - `show`, `check` and `stats` see exactly the selected records, each with its frame, but those that
+//!   were cut and are read as far as they go (`ReadsFrame`). They count these records, and how many
+//!   of them are refused (`Walked::after`: `counts`).
 //! - `read_message` reads a message as far as its header info, or its first fault.
 //!
 //! # Only tested
@@ -32,7 +34,9 @@
 pub mod choosing;
 mod counts;
 mod cut;
+mod found;
 mod frame;
+mod frames;
 pub mod messages;
 mod records;
 mod refusal;
@@ -43,12 +47,12 @@ mod walk;
 
 pub use crate::choosing::{Choice, Kinds, Traits};
 pub use counts::RecordCounts;
+pub use found::{FoundFrame, FramePlace};
 pub use frame::{frame_of, read_from, traits_of};
+pub use frames::{FoundRecord, RecordPlace};
 pub use records::{Pulled, RecordReader, Records};
 pub use refusal::{FileFault, RecordCode, RecordFault, SIGNED_HINT};
 pub use refused_capture::RefusedCapture;
 pub use selection::Selection;
-pub use signed::{
-    FramePlace, PlainPart, SecuredFacts, bring_inner, find_plain, reads_secured, traits_inside,
-};
-pub use walk::{CaptureFile, RecordPlace, RecordVisitor, Walked, each_record, open_records};
+pub use signed::{PlainPart, SecuredFacts, bring_inner, find_plain, reads_secured, traits_inside};
+pub use walk::{CaptureFile, RecordVisitor, Walked, each_record, open_records};

@@ -22,12 +22,11 @@ pub trait RecordReader {
     /// afterwards. Nothing is read if the record is not selected.
     ghost Reads: { Selection → RecordHeader → List ℕ → List ℕ → Option Self.Record → Type 0 };
 
-    /// Reads a record, if it is selected. Its octets are in the buffer, and this number of records
-    /// comes before it. `AllocError` if an allocation failed.
+    /// Reads a record, if it is selected. Its octets are in the buffer. `AllocError` if an allocation
+    /// failed.
     fn read(
         &mut self,
         selection: &Selection,
-        number: u64,
         head: &RecordHeader,
         octets: &mut Vec<u8>,
     ) -> Result<Option<Self::Record>, AllocError>
@@ -135,10 +134,7 @@ impl<S: RecordSource + Drop, R: RecordReader + Drop> Records<S, R> {
         ensures same { (self.new.source ≡ self.old.source)
             × (self.new.selection ≡ self.old.selection) }
     {
-        let number = self.counts.read;
-        let found = self
-            .reader
-            .read(&self.selection, number, &head, &mut self.octets)?;
+        let found = self.reader.read(&self.selection, &head, &mut self.octets)?;
         self.counts = self.counts.after_record(found.is_some());
         match found {
             Some(record) => Ok(Some(Pulled::Chosen(head, record))),

@@ -1,18 +1,21 @@
 //! Which records of a file a command is over.
 
-ghost use Rattle.std.specs.Prelude.{◌≡◌, Bool, Option, IfOk, IsTrue, None, true, take};
-ghost use Rattle.cap_records.specs.Choosing.{selects};
-ghost use Rattle.cap_records.specs.declared.choosing.Traits.{Traits};
+ghost use Rattle.std.specs.Prelude.{◌≡◌, Bool, Option, IfOk, IsTrue, None, Some, false, true, take};
+ghost use Rattle.its_model.specs.Packet.{Transmission};
 ghost use Rattle.cap_linklayers.specs.declared.link.TheConstants.{LONGEST_RECORD};
-ghost use Rattle.cap_records.specs.RecordFrames.{traits_read, other_read};
-ghost use Rattle.cap_records.specs.Selections.{AreTraitsOf, Chooses};
+ghost use Rattle.cap_records.specs.Choosing.{selects};
+ghost use Rattle.cap_records.specs.FoundFrames.{IsChosenBy, IsFoundOf, IsPlaced};
+ghost use Rattle.cap_records.specs.RecordFrames.{traits_in};
+ghost use Rattle.cap_records.specs.Selections.{Chooses};
+ghost use Rattle.cap_records.specs.declared.choosing.Traits.{Traits};
 
 use crate::choosing::Choice;
-use crate::cut::CutFrame;
-use crate::frame::{RecordFrame, frame_of, traits_of};
+use crate::found::{FoundFrame, FramePlace};
+use crate::frame::frame_of;
 use crate::refusal::RecordFault;
 use crate::signed::signed_frame_of;
 use cap_pcap::{Format, LONGEST_RECORD, RecordHeader};
+use its_linkframe::laws::one_frame;
 use std::alloc::AllocError;
 
 /// Which records of a file a command is over.
@@ -45,23 +48,19 @@ impl Selection {
         }
     }
 
-    /// Reads the frame of a record, which is put together among its octets.
-    pub(crate) fn read<'a>(
+    /// Finds the frame of a record, which is put together among its octets.
+    pub(crate) fn find(
         &self,
         head: &RecordHeader,
-        octets: &'a mut Vec<u8>,
-    ) -> Result<RecordFrame<'a>, RecordFault>
-        ensures { AreTraitsOf self.now.signed head.now octets.old.items (traits_read result)
-            (other_read result) }
+        octets: &mut Vec<u8>,
+    ) -> Result<FoundFrame, RecordFault>
+        ensures { IsFoundOf self.now.signed head.now octets.old.items octets.new.items result }
     {
         if self.signed {
-            return signed_frame_of(head, octets);
+            signed_frame_of(head, octets)
+        } else {
+            frame_of(head, octets)
         }
-        let frame = frame_of(head, octets)?;
-        Ok(RecordFrame {
-            frame,
-            secured: None,
-        })
     }
 
     /// Whether a record is selected, which has these octets. If its frame has to be known, that is
@@ -80,7 +79,8 @@ impl Selection {
         }
         room.clear();
         room.extend_from_slice(&octets[..octets.len().min(LONGEST_RECORD)])?;
-        Ok(self.has(head.moment, &self.read(head, room)))
+        let found = self.find(head, room);
+        Ok(self.has(head.moment, &found, room.as_slice()))
     }
 
     /// Whether a record of this moment is chosen, whatever its frame is.
@@ -100,24 +100,32 @@ impl Selection {
             && moment <= choice.until
     }
 
-    /// Whether a record of this moment is chosen, of which this was read.
-    pub(crate) fn has(&self, moment: u64, read: &Result<RecordFrame<'_>, RecordFault>) -> bool
-        ensures { result
-            ≡ selects self.now.choice moment (traits_read read.now) (other_read read.now) }
+    /// Whether a record of this moment is chosen, of which this was found among these octets.
+    pub(crate) fn has(
+        &self,
+        moment: u64,
+        found: &Result<FoundFrame, RecordFault>,
+        octets: &[u8],
+    ) -> bool
+        requires { IfOk found.now (λ f. (t : Transmission) × IsPlaced octets.now t f.place) }
+        ensures { IsChosenBy self.now.choice moment octets.now found.now result }
     {
-        match read {
-            Ok(read) => self
-                .choice
-                .selects(moment, Some(traits_of(&read.frame)), false),
+        if self.has_any(moment) {
+            return true;
+        }
+        match found {
+            Ok(found) => self.has_frame(moment, found.place, octets),
             Err(fault) => self.choice.selects(moment, None, fault.is_other()),
         }
     }
 
-    /// Whether a record of this moment is chosen, which was cut, and of which this was read.
-    pub(crate) fn has_cut(&self, moment: u64, read: &Result<CutFrame<'_>, RecordFault>) -> bool {
-        match read {
-            Ok(cut) => self.choice.selects(moment, Some(cut.traits()), false),
-            Err(fault) => self.choice.selects(moment, None, fault.is_other()),
-        }
+    /// Whether a record of this moment is chosen, whose frame is here among these octets.
+    fn has_frame(&self, moment: u64, place: FramePlace, octets: &[u8]) -> bool
+        requires { (t : Transmission) × IsPlaced octets.now t place }
+        ensures { (t : Transmission) → IsPlaced octets.now t place
+            → result ≡ selects self.now.choice moment (Some (traits_in t)) false }
+    {
+        one_frame();
+        self.choice.selects_frame(moment, &place.view(octets))
     }
 }

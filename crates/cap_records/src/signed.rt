@@ -2,8 +2,8 @@
 
 ghost use Rattle.std.specs.Prelude.{◌≡◌, ◌≤◌, ◌+◌, ◌-◌, IfOk, IfErr, length, take, drop};
 ghost use Rattle.its_model.specs.Packet.{Transmission};
-ghost use Rattle.its_linkframe.specs.Frames.{EncodesFrame, transmission_of};
 ghost use Rattle.its_linkframe.specs.Secured.{EncodesVerified, Verified};
+ghost use Rattle.cap_records.specs.FoundFrames.{IsPlaced};
 ghost use Rattle.cap_records.specs.RecordFrames.{traits_in};
 ghost use Rattle.cap_records.specs.SignedFrames.{begins_secured, reads_secured as reads};
 ghost use Rattle.cap_records.specs.SignedFrames.{HasPlain, IsUnread, inner_frame};
@@ -12,12 +12,13 @@ ghost use Rattle.cap_records.specs.SignedFrames.{IsInnerOf, IsInnerFault};
 ghost use Rattle.cap_records.specs.SignedFrames.{IsUnsecuredIn, IsUnsecuredFault};
 
 use crate::choosing::Traits;
-use crate::frame::{RecordFrame, read_on};
+use crate::found::{FoundFrame, FramePlace};
+use crate::frame::find_on;
 use crate::messages::{HeaderInfo, read_message};
 use crate::refusal::RecordFault;
 use cap_pcap::{LinkLayer, RecordHeader, frame_start};
 use its_btp::split;
-use its_linkframe::{FrameView, PACKET, VerifiedFrame, read_frame, read_secured_frame};
+use its_linkframe::{PACKET, VerifiedFrame, read_secured_frame};
 
 /// Octets of a frame: where its type is, and where the message of a secured one begins.
 const TYPE: usize = 12;
@@ -101,26 +102,6 @@ pub fn find_plain(frame: &[u8]) -> Result<PlainPart, RecordFault>
     })
 }
 
-/// Where a frame is among the octets of a record.
-#[derive(Clone, Copy, Debug, PartialEq, Eq)]
-pub struct FramePlace {
-    /// Where it begins.
-    pub start: usize,
-    /// Where it ends.
-    pub end: usize,
-}
-
-impl FramePlace {
-    /// The octets of the frame.
-    pub fn octets(self, octets: &[u8]) -> &[u8]
-        requires order { self.start ≤ self.end }
-        requires inside { self.end ≤ length octets.now }
-        ensures { result.now ≡ take (self.end - self.start) (drop self.start octets.now) }
-    {
-        &octets[self.start..self.end]
-    }
-}
-
 /// Puts the inner frame of a secured one, which begins at this octet, together in front of its plain
 /// part: link addresses, type, Basic Header with next header 1, plain part.
 pub fn bring_inner(octets: &mut Vec<u8>, start: usize, plain: &PlainPart) -> FramePlace
@@ -148,66 +129,57 @@ fn rest(octets: &Vec<u8>, start: usize) -> &[u8]
     &octets.as_slice()[start..]
 }
 
-/// The frame of a record, as `frame_of`; of a secured one the inner frame, which is put together
+/// Finds the frame of a record, as `frame_of`; of a secured one the inner frame, which is put together
 /// among the octets.
 ///
 /// A secured frame is refused as by `find_plain`, and then with L6 if the plain part has no packet,
 /// or L4 if octets follow it.
-pub(crate) fn signed_frame_of<'a>(
+pub(crate) fn signed_frame_of(
     head: &RecordHeader,
-    octets: &'a mut Vec<u8>,
-) -> Result<RecordFrame<'a>, RecordFault>
-    ensures frame { IfOk result (λ f. HasSignedFrame head.now octets.old.items
-        (transmission_of f.frame) f.secured) }
+    octets: &mut Vec<u8>,
+) -> Result<FoundFrame, RecordFault>
+    ensures frame { IfOk result (λ f. (t : Transmission)
+        × HasSignedFrame head.now octets.old.items t f.secured × IsPlaced octets.new.items t f.place) }
     ensures fault { IfErr result (IsSignedFault head.now octets.old.items) }
 {
     let layer = head.whole_layer()?;
     let start = frame_start(layer, octets)?;
     if is_secured(rest(octets, start)) {
-        read_secured(octets, start)
+        find_inner(octets, start)
     } else {
-        read_unsecured(layer, rest(octets, start))
+        find_unsecured(layer, octets, start)
     }
 }
 
-/// The inner frame of the secured one that begins at this octet, put together among the octets.
-fn read_secured<'a>(octets: &'a mut Vec<u8>, start: usize) -> Result<RecordFrame<'a>, RecordFault>
+/// Finds the inner frame of the secured one that begins at this octet, and puts it together among the
+/// octets.
+fn find_inner(octets: &mut Vec<u8>, start: usize) -> Result<FoundFrame, RecordFault>
     requires { start ≤ length octets.old.items }
-    ensures frame { IfOk result (λ f. IsInnerOf (drop start octets.old.items)
-        (transmission_of f.frame) f.secured) }
+    ensures frame { IfOk result (λ f. (t : Transmission)
+        × IsInnerOf (drop start octets.old.items) t f.secured × IsPlaced octets.new.items t f.place) }
     ensures fault { IfErr result (IsInnerFault (drop start octets.old.items)) }
 {
     let length = rest(octets, start).len();
     let plain = find_packet(rest(octets, start))?;
     let place = bring_inner(octets, start, &plain);
-    let frame = frame_inside(place.octets(octets.as_slice()));
     let info = plain.info;
     let secured = Some(SecuredFacts { length, info });
-    Ok(RecordFrame { frame, secured })
+    Ok(FoundFrame { place, secured })
 }
 
-/// The frame that these octets are.
-fn frame_inside(octets: &[u8]) -> FrameView<'_>
-    requires { (t : Transmission) × EncodesFrame t octets.now }
-    ensures { EncodesFrame (transmission_of result) octets.now }
+/// Finds the unsecured frame in what this link layer carried, which are the octets from this one on.
+fn find_unsecured(
+    layer: LinkLayer,
+    octets: &Vec<u8>,
+    start: usize,
+) -> Result<FoundFrame, RecordFault>
+    requires { start ≤ length octets.now.items }
+    ensures frame { IfOk result (λ f. (t : Transmission)
+        × IsUnsecuredIn layer (drop start octets.now.items) t f.secured
+        × IsPlaced octets.now.items t f.place) }
+    ensures fault { IfErr result (IsUnsecuredFault layer (drop start octets.now.items)) }
 {
-    match read_frame(octets) {
-        Ok(frame) => frame,
-        Err(_) => unreachable!(),
-    }
-}
-
-/// The unsecured frame in octets that came from this link layer.
-fn read_unsecured(layer: LinkLayer, octets: &[u8]) -> Result<RecordFrame<'_>, RecordFault>
-    ensures frame { IfOk result (λ f. IsUnsecuredIn layer octets.now
-        (transmission_of f.frame) f.secured) }
-    ensures fault { IfErr result (IsUnsecuredFault layer octets.now) }
-{
-    let frame = read_on(layer, octets)?;
-    Ok(RecordFrame {
-        frame,
-        secured: None,
-    })
+    find_on(layer, octets.as_slice(), start)
 }
 
 /// Finds the plain part of a secured frame, which has to be a packet.

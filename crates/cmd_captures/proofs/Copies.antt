@@ -1,7 +1,7 @@
 -- What `convert` writes: headers, a record, and one more step of a file after others.
-use Rattle.std.proofs.Common.{◌≡◌, ℕ, ◌+◌, ◌≤◌, List, [], ◌∷◌, ◌++◌, length, refl, sym, ap, subst, ◌∙◌}
-use Rattle.std.proofs.Common.{arith, inl, length-append, true≢false, Option, None, Some, Result, Ok, Err}
-use Rattle.std.specs.Prelude.{Bool, true, false, ◌||◌, is_ok}
+use Rattle.std.proofs.Common.{◌≡◌, ℕ, ◌+◌, ◌^◌, List, [], ◌∷◌, ◌++◌, length, refl, sym, ap, subst, ◌∙◌}
+use Rattle.std.proofs.Common.{arith, inl, inr, ◌⊎◌, length-append, true≢false, Option, None, Some, Result, Ok, Err}
+use Rattle.std.specs.Prelude.{Bool, true, false, ◌||◌, is_ok, IfOk}
 use Rattle.std.proofs.KnownBytes.{Appends-nil, Appends-trans}
 use Rattle.std.proofs.Common.{◌-◌, take, drop}
 use Rattle.std.proofs.Math.Seq.{take-length}
@@ -38,11 +38,15 @@ use Rattle.cap_pcap.specs.declared.info.InterfaceInfo.{InterfaceInfo}
 use Rattle.cap_pcap.specs.declared.pcap.Unit.{Unit as TimeUnit}
 use Rattle.cap_pcap.specs.declared.stamp.Stamp.{Stamp}
 use Rattle.cmd_captures.specs.Conversions.{any_told, any_end, chosen_in, is_told, is_end, chosen_of}
-use Rattle.cmd_captures.specs.Conversions.{told_status, after_met, AreAll, IsCopied, IsCopying, IsStep}
+use Rattle.cmd_captures.specs.Conversions.{told_status, AreAll, IsCopied, IsCopying, Met, Writes}
+use Rattle.cmd_captures.specs.Conversions.{MeetsInterface, ReadsWhole, is_left_out}
+use Rattle.cmd_reporting.specs.declared.status.Status.TheVariants.{Refused}
+use Rattle.cap_records.specs.Pulls.{Given, IsNext, IsSkipped, Passes, Skips}
+use Rattle.cap_records.specs.declared.counts.RecordCounts.{RecordCounts}
+use Rattle.cap_records.specs.declared.records.Pulled.TheVariants as pulls
+use Rattle.cap_records.specs.declared.selection.Selection.{Selection}
+use Rattle.cmd_captures.specs.declared.converting.Copied.{Copied}
 use Rattle.cmd_captures.specs.declared.converting.Copied.TheVariants as copies
-use Rattle.cmd_captures.specs.declared.converting.Met.{Met}
-use Rattle.cmd_captures.specs.declared.converting.Met.TheVariants as mets
-use Rattle.cmd_captures.specs.declared.converting.Progress.{Progress}
 
 -- ---- headers
 
@@ -252,66 +256,68 @@ interface_appends formats.Pcap said t added next p =
 interface_appends formats.Pcapng said t added next p =
     newest_appends said.newest t added next p
 
--- what a step writes stands behind what there was
+-- what became of a selected record stands behind what there was
+copied_appends : (signed : Bool) (h : RecordHeader) (w : List ℕ) (t : Target) (added : List ℕ)
+    (next : Target) (copied : Copied)
+    → Writes signed h w t added next copied → Appends t.file.contents next.file.contents added
+copied_appends signed h w t added next copies.Written p = p.3.appends
+copied_appends signed h w t added next (copies.LeftOut f) p =
+    none_added t next added p.1 (contents_of t next p.2)
+copied_appends signed h w t added next (copies.Unread f) p =
+    none_added t next added p.1 (contents_of t next p.2)
+
+-- so does what a step writes
 met_appends : (choice : Choice) (signed : Bool) (said : Said) (w : List ℕ)
     (step : Result Step SourceFault) (met : Met) (t : Target) (added : List ℕ) (next : Target)
     → WritesMet choice signed said w step met t added next
     → Appends t.file.contents next.file.contents added
-met_appends choice signed said w (Ok (steps.Record h)) (mets.Record copies.Passed) t added next p =
+met_appends choice signed said w (Ok (steps.Record h)) Met.Passed t added next p =
     none_added t next added p.1 (contents_of t next p.2)
-met_appends choice signed said w (Ok (steps.Record h)) (mets.Record copies.Written) t added next p =
-    p.4.appends
-met_appends choice signed said w (Ok (steps.Record h)) (mets.Record (copies.LeftOut f)) t added next
-    p =
-    none_added t next added p.2 (contents_of t next p.3)
-met_appends choice signed said w (Ok (steps.Record h)) (mets.Record (copies.Unread f)) t added next
-    p =
-    none_added t next added p.2 (contents_of t next p.3)
-met_appends choice signed said w (Ok (steps.Record h)) mets.NoRecord t added next p = absurd p
-met_appends choice signed said w (Ok (steps.Record h)) (mets.End None) t added next p = absurd p
-met_appends choice signed said w (Ok (steps.Record h)) (mets.End (Some f)) t added next p = absurd p
-met_appends choice signed said w (Ok steps.Interface) (mets.Record copied) t added next p = absurd p
-met_appends choice signed said w (Ok steps.Interface) mets.NoRecord t added next p =
+met_appends choice signed said w (Ok (steps.Record h)) (Met.Chosen copied) t added next p =
+    copied_appends signed h w t added next copied p.1
+met_appends choice signed said w (Ok (steps.Record h)) Met.NoRecord t added next p = absurd p
+met_appends choice signed said w (Ok (steps.Record h)) (Met.End fault) t added next p = absurd p
+met_appends choice signed said w (Ok steps.Interface) Met.Passed t added next p = absurd p
+met_appends choice signed said w (Ok steps.Interface) (Met.Chosen copied) t added next p = absurd p
+met_appends choice signed said w (Ok steps.Interface) Met.NoRecord t added next p =
     interface_appends t.file.format said t added next p
-met_appends choice signed said w (Ok steps.Interface) (mets.End None) t added next p = absurd p
-met_appends choice signed said w (Ok steps.Interface) (mets.End (Some f)) t added next p = absurd p
-met_appends choice signed said w (Ok steps.Passed) (mets.Record copied) t added next p = absurd p
-met_appends choice signed said w (Ok steps.Passed) mets.NoRecord t added next p =
+met_appends choice signed said w (Ok steps.Interface) (Met.End fault) t added next p = absurd p
+met_appends choice signed said w (Ok steps.Passed) Met.Passed t added next p = absurd p
+met_appends choice signed said w (Ok steps.Passed) (Met.Chosen copied) t added next p = absurd p
+met_appends choice signed said w (Ok steps.Passed) Met.NoRecord t added next p =
     none_added t next added p.0 (contents_of t next p.1)
-met_appends choice signed said w (Ok steps.Passed) (mets.End None) t added next p = absurd p
-met_appends choice signed said w (Ok steps.Passed) (mets.End (Some f)) t added next p = absurd p
-met_appends choice signed said w (Ok steps.End) (mets.Record copied) t added next p = absurd p
-met_appends choice signed said w (Ok steps.End) mets.NoRecord t added next p = absurd p
-met_appends choice signed said w (Ok steps.End) (mets.End None) t added next p =
+met_appends choice signed said w (Ok steps.Passed) (Met.End fault) t added next p = absurd p
+met_appends choice signed said w (Ok steps.End) Met.Passed t added next p = absurd p
+met_appends choice signed said w (Ok steps.End) (Met.Chosen copied) t added next p = absurd p
+met_appends choice signed said w (Ok steps.End) Met.NoRecord t added next p = absurd p
+met_appends choice signed said w (Ok steps.End) (Met.End None) t added next p =
     none_added t next added p.0 (contents_of t next p.1)
-met_appends choice signed said w (Ok steps.End) (mets.End (Some f)) t added next p = absurd p
-met_appends choice signed said w (Err g) (mets.Record copied) t added next p = absurd p
-met_appends choice signed said w (Err g) mets.NoRecord t added next p = absurd p
-met_appends choice signed said w (Err g) (mets.End None) t added next p = absurd p
-met_appends choice signed said w (Err g) (mets.End (Some f)) t added next p =
+met_appends choice signed said w (Ok steps.End) (Met.End (Some f)) t added next p = absurd p
+met_appends choice signed said w (Err g) Met.Passed t added next p = absurd p
+met_appends choice signed said w (Err g) (Met.Chosen copied) t added next p = absurd p
+met_appends choice signed said w (Err g) Met.NoRecord t added next p = absurd p
+met_appends choice signed said w (Err g) (Met.End None) t added next p = absurd p
+met_appends choice signed said w (Err g) (Met.End (Some f)) t added next p =
     none_added t next added p.1 (contents_of t next p.2)
 
-writes_last : {S : Type 0} (gives : S → S → List ℕ → Result Step SourceFault → Type 0)
+-- some steps, and then others
+writes_more : {S : Type 0} (gives : S → S → List ℕ → Result Step SourceFault → Type 0)
     (said : S → Said) (choice : Choice) (signed : Bool) (file : S) (t : Target)
-    (went : List Went) (added : List ℕ) (left : S) (end : Target) (one : Went) (new : List ℕ)
-    (later : S) (next : Target)
+    (went : List Went) (added : List ℕ) (left : S) (end : Target) (others : List Went)
+    (new : List ℕ) (later : S) (next : Target)
     → WritesSteps gives said choice signed file t went added left end
-    → gives left later one.octets one.step
-    → WritesMet choice signed (said later) one.octets one.step one.met end new next
-    → WritesSteps gives said choice signed file t (went ++ one ∷ []) (added ++ new) later next
-writes_last gives said choice signed file t [] added left end one new later next before gave writes = (
-  new,
-  [],
-  later,
-  next,
-  ap (λ l. l ++ new) before.0 ∙ sym (append-nil new),
-  subst (λ f. gives f later one.octets one.step) before.1 gave,
-  subst (λ (m : Target). WritesMet choice signed (said later) one.octets one.step one.met m new next)
-      before.2 writes,
-  (refl, refl, refl),
-)
-writes_last gives said choice signed file t (g ∷ gs) added left end one new later next before gave
-    writes =
+    → WritesSteps gives said choice signed left end others new later next
+    → WritesSteps gives said choice signed file t (went ++ others) (added ++ new) later next
+writes_more gives said choice signed file t [] added left end others new later next before after =
+    let from = subst
+    (λ f. WritesSteps gives said choice signed f end others new later next) before.1 after in
+    let from = subst
+    (λ (m : Target). WritesSteps gives said choice signed file m others new later next) before.2
+    from in
+    subst (λ (l : List ℕ). WritesSteps gives said choice signed file t others (l ++ new) later next)
+    (sym before.0) from
+writes_more gives said choice signed file t (g ∷ gs) added left end others new later next before
+    after =
     let (first, rest, mid, m, is, was, tell, more) = before in (
       first,
       rest ++ new,
@@ -320,32 +326,84 @@ writes_last gives said choice signed file t (g ∷ gs) added left end one new la
       ap (λ k. k ++ new) is ∙ append_assoc first rest new,
       was,
       tell,
-      writes_last gives said choice signed mid m gs rest left end one new later next more gave writes,
+      writes_more gives said choice signed mid m gs rest left end others new later next more after,
     )
 
-chosen_last : (went : List Went) (one : Went)
-    → chosen_in (went ++ one ∷ []) ≡ chosen_in went + chosen_of one.met
-chosen_last [] one = omega arith
-chosen_last (g ∷ gs) one = omega (arith, chosen_last gs one)
+-- one step
+writes_one : {S : Type 0} (gives : S → S → List ℕ → Result Step SourceFault → Type 0)
+    (said : S → Said) (choice : Choice) (signed : Bool) (file : S) (t : Target) (one : Went)
+    (new : List ℕ) (later : S) (next : Target)
+    → gives file later one.octets one.step
+    → WritesMet choice signed (said later) one.octets one.step one.met t new next
+    → WritesSteps gives said choice signed file t (one ∷ []) new later next
+writes_one gives said choice signed file t one new later next gave writes =
+    (new, [], later, next, sym (append-nil new), gave, writes, (refl, refl, refl))
 
-or_false : (b : Bool) → (b || false) ≡ b
-or_false true = refl
-or_false false = refl
+-- what a step met that was skipped
+met_skipped : Result Step SourceFault → Met
+met_skipped (Ok (steps.Record h)) = Met.Passed
+met_skipped (Ok steps.Interface) = Met.NoRecord
+met_skipped (Ok steps.Passed) = Met.NoRecord
+met_skipped (Ok steps.End) = Met.NoRecord
+met_skipped (Err fault) = Met.NoRecord
+
+went_of : List Given → List Went
+went_of [] = []
+went_of (g ∷ gs) = record { octets = g.octets; step = g.step; met = met_skipped g.step } ∷ went_of gs
+
+-- nothing is written of it
+skipped_writes : (selection : Selection) (said : Said) (w : List ℕ)
+    (step : Result Step SourceFault) (after : List ℕ) (t : Target)
+    → IsSkipped ReadsWhole selection w step after
+    → WritesMet selection.choice selection.signed said w step (met_skipped step) t [] t
+unfolding met_skipped
+skipped_writes selection said w (Ok (steps.Record h)) after t p = (p.1, refl, refl)
+skipped_writes selection said w (Ok steps.Interface) after t p = absurd p
+skipped_writes selection said w (Ok steps.Passed) after t p = (refl, refl)
+skipped_writes selection said w (Ok steps.End) after t p = absurd p
+skipped_writes selection said w (Err fault) after t p = absurd p
+
+passes_write : {S : Type 0} (gives : S → S → List ℕ → Result Step SourceFault → Type 0)
+    (said : S → Said) (selection : Selection) (file : S) (t : Target) (skipped : List Given)
+    (later : S) → Passes gives ReadsWhole selection file skipped later
+    → WritesSteps gives said selection.choice selection.signed file t (went_of skipped) [] later t
+unfolding went_of
+passes_write gives said selection file t [] later p = (refl, p, refl)
+passes_write gives said selection file t (g ∷ gs) later p =
+    let (mid, after, gave, meets, more) = p in (
+      [],
+      [],
+      mid,
+      t,
+      refl,
+      gave,
+      skipped_writes selection (said mid) g.octets g.step after t meets,
+      passes_write gives said selection mid t gs later more,
+    )
+
+chosen_more : (went others : List Went)
+    → chosen_in (went ++ others) ≡ chosen_in went + chosen_in others
+chosen_more [] others = omega arith
+chosen_more (g ∷ gs) others = omega (arith, chosen_more gs others)
 
 or_more : (a b c : Bool) → (a || (b || c)) ≡ ((a || b) || c)
 or_more true b c = refl
 or_more false b c = refl
 
+or_false : (b : Bool) → (b || false) ≡ b
+or_false true = refl
+or_false false = refl
+
 or_true : (b : Bool) → (b || true) ≡ true
 or_true true = refl
 or_true false = refl
 
-told_last : (went : List Went) (one : Went)
-    → any_told (went ++ one ∷ []) ≡ (any_told went || is_told one.met)
-told_last [] one = or_false (is_told one.met)
-told_last (g ∷ gs) one =
-    ap (λ b. is_told g.met || b) (told_last gs one)
-    ∙ or_more (is_told g.met) (any_told gs) (is_told one.met)
+told_more : (went others : List Went)
+    → any_told (went ++ others) ≡ (any_told went || any_told others)
+told_more [] others = refl
+told_more (g ∷ gs) others =
+    ap (λ b. is_told g.met || b) (told_more gs others)
+    ∙ or_more (is_told g.met) (any_told gs) (any_told others)
 
 end_last : (went : List Went) (one : Went) → is_end one.met ≡ true
     → any_end (went ++ one ∷ []) ≡ true
@@ -353,102 +411,293 @@ end_last [] one is = ap (λ b. b || false) is
 end_last (g ∷ gs) one is =
     ap (λ b. is_end g.met || b) (end_last gs one is) ∙ or_true (is_end g.met)
 
+not_chosen : (step : Result Step SourceFault) → chosen_of (met_skipped step) ≡ 0
+unfolding met_skipped
+not_chosen (Ok (steps.Record h)) = refl
+not_chosen (Ok steps.Interface) = refl
+not_chosen (Ok steps.Passed) = refl
+not_chosen (Ok steps.End) = refl
+not_chosen (Err fault) = refl
+
+not_told : (step : Result Step SourceFault) → is_told (met_skipped step) ≡ false
+unfolding met_skipped
+not_told (Ok (steps.Record h)) = refl
+not_told (Ok steps.Interface) = refl
+not_told (Ok steps.Passed) = refl
+not_told (Ok steps.End) = refl
+not_told (Err fault) = refl
+
+none_chosen : (skipped : List Given) → chosen_in (went_of skipped) ≡ 0
+unfolding went_of
+none_chosen [] = refl
+none_chosen (g ∷ gs) = omega (arith, not_chosen g.step, none_chosen gs)
+
+none_told : (skipped : List Given) → any_told (went_of skipped) ≡ false
+unfolding went_of
+none_told [] = refl
+none_told (g ∷ gs) = ap (λ b. b || any_told (went_of gs)) (not_told g.step) ∙ none_told gs
+
+as_many : (skipped : List Given) → length (went_of skipped) ≡ length skipped
+unfolding went_of
+as_many [] = refl
+as_many (g ∷ gs) = omega (arith, as_many gs)
+
+-- no step yet
 pub copying_none : {S : Type 0} (gives : S → S → List ℕ → Result Step SourceFault → Type 0)
     (said : S → Said) (choice : Choice) (signed : Bool) (file : S) (t : Target)
-    (p : Progress) → p.chosen ≡ 0 → p.refused ≡ false
-    → IsCopying gives said choice signed file t file t p 0
-copying_none gives said choice signed file t p chosen refused =
+    (counts : RecordCounts) → counts.chosen ≡ 0 → counts.left ≡ 2 ^ 64 - 1
+    → IsCopying gives said choice signed file t file t false counts
+copying_none gives said choice signed file t counts chosen left =
     record {
       went = [];
       added = [];
       writes = (refl, refl, refl);
       contents = Appends-nil t.file.contents;
-      gone = refl;
+      gone = omega (arith, left);
       chosen = chosen;
-      refused = refused;
+      refused_is = refl;
     }
 
-pub copying_more : {S : Type 0} (gives : S → S → List ℕ → Result Step SourceFault → Type 0)
-    (said : S → Said) (choice : Choice) (signed : Bool) (file : S) (t : Target)
-    (left : S) (end : Target) (p : Progress) (n : ℕ) (later : S) (next : Target) (met : Met)
-    (after : Progress)
-    → IsCopying gives said choice signed file t left end p n
-    → IsStep gives said choice signed left end later next met → after ≡ after_met p met
-    → IsCopying gives said choice signed file t later next after (n + 1)
-copying_more gives said choice signed file t left end p n later next met after before step is =
-    let one : Went = record { octets = step.octets; step = step.step; met = met } in
+-- further steps that were skipped
+pub copying_skips : {S : Type 0} (gives : S → S → List ℕ → Result Step SourceFault → Type 0)
+    (said : S → Said) (selection : Selection) (file : S) (t : Target) (left : S) (end : Target)
+    (refused : Bool) (counts : RecordCounts) (later : S) (next : RecordCounts)
+    → IsCopying gives said selection.choice selection.signed file t left end refused counts
+    → Skips gives ReadsWhole selection left counts later next
+    → IsCopying gives said selection.choice selection.signed file t later end refused next
+copying_skips gives said selection file t left end refused counts later next before skips =
+    let others = went_of skips.skipped in
     record {
-      went = before.went ++ one ∷ [];
-      added = before.added ++ step.added;
-      writes = writes_last gives said choice signed file t before.went before.added left end one
-          step.added later next before.writes step.gave step.writes;
-      contents = Appends-trans t.file.contents end.file.contents next.file.contents before.added
-          step.added before.contents (met_appends choice signed (said later) step.octets step.step
-          met end step.added next step.writes);
-      gone = omega (arith, before.gone, length-append before.went (one ∷ []));
+      went = before.went ++ others;
+      added = before.added ++ [];
+      writes = writes_more gives said selection.choice selection.signed file t before.went
+          before.added left end others [] later end before.writes
+          (passes_write gives said selection left end skips.skipped later skips.passes);
+      contents = Appends-trans t.file.contents end.file.contents end.file.contents before.added []
+          before.contents (Appends-nil end.file.contents);
+      gone = omega (
+        arith,
+        before.gone,
+        length-append before.went others,
+        as_many skips.skipped,
+        skips.left,
+      );
       chosen = omega (
         arith,
-        ap (λ (x : Progress). x.chosen) is,
         before.chosen,
-        chosen_last before.went one,
+        chosen_more before.went others,
+        none_chosen skips.skipped,
+        skips.chosen,
       );
-      refused = ap (λ (x : Progress). x.refused) is
-          ∙ ap (λ b. b || is_told met) before.refused ∙ sym (told_last before.went one);
+      refused_is = before.refused_is ∙ sym (or_false (any_told before.went))
+          ∙ ap (λ b. any_told before.went || b) (sym (none_told skips.skipped))
+          ∙ sym (told_more before.went others);
     }
 
-pub copied : {S : Type 0} (gives : S → S → List ℕ → Result Step SourceFault → Type 0)
-    (said : S → Said) (choice : Choice) (count : Option ℕ) (signed : Bool) (file : S)
-    (t : Target) (left : S) (end : Target) (p : Progress) (n : ℕ) (status : Status)
-    (k : IsCopying gives said choice signed file t left end p n) → AreAll count k.went
-    → status ≡ told_status p.refused
-    → IsCopied gives said choice count signed file t left end status
-copied gives said choice count signed file t left end p n status k all is =
+-- one more step, of which this was written
+pub copying_more : {S : Type 0} (gives : S → S → List ℕ → Result Step SourceFault → Type 0)
+    (said : S → Said) (choice : Choice) (signed : Bool) (file : S) (t : Target) (left : S)
+    (end : Target) (refused : Bool) (counts : RecordCounts) (one : Went) (new : List ℕ) (later : S)
+    (next : Target) (after : RecordCounts)
+    → IsCopying gives said choice signed file t left end refused counts
+    → gives left later one.octets one.step
+    → WritesMet choice signed (said later) one.octets one.step one.met end new next
+    → after.left + 1 ≡ counts.left → after.chosen ≡ counts.chosen + chosen_of one.met
+    → IsCopying gives said choice signed file t later next (refused || is_told one.met) after
+copying_more gives said choice signed file t left end refused counts one new later next after before
+    gave writes fewer chosen =
+    record {
+      went = before.went ++ one ∷ [];
+      added = before.added ++ new;
+      writes = writes_more gives said choice signed file t before.went before.added left end
+          (one ∷ []) new later next before.writes
+          (writes_one gives said choice signed left end one new later next gave writes);
+      contents = Appends-trans t.file.contents end.file.contents next.file.contents before.added new
+          before.contents (met_appends choice signed (said later) one.octets one.step one.met end
+          new next writes);
+      gone = omega (arith, before.gone, length-append before.went (one ∷ []), fewer);
+      chosen = omega (arith, before.chosen, chosen_more before.went (one ∷ []), chosen);
+      refused_is = ap (λ b. b || is_told one.met) before.refused_is
+          ∙ ap (λ b. any_told before.went || b) (sym (or_false (is_told one.met)))
+          ∙ sym (told_more before.went (one ∷ []));
+    }
+
+-- no further step is made
+pub copied_all : {S : Type 0} (gives : S → S → List ℕ → Result Step SourceFault → Type 0)
+    (said : S → Said) (choice : Choice) (count : Option ℕ) (signed : Bool) (file : S) (t : Target)
+    (left : S) (end : Target) (refused : Bool) (counts : RecordCounts) (status : Status)
+    (k : IsCopying gives said choice signed file t left end refused counts) → AreAll count k.went
+    → status ≡ told_status refused
+    → IsCopied gives said choice count signed file t end status
+copied_all gives said choice count signed file t left end refused counts status k all is =
     record {
       went = k.went;
       added = k.added;
+      left = left;
       writes = k.writes;
       contents = k.contents;
       all = all;
-      status_is = is ∙ ap told_status k.refused;
+      status_is = is ∙ ap told_status k.refused_is;
     }
 
--- after its last step
-pub copied_end : {S : Type 0} (gives : S → S → List ℕ → Result Step SourceFault → Type 0)
-    (said : S → Said) (choice : Choice) (count : Option ℕ) (signed : Bool) (file : S)
-    (t : Target) (left : S) (end : Target) (p : Progress) (n : ℕ) (later : S) (next : Target)
-    (met : Met) (after : Progress) (status : Status)
-    → IsCopying gives said choice signed file t left end p n
-    → IsStep gives said choice signed left end later next met → after ≡ after_met p met
-    → is_end met ≡ true → status ≡ told_status after.refused
-    → IsCopied gives said choice count signed file t later next status
+-- a record that comes next, of which this was written
+pub copying_chosen : {S : Type 0} (gives : S → S → List ℕ → Result Step SourceFault → Type 0)
+    (said : S → Said) (selection : Selection) (file : S) (t : Target) (left : S) (end : Target)
+    (refused : Bool) (counts : RecordCounts) (later : S) (after : List ℕ) (next : RecordCounts)
+    (head : RecordHeader) (unit : Unit {0}) (added : List ℕ) (last : Target) (copied : Copied)
+    → IsCopying gives said selection.choice selection.signed file t left end refused counts
+    → IsNext gives ReadsWhole selection left counts later after next (pulls.Chosen head unit)
+    → Writes selection.signed head after end added last copied
+    → IsCopying gives said selection.choice selection.signed file t later last
+    (refused || is_left_out copied) next
+copying_chosen gives said selection file t left end refused counts later after next head unit added last
+    copied before comes writes =
+    let k = copying_skips gives said selection file t left end refused counts comes.mid comes.between
+    before comes.skips in
+    elim comes.ends [
+      | inl one ↦
+          let (is, reads) = one.meets in
+          let w = one.given.octets in
+          let here : Writes selection.signed head w end added last copied = subst
+          (λ (v : List ℕ). Writes selection.signed head v end added last copied) reads.0 writes in
+          let all : WritesMet selection.choice selection.signed (said later) w
+          (Ok (steps.Record head)) (Met.Chosen copied) end added last = (reads.1, here) in
+          let went : Went = record { octets = w; step = one.given.step; met = Met.Chosen copied } in
+          copying_more gives said selection.choice selection.signed file t comes.mid end refused
+          comes.between went added later last next k one.gave
+          (subst (λ (step : Result Step SourceFault). WritesMet selection.choice selection.signed
+          (said later) w step (Met.Chosen copied) end added last) (sym is) all) one.left one.chosen
+      | inr stopped ↦ absurd stopped.none
+    ]
+
+-- the start of an interface that comes next
+pub copying_interface : {S : Type 0} (gives : S → S → List ℕ → Result Step SourceFault → Type 0)
+    (said : S → Said) (selection : Selection) (file : S) (t : Target) (left : S) (end : Target)
+    (refused : Bool) (counts : RecordCounts) (later : S) (after : List ℕ) (next : RecordCounts)
+    (added : List ℕ) (last : Target)
+    → IsCopying gives said selection.choice selection.signed file t left end refused counts
+    → IsNext gives ReadsWhole selection left counts later after next pulls.Interface
+    → MeetsInterface (said later) end added last
+    → IsCopying gives said selection.choice selection.signed file t later last refused next
+copying_interface gives said selection file t left end refused counts later after next added last before
+    comes meets =
+    let k = copying_skips gives said selection file t left end refused counts comes.mid comes.between
+    before comes.skips in
+    elim comes.ends [
+      | inl one ↦
+          let went : Went = record {
+            octets = one.given.octets;
+            step = one.given.step;
+            met = Met.NoRecord;
+          } in
+          subst (λ (b : Bool). IsCopying gives said selection.choice selection.signed file t later last
+          b next) (or_false refused)
+          (copying_more gives said selection.choice selection.signed file t comes.mid end refused
+          comes.between went added later last next k one.gave
+          (subst (λ (step : Result Step SourceFault). WritesMet selection.choice selection.signed
+          (said later) one.given.octets step Met.NoRecord end added last) (sym one.meets) meets)
+          one.left one.chosen)
+      | inr stopped ↦ absurd stopped.none
+    ]
+
+-- no step is made: as many records were chosen as are wanted, or no step is left
+copied_stopped : {S : Type 0} (gives : S → S → List ℕ → Result Step SourceFault → Type 0)
+    (said : S → Said) (selection : Selection) (file : S) (t : Target) (left : S) (end : Target)
+    (refused : Bool) (counts : RecordCounts) (status : Status)
+    → IsCopying gives said selection.choice selection.signed file t left end refused counts
+    → (selection.count ≡ Some counts.chosen) ⊎ (counts.left ≡ 0)
+    → status ≡ told_status refused
+    → IsCopied gives said selection.choice selection.count selection.signed file t end status
+copied_stopped gives said selection file t left end refused counts status k why is =
+    copied_all gives said selection.choice selection.count selection.signed file t left end refused
+    counts status k
+    (elim why [
+      | inl full ↦ inr (inl (full ∙ ap Some k.chosen))
+      | inr none ↦ inr (inr (omega (arith, k.gone, none)))
+    ]) is
+
+-- the last step: the end of the file, or its fault
+copied_last : {S : Type 0} (gives : S → S → List ℕ → Result Step SourceFault → Type 0)
+    (said : S → Said) (selection : Selection) (file : S) (t : Target) (left : S) (end : Target)
+    (refused : Bool) (counts : RecordCounts) (later : S) (next : RecordCounts)
+    (given : Given) (fault : Option SourceFault) (status : Status)
+    → IsCopying gives said selection.choice selection.signed file t left end refused counts
+    → gives left later given.octets given.step
+    → WritesMet selection.choice selection.signed (said later) given.octets given.step
+    (Met.End fault) end [] end
+    → next.left + 1 ≡ counts.left → next.chosen ≡ counts.chosen + 0
+    → status ≡ told_status (refused || is_told (Met.End fault))
+    → IsCopied gives said selection.choice selection.count selection.signed file t end status
 unfolding copying_more
-copied_end gives said choice count signed file t left end p n later next met after status before step
-    is last told =
-    let k = copying_more gives said choice signed file t left end p n later next met after before step
-    is in
-    let one : Went = record { octets = step.octets; step = step.step; met = met } in
-    copied gives said choice count signed file t later next after (n + 1) status k
-    (inl (end_last before.went one last)) told
+copied_last gives said selection file t left end refused counts later next given fault status k gave
+    writes fewer chosen is =
+    let went : Went = record { octets = given.octets; step = given.step; met = Met.End fault } in
+    copied_all gives said selection.choice selection.count selection.signed file t later end
+    (refused || is_told (Met.End fault)) next status
+    (copying_more gives said selection.choice selection.signed file t left end refused counts went []
+    later end next k gave writes fewer chosen) (inl (end_last k.went went refl)) is
 
--- no more records are read than steps are gone, and no more of them chosen
-pub records_grow : (p : Progress) (met : Met) (after : Progress) (n : ℕ) → after ≡ after_met p met
-    → p.records ≤ n → after.records ≤ n + 1
-records_grow p (mets.Record copied) after n is le = omega (arith, ap (λ (x : Progress). x.records) is, le)
-records_grow p mets.NoRecord after n is le = omega (arith, ap (λ (x : Progress). x.records) is, le)
-records_grow p (mets.End fault) after n is le = omega (arith, ap (λ (x : Progress). x.records) is, le)
+-- the end of the file that comes next
+pub copied_end : {S : Type 0} (gives : S → S → List ℕ → Result Step SourceFault → Type 0)
+    (said : S → Said) (selection : Selection) (file : S) (t : Target) (left : S) (end : Target)
+    (refused : Bool) (counts : RecordCounts) (later : S) (after : List ℕ) (next : RecordCounts)
+    (status : Status)
+    → IsCopying gives said selection.choice selection.signed file t left end refused counts
+    → IsNext gives ReadsWhole selection left counts later after next (pulls.End None)
+    → status ≡ told_status refused
+    → IsCopied gives said selection.choice selection.count selection.signed file t end status
+copied_end gives said selection file t left end refused counts later after next status before comes is =
+    let k = copying_skips gives said selection file t left end refused counts comes.mid comes.between
+    before comes.skips in
+    elim comes.ends [
+      | inl one ↦ copied_last gives said selection file t comes.mid end refused comes.between later
+          next one.given None status k one.gave
+          (subst (λ (step : Result Step SourceFault). WritesMet selection.choice selection.signed
+          (said later) one.given.octets step (Met.End None) end [] end) (sym one.meets) (refl, refl))
+          one.left one.chosen (is ∙ ap told_status (sym (or_false refused)))
+      | inr stopped ↦ copied_stopped gives said selection file t comes.mid end refused comes.between
+          status k stopped.why is
+    ]
 
-pub chosen_grow : (p : Progress) (met : Met) (after : Progress) (n : ℕ) → after ≡ after_met p met
-    → p.chosen ≤ n → after.chosen ≤ n + 1
-chosen_grow p (mets.Record copies.Passed) after n is le =
-    omega (arith, ap (λ (x : Progress). x.chosen) is, le)
-chosen_grow p (mets.Record copies.Written) after n is le =
-    omega (arith, ap (λ (x : Progress). x.chosen) is, le)
-chosen_grow p (mets.Record (copies.LeftOut f)) after n is le =
-    omega (arith, ap (λ (x : Progress). x.chosen) is, le)
-chosen_grow p (mets.Record (copies.Unread f)) after n is le =
-    omega (arith, ap (λ (x : Progress). x.chosen) is, le)
-chosen_grow p mets.NoRecord after n is le = omega (arith, ap (λ (x : Progress). x.chosen) is, le)
-chosen_grow p (mets.End fault) after n is le = omega (arith, ap (λ (x : Progress). x.chosen) is, le)
+-- the fault of the file that comes next
+pub copied_fault : {S : Type 0} (gives : S → S → List ℕ → Result Step SourceFault → Type 0)
+    (said : S → Said) (selection : Selection) (file : S) (t : Target) (left : S) (end : Target)
+    (refused : Bool) (counts : RecordCounts) (later : S) (after : List ℕ) (next : RecordCounts)
+    (fault : SourceFault) (status : Status)
+    → IsCopying gives said selection.choice selection.signed file t left end refused counts
+    → IsNext gives ReadsWhole selection left counts later after next (pulls.End (Some fault))
+    → status ≡ Refused
+    → IsCopied gives said selection.choice selection.count selection.signed file t end status
+copied_fault gives said selection file t left end refused counts later after next fault status before
+    comes is =
+    let k = copying_skips gives said selection file t left end refused counts comes.mid comes.between
+    before comes.skips in
+    elim comes.ends [
+      | inl one ↦ copied_last gives said selection file t comes.mid end refused comes.between later
+          next one.given (Some fault) status k one.gave
+          (subst (λ (step : Result Step SourceFault). WritesMet selection.choice selection.signed
+          (said later) one.given.octets step (Met.End (Some fault)) end [] end) (sym one.meets)
+          (refl, refl, refl))
+          one.left one.chosen (is ∙ ap told_status (sym (or_true refused)))
+      | inr stopped ↦ absurd stopped.none
+    ]
+
+-- the same of what reports it
+pub copied_told : {S E : Type 0} (gives : S → S → List ℕ → Result Step SourceFault → Type 0)
+    (said : S → Said) (selection : Selection) (file : S) (t : Target) (left : S) (end : Target)
+    (refused : Bool) (counts : RecordCounts) (later : S) (after : List ℕ) (next : RecordCounts)
+    (fault : SourceFault) (result : Result Status E)
+    → IsCopying gives said selection.choice selection.signed file t left end refused counts
+    → IsNext gives ReadsWhole selection left counts later after next (pulls.End (Some fault))
+    → IfOk result (λ status. status ≡ Refused)
+    → IfOk result (IsCopied gives said selection.choice selection.count selection.signed file t end)
+copied_told gives said selection file t left end refused counts later after next fault (Ok status)
+    before comes is =
+    copied_fault gives said selection file t left end refused counts later after next fault status
+    before comes is
+copied_told gives said selection file t left end refused counts later after next fault (Err e) before
+    comes is =
+    tt
 
 -- all that is behind a place
 pub take_rest : (n : ℕ) (xs : List ℕ) → take (length xs - n) (drop n xs) ≡ drop n xs

@@ -1,7 +1,7 @@
 -- What `convert` writes of the records of a file.
 use Rattle.std.specs.Prelude.{◌≡◌, ◌⊎◌, ℕ, ◌+◌, ◌-◌, ◌^◌, ◌≤◌, Bool, true, false, ◌||◌, ◌&&◌, nat_lt}
 use Rattle.std.specs.Prelude.{if◌then◌else◌, List, [], ◌∷◌, ◌++◌, length, take}
-use Rattle.std.specs.Prelude.{Option, Some, None, Result, Ok, Err}
+use Rattle.std.specs.Prelude.{Option, Some, None, is_some, Result, Ok, Err}
 use Rattle.std.specs.Io.KnownBytes.{Appends}
 use Rattle.cap_records.specs.declared.choosing.Choice.{Choice}
 use Rattle.cap_linklayers.specs.LinkLayers.{IsFrameIn, IsLinkFault}
@@ -34,15 +34,14 @@ use Rattle.cap_pcap.specs.declared.sink.SinkFault.{SinkFault}
 use Rattle.cap_pcap.specs.declared.sink.SinkFault.TheVariants as faults
 use Rattle.cap_records.specs.SignedFrames.{HasPlain, IsUnread, inner_frame, reads_secured}
 use Rattle.cap_records.specs.Selections.{Chooses}
+use Rattle.cap_records.specs.declared.counts.RecordCounts.{RecordCounts}
 use Rattle.cap_records.specs.declared.refusal.RecordFault.{RecordFault}
+use Rattle.cap_records.specs.declared.selection.Selection.{Selection}
 use Rattle.cap_records.specs.declared.signed.PlainPart.{PlainPart}
 use Rattle.cmd_reporting.specs.declared.status.Status.{Status}
 use Rattle.cmd_reporting.specs.declared.status.Status.TheVariants.{Done, Refused}
 use Rattle.cmd_captures.specs.declared.converting.Copied.{Copied}
 use Rattle.cmd_captures.specs.declared.converting.Copied.TheVariants as copies
-use Rattle.cmd_captures.specs.declared.converting.Met.{Met}
-use Rattle.cmd_captures.specs.declared.converting.Met.TheVariants as mets
-use Rattle.cmd_captures.specs.declared.converting.Progress.{Progress}
 use Rattle.cmd_captures.specs.declared.written.PutRefusal.{PutRefusal}
 use Rattle.cmd_captures.specs.declared.written.PutRefusal.TheVariants as refusals
 
@@ -232,19 +231,25 @@ pub record IsAdded (l : LinkLayer) (h : RecordHeader) (text added : List ℕ) (t
 abbrev pub kept : List ℕ → List ℕ
 kept w = take LONGEST_RECORD w
 
--- what became of a record, what was written of it, and the file afterwards
-abbrev pub Copies : Choice → Bool → RecordHeader → List ℕ → Target → List ℕ → Target → Copied → Type 0
-Copies choice signed h w t added next copies.Passed =
-    Chooses choice signed h (kept w) false × (added ≡ []) × (next ≡ t)
-Copies choice signed h w t added next copies.Written =
-    Chooses choice signed h (kept w) true × (l : LinkLayer) × (text : List ℕ)
-    × HasText t.frames_only t.layer signed h w l text × IsAdded l h text added t next
-Copies choice signed h w t added next (copies.LeftOut fault) =
-    Chooses choice signed h (kept w) true × IsLeftOut t signed h w fault × (added ≡ []) × (next ≡ t)
-Copies choice signed h w t added next (copies.Unread fault) =
-    Chooses choice signed h (kept w) true × IsUnreadIn t signed h w fault × (added ≡ []) × (next ≡ t)
+-- what became of a selected record, what was written of it, and the file afterwards
+abbrev pub Writes : Bool → RecordHeader → List ℕ → Target → List ℕ → Target → Copied → Type 0
+Writes signed h w t added next copies.Written =
+    (l : LinkLayer) × (text : List ℕ) × HasText t.frames_only t.layer signed h w l text
+    × IsAdded l h text added t next
+Writes signed h w t added next (copies.LeftOut fault) =
+    IsLeftOut t signed h w fault × (added ≡ []) × (next ≡ t)
+Writes signed h w t added next (copies.Unread fault) =
+    IsUnreadIn t signed h w fault × (added ≡ []) × (next ≡ t)
 
 -- ---- all records of a file
+
+-- what a step met: a record that isn't selected, or what became of a selected one; a part of the file
+-- without a record; its end, or its fault
+pub data Met : Type 0 where
+  Passed : Met
+  Chosen : Copied → Met
+  NoRecord : Met
+  End : Option SourceFault → Met
 
 -- one step: the octets and the answer of a call for the next record, and what became of it
 pub record Went : Type 0 where
@@ -256,15 +261,17 @@ pub record Went : Type 0 where
 -- read has said this.
 abbrev pub WritesMet : Choice → Bool → Said → List ℕ → Result Step SourceFault → Met
     → Target → List ℕ → Target → Type 0
-WritesMet choice signed said w (Ok (steps.Record h)) (mets.Record copied) t added next =
-    Copies choice signed h w t added next copied
-WritesMet choice signed said w (Ok steps.Interface) mets.NoRecord t added next =
+WritesMet choice signed said w (Ok (steps.Record h)) Met.Passed t added next =
+    Chooses choice signed h (kept w) false × (added ≡ []) × (next ≡ t)
+WritesMet choice signed said w (Ok (steps.Record h)) (Met.Chosen copied) t added next =
+    Chooses choice signed h (kept w) true × Writes signed h w t added next copied
+WritesMet choice signed said w (Ok steps.Interface) Met.NoRecord t added next =
     MeetsInterface said t added next
-WritesMet choice signed said w (Ok steps.Passed) mets.NoRecord t added next =
+WritesMet choice signed said w (Ok steps.Passed) Met.NoRecord t added next =
     (added ≡ []) × (next ≡ t)
-WritesMet choice signed said w (Ok steps.End) (mets.End None) t added next =
+WritesMet choice signed said w (Ok steps.End) (Met.End None) t added next =
     (added ≡ []) × (next ≡ t)
-WritesMet choice signed said w (Err fault) (mets.End (Some told)) t added next =
+WritesMet choice signed said w (Err fault) (Met.End (Some told)) t added next =
     (told ≡ fault) × (added ≡ []) × (next ≡ t)
 WritesMet choice signed said w step met t added next = ⊥
 
@@ -282,33 +289,31 @@ WritesSteps {S} gives said choice signed file t (went ∷ more) added left end =
     × WritesSteps gives said choice signed later next more rest left end
 
 -- whether a step was told on standard error: a record was left out, or the file has a fault
+abbrev pub is_left_out : Copied → Bool
+is_left_out copies.Written = false
+is_left_out (copies.LeftOut fault) = true
+is_left_out (copies.Unread fault) = true
+
 abbrev pub is_told : Met → Bool
-is_told (mets.Record (copies.LeftOut fault)) = true
-is_told (mets.Record (copies.Unread fault)) = true
-is_told (mets.Record copied) = false
-is_told mets.NoRecord = false
-is_told (mets.End (Some fault)) = true
-is_told (mets.End None) = false
+is_told Met.Passed = false
+is_told (Met.Chosen copied) = is_left_out copied
+is_told Met.NoRecord = false
+is_told (Met.End (Some fault)) = true
+is_told (Met.End None) = false
 
 -- whether no further step follows
 abbrev pub is_end : Met → Bool
-is_end (mets.Record copied) = false
-is_end mets.NoRecord = false
-is_end (mets.End fault) = true
+is_end Met.Passed = false
+is_end (Met.Chosen copied) = false
+is_end Met.NoRecord = false
+is_end (Met.End fault) = true
 
--- how many chosen records a step has, and how many records
+-- how many selected records a step has
 abbrev pub chosen_of : Met → ℕ
-chosen_of (mets.Record copies.Passed) = 0
-chosen_of (mets.Record copies.Written) = 1
-chosen_of (mets.Record (copies.LeftOut fault)) = 1
-chosen_of (mets.Record (copies.Unread fault)) = 1
-chosen_of mets.NoRecord = 0
-chosen_of (mets.End fault) = 0
-
-abbrev pub records_of : Met → ℕ
-records_of (mets.Record copied) = 1
-records_of mets.NoRecord = 0
-records_of (mets.End fault) = 0
+chosen_of Met.Passed = 0
+chosen_of (Met.Chosen copied) = 1
+chosen_of Met.NoRecord = 0
+chosen_of (Met.End fault) = 0
 
 -- the same of all steps
 abbrev pub any_told : List Went → Bool
@@ -337,9 +342,10 @@ AreAll count went =
 -- records, one after the other, and of nothing else.
 pub record IsCopied {S : Type 0} (gives : S → S → List ℕ → Result Step SourceFault → Type 0)
     (said : S → Said) (choice : Choice) (count : Option ℕ) (signed : Bool) (file : S)
-    (t : Target) (left : S) (end : Target) (status : Status) : Type 0 where
+    (t : Target) (end : Target) (status : Status) : Type 0 where
   pub went : List Went
   pub added : List ℕ
+  pub left : S
   pub writes : WritesSteps gives said choice signed file t went added left end
   pub contents : Appends t.file.contents end.file.contents added
   pub all : AreAll count went
@@ -415,32 +421,19 @@ PutsRecord signed h w t next (Err (refusals.Sink (faults.Link fault))) =
 PutsRecord signed h w t next (Err (refusals.Unread fault)) =
     IsUnreadIn t signed h w fault × (next ≡ t)
 
--- one step of the file
-pub record IsStep {S : Type 0} (gives : S → S → List ℕ → Result Step SourceFault → Type 0)
-    (said : S → Said) (choice : Choice) (signed : Bool) (file : S) (t : Target)
-    (later : S) (next : Target) (met : Met) : Type 0 where
-  pub octets : List ℕ
-  pub step : Result Step SourceFault
-  pub added : List ℕ
-  pub gave : gives file later octets step
-  pub writes : WritesMet choice signed (said later) octets step met t added next
-
--- the counts and the status after one more step
-abbrev pub after_met : Progress → Met → Progress
-after_met p met = record {
-  records = p.records + records_of met;
-  chosen = p.chosen + chosen_of met;
-  refused = p.refused || is_told met;
-}
+-- What a reader says that leaves each record as it is in its file: only whether it is selected.
+abbrev pub ReadsWhole : Selection → RecordHeader → List ℕ → List ℕ → Option (Unit {0}) → Type 0
+ReadsWhole selection h w after read =
+    (after ≡ w) × Chooses selection.choice selection.signed h (kept w) (is_some read)
 
 -- the steps so far
 pub record IsCopying {S : Type 0} (gives : S → S → List ℕ → Result Step SourceFault → Type 0)
     (said : S → Said) (choice : Choice) (signed : Bool) (file : S) (t : Target)
-    (left : S) (end : Target) (p : Progress) (steps_gone : ℕ) : Type 0 where
+    (left : S) (end : Target) (refused : Bool) (counts : RecordCounts) : Type 0 where
   pub went : List Went
   pub added : List ℕ
   pub writes : WritesSteps gives said choice signed file t went added left end
   pub contents : Appends t.file.contents end.file.contents added
-  pub gone : length went ≡ steps_gone
-  pub chosen : p.chosen ≡ chosen_in went
-  pub refused : p.refused ≡ any_told went
+  pub gone : counts.left + length went ≡ 2 ^ 64 - 1
+  pub chosen : counts.chosen ≡ chosen_in went
+  pub refused_is : refused ≡ any_told went

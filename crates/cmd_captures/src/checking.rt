@@ -71,8 +71,8 @@ where
         output: Output::new(alloc, io.format)?,
     };
     let out = &mut io.out;
-    let mut records = open_records(alloc, file, selection.format, reader)?;
-    let walked = each_record(alloc, file, selection, &mut records, &mut visitor, out)?;
+    let records = open_records(alloc, file, selection.format, reader)?;
+    let walked = each_record(alloc, file, selection, records, &mut visitor, out)?;
     visitor.output.end(&walked, out)?;
     visitor
         .output

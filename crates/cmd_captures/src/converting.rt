@@ -1,9 +1,9 @@
 //! The command `convert`.
 
-ghost use Rattle.std.specs.Prelude.{◌≡◌, ◌-◌, ◌^◌, ◌<◌, ℕ, List, IfErr, IfOk, None, false, true};
+ghost use Rattle.std.specs.Prelude.{◌≡◌, ℕ, List, IfErr, IfOk, None, true};
 ghost use Rattle.cap_pcap.specs.Sources.{Gives};
-ghost use Rattle.cmd_captures.specs.Conversions.{Copies, IsCopied, IsStep, after_met};
-ghost use Rattle.cmd_captures.specs.Conversions.{is_end, told_status, said_by};
+ghost use Rattle.cmd_captures.specs.Conversions.{IsCopied, Writes};
+ghost use Rattle.cmd_captures.specs.Conversions.{is_left_out, told_status, said_by};
 ghost use Rattle.cmd_reporting.specs.FileNames.{format_of_output};
 ghost use Rattle.cmd_reporting.specs.FileNames.{is_standard as names_standard};
 ghost use Rattle.cmd_reporting.specs.Statuses.{IsCommandStatus, IsStopped};
@@ -12,16 +12,17 @@ use crate::prompt::Prompt;
 use crate::refused_lines::UnreadRecord;
 use crate::written::{PutRefusal, Written};
 use cap_pcap::{
-    AnySource, Format, LONGEST_CAPTURED, OpenFault, RecordHeader, RecordSource, SinkFault,
-    SourceFault, Step,
+    AnySource, Format, LONGEST_CAPTURED, OpenFault, RecordHeader, SinkFault, SourceFault,
 };
-use cap_records::{FileFault, RecordFault, RefusedCapture, Selection};
+use cap_records::{
+    FileFault, Pulled, RecordFault, RecordReader, Records, RefusedCapture, Selection,
+};
 use cmd_reporting::{
     Fault, Io, LeftOut, OutputFormat, Status, Target, WriterFault, create_output, is_standard,
     keep_apart, open,
 };
 use its_linkframe::{Counted, Source};
-use std::alloc::Global;
+use std::alloc::{AllocError, Global};
 use std::io::{Read, Write};
 use std::rt::Files;
 
@@ -136,16 +137,7 @@ fn convert_records<'a, R: Read + Drop, W: Write + Drop, E: Write>(
     };
     let keep = LONGEST_CAPTURED as usize;
     let ended = match AnySource::open(alloc, Counted::new(reader), selection.format, keep) {
-        Ok(mut source) => {
-            copy(
-                alloc,
-                &mut reporter,
-                selection,
-                &mut source,
-                &mut written,
-                err,
-            )
-        }
+        Ok(source) => copy(alloc, &mut reporter, selection, source, &mut written, err),
         Err(OpenFault::Io) => Err(Fault::CannotRead(conversion.file)),
         Err(OpenFault::Gzip) => Ok(reporter.refuse(FileFault::gzip(), 0, err)),
     };
@@ -161,45 +153,88 @@ fn convert_records<'a, R: Read + Drop, W: Write + Drop, E: Write>(
     Ok(status)
 }
 
-/// Writes the records of the source that are chosen, one by one, until it ends. A record that has
-/// no place in the file is reported and left out.
+/// Writes the selected records of the source, one by one, until it ends. A record that has no place
+/// in the file is reported and left out.
 fn copy<'a, S: Source + Drop, W: Write + Drop, E: Write>(
     alloc: Global,
     reporter: &mut Reporter<'a>,
     selection: &Selection,
-    source: &mut AnySource<S>,
+    source: AnySource<S>,
     written: &mut Written<W>,
     err: &mut E,
 ) -> Result<Status, Fault<'a>>
     ensures command { IfOk result IsCommandStatus }
     ensures copied { IfOk result (IsCopied Gives said_by selection.now.choice
-        selection.now.count selection.now.signed source.old written.old source.new
-        written.new) }
+        selection.now.count selection.now.signed source written.old written.new) }
 {
-    let mut octets = Vec::new(alloc);
-    let mut room = Vec::new(alloc);
-    let mut progress = Progress::begin();
-    // The range is there so that the copying ends on any source. No file reaches its end.
-    for step in 0..u64::MAX {
-        if selection.count == Some(progress.chosen) {
-            return Ok(progress.status());
-        }
-        let target = reporter.target;
-        let met = go_on(selection, target, source, &mut octets, &mut room, written)?;
-        reporter.report(met, progress.records, err)?;
-        progress = progress.after(met);
-        if met.is_end() {
-            return Ok(progress.status());
+    let reader = WholeRecords {
+        room: Vec::new(alloc),
+    };
+    let mut records = Records::new(source, reader, Vec::new(alloc), *selection);
+    let mut refused = false;
+    loop {
+        match records.next_chosen()? {
+            Pulled::Chosen(head, ()) => {
+                let (target, signed) = (reporter.target, selection.signed);
+                let copied = copy_record(target, signed, &head, &mut records.octets, written)?;
+                reporter.report(copied, records.counts.last(), err);
+                let is_left_out = copied.is_left_out();
+                refused = refused || is_left_out;
+            }
+            Pulled::Interface => {
+                let source = &records.source;
+                if written.meet(source.layer(), source.newest()).is_err() {
+                    return Err(Fault::of_target(reporter.target));
+                }
+            }
+            Pulled::End(Some(fault)) => return reporter.end_file(fault, records.counts.read, err),
+            Pulled::End(None) => return Ok(status_of(refused)),
         }
     }
-    Ok(progress.status())
 }
 
-/// What became of a record.
+/// The exit status.
+fn status_of(refused: bool) -> Status
+    ensures { result ≡ told_status refused }
+{
+    if refused {
+        Status::Refused
+    } else {
+        Status::Done
+    }
+}
+
+/// Reads no more of a record than whether it is selected. Its octets stay as they are.
+#[derive(Drop)]
+struct WholeRecords {
+    /// The buffer that a frame is read in.
+    room: Vec<u8>,
+}
+
+impl RecordReader for WholeRecords {
+    ghost use Rattle.cmd_captures.specs.Conversions.{ReadsWhole};
+
+    type Record = ();
+
+    ghost Reads = { ReadsWhole };
+
+    fn read(
+        &mut self,
+        selection: &Selection,
+        head: &RecordHeader,
+        octets: &mut Vec<u8>,
+    ) -> Result<Option<()>, AllocError> {
+        if selection.has_record(head, octets.as_slice(), &mut self.room)? {
+            Ok(Some(()))
+        } else {
+            Ok(None)
+        }
+    }
+}
+
+/// What became of a selected record.
 #[derive(Clone, Copy)]
 enum Copied {
-    /// It isn't chosen.
-    Passed,
     /// It is written.
     Written,
     /// It has no place in the file.
@@ -208,128 +243,32 @@ enum Copied {
     Unread(RecordFault),
 }
 
-/// What a step of the source met.
-#[derive(Clone, Copy)]
-enum Met {
-    /// A record.
-    Record(Copied),
-    /// A part of the file without one.
-    NoRecord,
-    /// The end of the file, or its fault.
-    End(Option<SourceFault>),
-}
-
-impl Met {
-    /// Whether no further step follows.
-    fn is_end(self) -> bool
-        ensures { result ≡ is_end self }
+impl Copied {
+    /// Whether nothing is written of it.
+    fn is_left_out(self) -> bool
+        ensures { result ≡ is_left_out self }
     {
         match self {
-            Met::Record(_) | Met::NoRecord => false,
-            Met::End(_) => true,
+            Copied::Written => false,
+            Copied::LeftOut(_) => true,
+            Copied::Unread(_) => true,
         }
     }
 }
 
-/// How far a file was copied.
-#[derive(Clone, Copy)]
-struct Progress {
-    /// How many records were read.
-    records: u64,
-    /// How many of them were chosen.
-    chosen: u64,
-    /// Whether one of these was left out, or the file has a fault.
-    refused: bool,
-}
-
-impl Progress {
-    /// Nothing yet.
-    fn begin() -> Progress
-        ensures { result ≡ record { records = 0; chosen = 0; refused = false } }
-    {
-        Progress {
-            records: 0,
-            chosen: 0,
-            refused: false,
-        }
-    }
-
-    /// The same after one more step.
-    fn after(self, met: Met) -> Progress
-        requires records { self.records < 2 ^ 64 - 1 }
-        requires chosen { self.chosen < 2 ^ 64 - 1 }
-        ensures { result ≡ after_met self met }
-    {
-        let (records, chosen, refused) = match met {
-            Met::Record(Copied::Passed) => (1, 0, false),
-            Met::Record(Copied::Written) => (1, 1, false),
-            Met::Record(Copied::LeftOut(_) | Copied::Unread(_)) => (1, 1, true),
-            Met::NoRecord => (0, 0, false),
-            Met::End(fault) => (0, 0, fault.is_some()),
-        };
-        Progress {
-            records: self.records + records,
-            chosen: self.chosen + chosen,
-            refused: self.refused || refused,
-        }
-    }
-
-    /// The exit status.
-    fn status(self) -> Status
-        ensures { result ≡ told_status self.refused }
-    {
-        if self.refused {
-            Status::Refused
-        } else {
-            Status::Done
-        }
-    }
-}
-
-/// Goes one step over the file. `CannotWrite` where the file that is written failed, `OutOfMemory`
-/// where an allocation did.
-fn go_on<'a, S: Source + Drop, W: Write + Drop>(
-    selection: &Selection,
-    target: &'a str,
-    source: &mut AnySource<S>,
-    octets: &mut Vec<u8>,
-    room: &mut Vec<u8>,
-    written: &mut Written<W>,
-) -> Result<Met, Fault<'a>>
-    ensures { IfOk result (IsStep Gives said_by selection.now.choice selection.now.signed source.old
-        written.old source.new written.new) }
-{
-    match source.next_into(octets) {
-        Ok(Step::Record(head)) => {
-            let copied = copy_record(selection, target, &head, octets, room, written)?;
-            Ok(Met::Record(copied))
-        }
-        Ok(Step::Interface) => match written.meet(source.layer(), source.newest()) {
-            Ok(()) => Ok(Met::NoRecord),
-            Err(_) => Err(Fault::of_target(target)),
-        },
-        Ok(Step::Passed) => Ok(Met::NoRecord),
-        Ok(Step::End) => Ok(Met::End(None)),
-        Err(fault) => Ok(Met::End(Some(fault))),
-    }
-}
-
-/// Writes a record, if it is chosen.
+/// Writes a selected record. `signed` says that of a secured frame the inner frame is written.
+/// `CannotWrite` if the file that is written failed.
 fn copy_record<'a, W: Write + Drop>(
-    selection: &Selection,
     target: &'a str,
+    signed: bool,
     head: &RecordHeader,
     octets: &mut Vec<u8>,
-    room: &mut Vec<u8>,
     written: &mut Written<W>,
 ) -> Result<Copied, Fault<'a>>
-    ensures { IfOk result (λ copied. (added : List ℕ) × Copies selection.now.choice
-        selection.now.signed head.now octets.old.items written.old added written.new copied) }
+    ensures { IfOk result (λ copied. (added : List ℕ) × Writes signed head.now octets.old.items
+        written.old added written.new copied) }
 {
-    if !selection.has_record(head, octets.as_slice(), room)? {
-        return Ok(Copied::Passed);
-    }
-    match written.put(head, octets, selection.signed) {
+    match written.put(head, octets, signed) {
         Ok(()) => Ok(Copied::Written),
         Err(PutRefusal::Unread(fault)) => Ok(Copied::Unread(fault)),
         Err(PutRefusal::Sink(fault)) => {
@@ -357,26 +296,20 @@ struct Reporter<'a> {
 }
 
 impl<'a> Reporter<'a> {
-    /// Reports what a step met after this number of records: that the record is left out, or the
-    /// fault of the file.
-    fn report<E: Write>(&mut self, met: Met, records: u64, err: &mut E) -> Result<(), Fault<'a>> {
-        match met {
-            Met::Record(Copied::LeftOut(fault)) => {
-                self.left_out = self.left_out.saturating_add(1);
-                let left_out = LeftOut::new("record", records, fault, self.format);
+    /// Reports that the record of this number is left out, if it is.
+    fn report<E: Write>(&mut self, copied: Copied, number: u64, err: &mut E) {
+        match copied {
+            Copied::Written => return,
+            Copied::LeftOut(fault) => {
+                let left_out = LeftOut::new("record", number, fault, self.format);
                 let _ = writeln!(err, "{left_out}");
             }
-            Met::Record(Copied::Unread(fault)) => {
-                self.left_out = self.left_out.saturating_add(1);
-                let unread = UnreadRecord::new(records, fault, self.format.explain);
+            Copied::Unread(fault) => {
+                let unread = UnreadRecord::new(number, fault, self.format.explain);
                 let _ = writeln!(err, "{unread}");
             }
-            Met::End(Some(fault)) => {
-                self.end_file(fault, records, err)?;
-            }
-            _ => {}
         }
-        Ok(())
+        self.left_out = self.left_out.saturating_add(1);
     }
 
     /// Reports how many records were left out, if that is hard to see from their lines.
@@ -393,7 +326,7 @@ impl<'a> Reporter<'a> {
         records: u64,
         err: &mut E,
     ) -> Result<Status, Fault<'a>>
-        ensures { IfOk result IsCommandStatus }
+        ensures { IfOk result (λ status. status ≡ Status.Refused) }
     {
         let fault = FileFault::of(fault, self.file, records, self.read_as)?;
         Ok(self.refuse(fault, records, err))

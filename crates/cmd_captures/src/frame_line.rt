@@ -1,10 +1,10 @@
 //! The line of `show` for a frame.
 
 use crate::field::Field;
-use crate::moment::Moment;
 use crate::secured_keys::SecuredKeys;
 use crate::text::Text;
 use cap_records::RecordPlace;
+use cmd_times::Moment;
 use its_headers::Kind;
 use its_linkframe::FrameView;
 use its_words::frames::{FrameKeys, MessageKeys, TargetKeys};
@@ -70,7 +70,7 @@ impl<'a> FrameLine<'a> {
     /// Adds its words to a text, with a line feed after them.
     pub(crate) fn add_to(&self, text: &mut Text) -> Result<(), AllocError> {
         let keys = &self.keys;
-        self.moment.add_to(text)?;
+        text.moment(self.moment)?;
         text.digits(" ", &keys.from.0)?;
         text.digits(" ", &keys.to.0)?;
         text.word(" ")?;
@@ -136,7 +136,7 @@ impl<'a> FrameLine<'a> {
         }
         let keys = &self.keys;
         match field {
-            Field::Moment => self.moment.add_to(text),
+            Field::Moment => text.moment(self.moment),
             Field::From => text.digits("", &keys.from.0),
             Field::To => text.digits("", &keys.to.0),
             Field::Kind => text.word(keys.kind),

@@ -27,12 +27,10 @@
 
 mod checking;
 mod converting;
-mod date;
 mod field;
 mod frame_line;
 mod importing;
 mod losses;
-mod moment;
 mod output;
 mod prompt;
 mod refused_lines;
@@ -45,9 +43,9 @@ mod written;
 
 pub use cap_records::{Choice, Kinds, Selection};
 pub use checking::check_file;
+pub use cmd_times::Time;
 pub use converting::{Conversion, convert_file};
 pub use field::{FIELDS, Field};
 pub use importing::{LineFault, LinesFault, import_file, read_lines, write_records};
-pub use moment::Time;
 pub use showing::{Showing, show_file};
 pub use utc::utc_moment;

@@ -1,11 +1,11 @@
 //! Lines of a command, as words or as objects in JSON.
 
 use crate::frame_line::FrameLine;
-use crate::moment::Moment;
 use crate::refused_lines::RefusedAt;
 use crate::text::Text;
 use cap_records::{RefusedCapture, Walked};
 use cmd_reporting::{Fault, OutputFormat};
+use cmd_times::Moment;
 use its_words::json_lines::JsonLine;
 use serde::Serialize;
 use std::alloc::{AllocError, Global};

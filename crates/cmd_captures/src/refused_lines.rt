@@ -1,8 +1,8 @@
 //! The lines of refused records, and of their count. Each prints as its line of words, and is an
 //! object in JSON with the same values.
 
-use crate::moment::Moment;
 use cap_records::{RecordCode, RecordFault};
+use cmd_times::Moment;
 use its_words::frames::Explanation;
 use its_words::json_lines::Printed;
 use serde::Serialize;

@@ -3,10 +3,10 @@
 
 use crate::field::Field;
 use crate::frame_line::FrameLine;
-use crate::moment::{Clock, Moment};
-use crate::text::Text;
+use crate::text::{Text, next_moment};
 use cap_records::{RecordFault, RecordPlace, RecordVisitor};
 use cmd_reporting::Fault;
+use cmd_times::{Clock, Moment};
 use its_linkframe::FrameView;
 use std::alloc::{AllocError, Global};
 use std::fmt::Write as _;
@@ -26,7 +26,7 @@ impl Row<'_> {
     /// Adds the value of a key to a text, without quotation marks; nothing if the record has none.
     fn add_value_to(&self, field: Field, text: &mut Text) -> Result<(), AllocError> {
         match (field, &self.frame) {
-            (Field::Moment, _) => self.moment.add_to(text),
+            (Field::Moment, _) => text.moment(self.moment),
             (Field::Record, _) => text.number("", self.place.number),
             (Field::Interface, _) => text.number("", self.place.interface),
             (Field::Length, _) => text.number("", self.place.length),
@@ -68,7 +68,7 @@ impl Row<'_> {
 
     /// Whether the value of this key is a text in JSON.
     fn is_text(&self, field: Field) -> bool {
-        field.is_text() || (field == Field::Moment && matches!(self.moment, Moment::Utc(..)))
+        field.is_text() || (field == Field::Moment && self.moment.is_text())
     }
 }
 
@@ -213,7 +213,7 @@ impl RecordVisitor for Rows {
         frame: Result<FrameView<'_>, RecordFault>,
         out: &mut W,
     ) -> Result<(), Fault<'f>> {
-        let moment = self.clock.next(place);
+        let moment = next_moment(&mut self.clock, &place);
         self.print(place, moment, frame, out)
     }
 }

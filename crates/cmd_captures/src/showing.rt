@@ -2,21 +2,22 @@
 
 ghost use Rattle.std.specs.Prelude.{◌≡◌, IfErr, IfOk};
 ghost use Rattle.cmd_captures.specs.Faults.{show_fault_status};
-ghost use Rattle.cmd_captures.specs.declared.moment.Time.TheVariants as times;
+ghost use Rattle.cmd_times.specs.declared.moment.Time.TheVariants as times;
 ghost use Rattle.cmd_reporting.specs.Statuses.{IsCommandStatus};
 
 use crate::field::{FIELDS, FRAME_FIELDS, Field};
 use crate::frame_line::FrameLine;
-use crate::moment::{Clock, Time};
 use crate::output::Output;
 use crate::refused_lines::RefusedAt;
 use crate::rows::{RowForm, Rows};
+use crate::text::next_moment;
 use cap_records::{
     CaptureFile, RecordFault, RecordPlace, RecordVisitor, RefusedCapture, Selection, each_record,
     open_records,
 };
 use cmd_quoting::OneLine;
 use cmd_reporting::{CommandFault, Fault, Io, OutputFormat, Status, open};
+use cmd_times::{Clock, Time};
 use its_linkframe::{FrameView, Source};
 use std::alloc::{AllocError, Global};
 use std::io::{Read, Write};
@@ -93,7 +94,7 @@ impl RecordVisitor for AllRecords {
         frame: Result<FrameView<'_>, RecordFault>,
         out: &mut W,
     ) -> Result<(), Fault<'f>> {
-        let moment = self.clock.next(place);
+        let moment = next_moment(&mut self.clock, &place);
         if place.known.is_some()
             && let Some(rows) = &mut self.cut
         {
@@ -148,18 +149,18 @@ where
         IfErr result (λ fault. IsCommandStatus (show_fault_status fault)) }
 {
     let reader = open(rt, file, input)?;
-    let mut records = open_records(rt.alloc(), file, selection.format, reader)?;
+    let records = open_records(rt.alloc(), file, selection.format, reader)?;
     if showing.time == Time::Utc && records.is_capture() {
         return Err(ShowFault::NoEpoch(file));
     }
-    Ok(show_opened(rt.alloc(), file, &mut records, selection, showing, io)?)
+    Ok(show_opened(rt.alloc(), file, records, selection, showing, io)?)
 }
 
 /// The same of a file that is open.
 fn show_opened<'a, S: Source + Drop, W: Write, E: Write>(
     alloc: Global,
     file: &'a str,
-    records: &mut CaptureFile<S>,
+    records: CaptureFile<S>,
     selection: &Selection,
     showing: &Showing,
     io: &mut Io<W, E>,
@@ -183,7 +184,7 @@ fn show_opened<'a, S: Source + Drop, W: Write, E: Write>(
 fn show_lines<'a, S: Source + Drop, W: Write, E>(
     alloc: Global,
     file: &'a str,
-    records: &mut CaptureFile<S>,
+    records: CaptureFile<S>,
     selection: &Selection,
     clock: Clock,
     io: &mut Io<W, E>,
@@ -216,7 +217,7 @@ fn rows_of_cut(alloc: Global, clock: Clock) -> Result<Rows, AllocError> {
 fn show_objects<'a, S: Source + Drop, W: Write, E: Write>(
     alloc: Global,
     file: &'a str,
-    records: &mut CaptureFile<S>,
+    records: CaptureFile<S>,
     selection: &Selection,
     rows: Rows,
     io: &mut Io<W, E>,
@@ -234,7 +235,7 @@ fn show_objects<'a, S: Source + Drop, W: Write, E: Write>(
 fn show_rows<'a, S: Source + Drop, W: Write, E: Write>(
     alloc: Global,
     file: &'a str,
-    records: &mut CaptureFile<S>,
+    records: CaptureFile<S>,
     selection: &Selection,
     rows: Rows,
     io: &mut Io<W, E>,

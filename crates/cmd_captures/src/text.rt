@@ -1,8 +1,11 @@
 //! A line of text, put together in a buffer that serves the next line too.
 
+use cap_records::RecordPlace;
+use cmd_times::{Clock, Instant, Moment};
 use itoa::{Buffer, Integer};
 use std::alloc::{AllocError, Global};
 use std::fmt;
+use std::fmt::Write;
 
 /// How many octets there is room for from the beginning. No line of a frame is longer: its payload
 /// has 1394 octets at most, in two digits each.
@@ -56,6 +59,22 @@ impl Text {
             .resize(start.saturating_add(2 * octets.len()), 0)?;
         hex::encode_to_slice(octets, &mut self.octets[start..]).map_err(|_| AllocError)
     }
+}
+
+impl Text {
+    /// A time.
+    pub(crate) fn moment(&mut self, moment: Moment) -> Result<(), AllocError> {
+        match moment {
+            Moment::Raw(moment) => self.number("", moment),
+            _ => write!(self, "{moment}").map_err(|_| AllocError),
+        }
+    }
+}
+
+/// The time of the next record, as it is printed.
+pub(crate) fn next_moment(clock: &mut Clock, place: &RecordPlace) -> Moment {
+    let first = Instant::new(place.first, place.first_nanos);
+    clock.at(first, Instant::new(place.moment, place.nanos))
 }
 
 impl fmt::Write for Text {

@@ -2,7 +2,7 @@
 
 ghost use Rattle.std.specs.Prelude.{◌≤◌, length};
 
-use crate::date::{Date, days_in_month};
+use cmd_times::{Date, days_in_month};
 
 /// Returns the milliseconds since 1970 of a date and time of UTC (RFC 3339), for example
 /// `2023-11-14T22:13:20.123Z`. The year has 4 to 9 digits; the fraction may be missing and is cut to

@@ -1,9 +1,13 @@
--- One more step of a file after others.
-use Rattle.std.proofs.Common.{◌≡◌, ℕ, ◌+◌, List, [], ◌∷◌, ◌++◌, length, refl, sym, ap, subst, ◌∙◌}
-use Rattle.std.proofs.Common.{arith, inl, inr, length-append, ◌≤◌, true, false, true≢false}
-use Rattle.std.specs.Prelude.{Bool, Result, Ok, Err, IfOk, Option, None, Some}
+-- Further steps of a file after others.
+use Rattle.std.proofs.Common.{◌≡◌, ℕ, ◌+◌, ◌-◌, ◌^◌, List, [], ◌∷◌, ◌++◌, length, refl, sym, ap, subst, ◌∙◌}
+use Rattle.std.proofs.Common.{arith, inl, inr, ◌⊎◌, length-append, true}
+use Rattle.std.specs.Prelude.{Bool, Result, Ok, Err, Option, None, Some}
 use Rattle.std.proofs.lemmas.List.{append_assoc, append-nil}
+use Rattle.cap_records.specs.Pulls.{Given, IsNext, IsSkipped, Passes, Skips, records_in, records_of}
 use Rattle.cap_records.specs.declared.choosing.Choice.{Choice}
+use Rattle.cap_records.specs.declared.counts.RecordCounts.{RecordCounts}
+use Rattle.cap_records.specs.declared.records.Pulled.TheVariants as pulls
+use Rattle.cap_records.specs.declared.selection.Selection.{Selection}
 use Rattle.its_model.specs.Station.{StationModel}
 use Rattle.cap_pcap.specs.declared.fault.SourceFault.{SourceFault}
 use Rattle.cap_pcap.specs.declared.record.RecordHeader.{RecordHeader}
@@ -11,36 +15,29 @@ use Rattle.cap_pcap.specs.declared.record.Step.{Step}
 use Rattle.cap_pcap.specs.declared.record.Step.TheVariants as steps
 use Rattle.its_station.specs.State.{StationState, RepresentsStation}
 use Rattle.cmd_stats.specs.OnAir.{AnswersChoice, IsOnAir}
-use Rattle.cmd_stats.specs.Replays.{AreCounts, EndsFile, Given, IsGone, IsHeard, IsMet, IsReplayed}
-use Rattle.cmd_stats.specs.Replays.{IsReplayedWhole}
-use Rattle.cmd_stats.specs.Replays.{TellsStep}
-use Rattle.cmd_stats.specs.Replays.{TellsSteps, counts_after, fault_first, fault_in, fault_of_step}
-use Rattle.cmd_stats.specs.Replays.{is_end, records_in, records_of}
+use Rattle.cmd_stats.specs.Replays.{AreCounts, EndsFile, IsHeard, IsReplayed, IsReplayedWhole}
+use Rattle.cmd_stats.specs.Replays.{IsReplaying, ReadsAir, TellsStep, TellsSteps}
+use Rattle.cmd_stats.specs.Replays.{fault_first, fault_in, fault_of_step}
 use Rattle.cmd_stats.specs.declared.replay.heard.Heard.{Heard}
 use Rattle.cmd_stats.specs.declared.replay.on_air.OnAir.{OnAir}
-use Rattle.cmd_stats.specs.declared.replay.replaying.Gone.{Gone}
-use Rattle.cmd_stats.specs.declared.replay.replaying.Gone.TheVariants as gone
-use Rattle.cmd_stats.specs.declared.replay.replaying.Replayed.{Replayed}
 
-steps_last : {S : Type 0} (gives : S → S → List ℕ → Result Step SourceFault → Type 0)
+-- ---- what is told of steps
+
+-- some steps, and then others
+steps_more : {S : Type 0} (gives : S → S → List ℕ → Result Step SourceFault → Type 0)
     (choice : Choice) (signed : Bool) (file : S) (s : StationModel) (given : List Given)
-    (told : List Heard) (left : S) (end : StationModel) (one : Given) (new : List Heard) (then : S)
-    (next : StationModel)
+    (told : List Heard) (left : S) (end : StationModel) (others : List Given) (new : List Heard)
+    (then : S) (next : StationModel)
     → TellsSteps gives choice signed file s given told left end
-    → gives left then one.octets one.step
-    → TellsStep choice signed one.octets one.step end new next
-    → TellsSteps gives choice signed file s (given ++ one ∷ []) (told ++ new) then next
-steps_last gives choice signed file s [] told left end one new then next before gave tells = (
-  new,
-  [],
-  then,
-  next,
-  ap (λ l. l ++ new) before.0 ∙ sym (append-nil new),
-  subst (λ f. gives f then one.octets one.step) before.1 gave,
-  subst (λ (m : StationModel). TellsStep choice signed one.octets one.step m new next) before.2 tells,
-  (refl, refl, refl),
-)
-steps_last gives choice signed file s (g ∷ gs) told left end one new then next before gave tells =
+    → TellsSteps gives choice signed left end others new then next
+    → TellsSteps gives choice signed file s (given ++ others) (told ++ new) then next
+steps_more gives choice signed file s [] told left end others new then next before after =
+    let from = subst (λ f. TellsSteps gives choice signed f end others new then next) before.1 after in
+    let from = subst (λ (m : StationModel). TellsSteps gives choice signed file m others new then next)
+    before.2 from in
+    subst (λ (l : List Heard). TellsSteps gives choice signed file s others (l ++ new) then next)
+    (sym before.0) from
+steps_more gives choice signed file s (g ∷ gs) told left end others new then next before after =
     let (first, rest, mid, m, is, was, tell, more) = before in (
       first,
       rest ++ new,
@@ -49,253 +46,308 @@ steps_last gives choice signed file s (g ∷ gs) told left end one new then next
       ap (λ k. k ++ new) is ∙ append_assoc first rest new,
       was,
       tell,
-      steps_last gives choice signed mid m gs rest left end one new then next more gave tells,
+      steps_more gives choice signed mid m gs rest left end others new then next more after,
     )
 
-records_last : (given : List Given) (one : Given)
-    → records_in (given ++ one ∷ []) ≡ records_in given + records_of one.step
-records_last [] one = omega arith
-records_last (g ∷ gs) one = omega (arith, records_last gs one)
+-- one step
+steps_one : {S : Type 0} (gives : S → S → List ℕ → Result Step SourceFault → Type 0)
+    (choice : Choice) (signed : Bool) (file : S) (s : StationModel) (one : Given)
+    (new : List Heard) (then : S) (next : StationModel)
+    → gives file then one.octets one.step
+    → TellsStep choice signed one.octets one.step s new next
+    → TellsSteps gives choice signed file s (one ∷ []) new then next
+steps_one gives choice signed file s one new then next gave tells =
+    (new, [], then, next, sym (append-nil new), gave, tells, (refl, refl, refl))
 
-fault_alone : (fault : Option SourceFault) → fault_first fault None ≡ fault
-fault_alone None = refl
-fault_alone (Some fault) = refl
+-- nothing is told of a step that is skipped
+skipped_tells : (selection : Selection) (w : List ℕ) (step : Result Step SourceFault)
+    (after : List ℕ) (s : StationModel) → IsSkipped ReadsAir selection w step after
+    → TellsStep selection.choice selection.signed w step s [] s
+skipped_tells selection w (Ok (steps.Record head)) after s p =
+    inl (record { air = p.0; on_air = p.1; passed = p.2; told_is = refl; next_is = refl })
+skipped_tells selection w (Ok steps.Interface) after s p = absurd p
+skipped_tells selection w (Ok steps.Passed) after s p = (refl, refl)
+skipped_tells selection w (Ok steps.End) after s p = absurd p
+skipped_tells selection w (Err fault) after s p = absurd p
+
+passes_tell : {S : Type 0} (gives : S → S → List ℕ → Result Step SourceFault → Type 0)
+    (selection : Selection) (file : S) (s : StationModel) (skipped : List Given) (then : S)
+    → Passes gives ReadsAir selection file skipped then
+    → TellsSteps gives selection.choice selection.signed file s skipped [] then s
+passes_tell gives selection file s [] then p = (refl, p, refl)
+passes_tell gives selection file s (g ∷ gs) then p =
+    let (mid, after, gave, skips, more) = p in (
+      [],
+      [],
+      mid,
+      s,
+      refl,
+      gave,
+      skipped_tells selection g.octets g.step after s skips,
+      passes_tell gives selection mid s gs then more,
+    )
+
+-- ---- counts
+
+records_more : (given others : List Given)
+    → records_in (given ++ others) ≡ records_in given + records_in others
+records_more [] others = omega arith
+records_more (g ∷ gs) others = omega (arith, records_more gs others)
 
 fault_more : (a b c : Option SourceFault)
     → fault_first a (fault_first b c) ≡ fault_first (fault_first a b) c
 fault_more None b c = refl
 fault_more (Some a) b c = refl
 
-fault_last : (given : List Given) (one : Given)
-    → fault_in (given ++ one ∷ []) ≡ fault_first (fault_in given) (fault_of_step one.step)
-fault_last [] one = fault_alone (fault_of_step one.step)
-fault_last (g ∷ gs) one =
-    ap (fault_first (fault_of_step g.step)) (fault_last gs one)
-    ∙ fault_more (fault_of_step g.step) (fault_in gs) (fault_of_step one.step)
+faults_more : (given others : List Given)
+    → fault_in (given ++ others) ≡ fault_first (fault_in given) (fault_in others)
+faults_more [] others = refl
+faults_more (g ∷ gs) others =
+    ap (fault_first (fault_of_step g.step)) (faults_more gs others)
+    ∙ fault_more (fault_of_step g.step) (fault_in gs) (fault_in others)
 
--- the fault of the last call, where there was none before
-fault_new : (given : List Given) (one : Given) (before : Option SourceFault)
-    → before ≡ fault_in given → before ≡ None
-    → fault_in (given ++ one ∷ []) ≡ fault_of_step one.step
-fault_new given one before is none =
-    fault_last given one
-    ∙ ap (λ f. fault_first f (fault_of_step one.step)) (sym is ∙ none)
+fault_alone : (fault : Option SourceFault) → fault_first fault None ≡ fault
+fault_alone None = refl
+fault_alone (Some fault) = refl
 
-counts_last : (counts : Replayed) (given : List Given) (told : List Heard) (met : Gone)
-    (one : Given) (new : List Heard)
-    → AreCounts counts given told → counts.fault ≡ None → IsMet met one.step new
-    → AreCounts (counts_after counts met) (given ++ one ∷ []) (told ++ new)
-counts_last counts given told gone.Chosen one new are none is =
+no_fault : (selection : Selection) (w : List ℕ) (step : Result Step SourceFault)
+    (after : List ℕ) → IsSkipped ReadsAir selection w step after → fault_of_step step ≡ None
+no_fault selection w (Ok step) after p = refl
+no_fault selection w (Err fault) after p = absurd p
+
+no_faults : {S : Type 0} (gives : S → S → List ℕ → Result Step SourceFault → Type 0)
+    (selection : Selection) (file : S) (skipped : List Given) (then : S)
+    → Passes gives ReadsAir selection file skipped then → fault_in skipped ≡ None
+no_faults gives selection file [] then p = refl
+no_faults gives selection file (g ∷ gs) then p =
+    let (mid, after, gave, skips, more) = p in
+    ap (λ f. fault_first f (fault_in gs)) (no_fault selection g.octets g.step after skips)
+    ∙ no_faults gives selection mid gs then more
+
+-- what the counts of others, and the first fault, are after those of steps without a fault
+counts_more : (counts next : RecordCounts) (given others : List Given) (told new : List Heard)
+    (fault : Option SourceFault)
+    → AreCounts counts None given told → next.read ≡ counts.read + records_in others
+    → next.chosen ≡ counts.chosen + length new → fault_in others ≡ fault
+    → AreCounts next fault (given ++ others) (told ++ new)
+counts_more counts next given others told new fault are read chosen is =
     record {
-      read = omega (arith, are.read, records_last given one, is.0);
-      chosen = omega (arith, are.chosen, length-append told new, is.1);
-      fault = none ∙ sym (fault_new given one counts.fault are.fault none ∙ is.2);
-    }
-counts_last counts given told gone.Passed one new are none is =
-    record {
-      read = omega (arith, are.read, records_last given one, is.0);
-      chosen = omega (arith, are.chosen, length-append told new, is.1);
-      fault = none ∙ sym (fault_new given one counts.fault are.fault none ∙ is.2);
-    }
-counts_last counts given told gone.NoRecord one new are none is =
-    record {
-      read = omega (arith, are.read, records_last given one, is.0);
-      chosen = omega (arith, are.chosen, length-append told new, is.1);
-      fault = none ∙ sym (fault_new given one counts.fault are.fault none ∙ is.2);
-    }
-counts_last counts given told (gone.End fault) one new are none is =
-    record {
-      read = omega (arith, are.read, records_last given one, is.0);
-      chosen = omega (arith, are.chosen, length-append told new, is.1);
-      fault = sym (fault_new given one counts.fault are.fault none ∙ is.2);
+      read = omega (arith, are.read, records_more given others, read);
+      chosen = omega (arith, are.chosen, length-append told new, chosen);
+      fault_is = sym (faults_more given others
+          ∙ ap (λ f. fault_first f (fault_in others)) (sym are.fault_is) ∙ is);
     }
 
-pub replayed_none : {S : Type 0} (gives : S → S → List ℕ → Result Step SourceFault → Type 0)
-    (choice : Choice) (signed : Bool) (file : S) (s : StationModel) (station : StationState)
-    (Took : List Heard → Type 0)
+-- ---- a file
+
+-- no step yet
+pub replaying_none : {S : Type 0} (gives : S → S → List ℕ → Result Step SourceFault → Type 0)
+    (selection : Selection) (file : S) (s : StationModel) (station : StationState)
+    (Took : List Heard → Type 0) (counts : RecordCounts)
+    → (counts.read ≡ 0) × (counts.chosen ≡ 0) × (counts.left ≡ 2 ^ 64 - 1)
     → RepresentsStation station s → Took []
-    → IsReplayed gives choice signed file s file station
-    (record { read = 0; chosen = 0; fault = None }) Took
-replayed_none gives choice signed file s station Took rep took =
+    → IsReplaying gives selection file s file station counts Took
+replaying_none gives selection file s station Took counts are rep took = (
+  record {
+    given = [];
+    told = [];
+    end = s;
+    counted = record { read = are.0; chosen = are.1; fault_is = refl };
+    tells = (refl, refl, refl);
+    took = took;
+    stands = rep;
+  },
+  omega (arith, are.2),
+)
+
+-- further steps that were skipped
+pub replaying_skips : {S : Type 0} (gives : S → S → List ℕ → Result Step SourceFault → Type 0)
+    (selection : Selection) (file : S) (s : StationModel) (left : S) (station : StationState)
+    (counts : RecordCounts) (Took : List Heard → Type 0) (then : S) (next : RecordCounts)
+    → IsReplaying gives selection file s left station counts Took
+    → Skips gives ReadsAir selection left counts then next
+    → IsReplaying gives selection file s then station next Took
+replaying_skips gives selection file s left station counts Took then next (before, gone) skips = (
+  record {
+    given = before.given ++ skips.skipped;
+    told = before.told ++ [];
+    end = before.end;
+    counted = counts_more counts next before.given skips.skipped before.told [] None before.counted
+        skips.read (omega (arith, skips.chosen))
+        (no_faults gives selection left skips.skipped then skips.passes);
+    tells = steps_more gives selection.choice selection.signed file s before.given before.told left
+        before.end skips.skipped [] then before.end before.tells
+        (passes_tell gives selection left before.end skips.skipped then skips.passes);
+    took = subst Took (sym (append-nil before.told)) before.took;
+    stands = before.stands;
+  },
+  omega (arith, gone, length-append before.given skips.skipped, skips.left),
+)
+
+-- one more step
+replayed_more : {S : Type 0} (gives : S → S → List ℕ → Result Step SourceFault → Type 0)
+    (choice : Choice) (signed : Bool) (file : S) (s : StationModel) (left then : S)
+    (station : StationState) (later : StationState) (counts next : RecordCounts)
+    (fault : Option SourceFault) (Took Later : List Heard → Type 0) (one : Given)
+    (new : List Heard) (end : StationModel)
+    (before : IsReplayed gives choice signed file s left station counts None Took)
+    → gives left then one.octets one.step
+    → TellsStep choice signed one.octets one.step before.end new end
+    → next.read ≡ counts.read + records_of one.step → next.chosen ≡ counts.chosen + length new
+    → fault_of_step one.step ≡ fault → Later (before.told ++ new) → RepresentsStation later end
+    → IsReplayed gives choice signed file s then later next fault Later
+replayed_more gives choice signed file s left then station later counts next fault Took Later one new
+    end before gave tells read chosen is took stands =
     record {
-      given = [];
-      told = [];
-      end = s;
-      counted = record { read = refl; chosen = refl; fault = refl };
-      tells = (refl, refl, refl);
+      given = before.given ++ one ∷ [];
+      told = before.told ++ new;
+      end = end;
+      counted = counts_more counts next before.given (one ∷ []) before.told new fault before.counted
+          (omega (arith, read)) chosen (fault_alone (fault_of_step one.step) ∙ is);
+      tells = steps_more gives choice signed file s before.given before.told left before.end
+          (one ∷ []) new then end before.tells
+          (steps_one gives choice signed left before.end one new then end gave tells);
       took = took;
-      stands = rep;
+      stands = stands;
     }
 
--- the counts with which a file begins, and no call
-pub replayed_begun : {S : Type 0} (gives : S → S → List ℕ → Result Step SourceFault → Type 0)
-    (choice : Choice) (signed : Bool) (file : S) (s : StationModel) (station : StationState)
-    (Took : List Heard → Type 0) (counts : Replayed)
-    → counts ≡ record { read = 0; chosen = 0; fault = None }
-    → RepresentsStation station s → Took []
-    → (begun : IsReplayed gives choice signed file s file station counts Took)
-    × (length begun.given ≡ 0)
-unfolding replayed_none
-replayed_begun gives choice signed file s station Took counts is rep took =
-    subst (λ (r : Replayed). (begun : IsReplayed gives choice signed file s file station r Took)
-    × (length begun.given ≡ 0)) (sym is)
-    (replayed_none gives choice signed file s station Took rep took, refl)
-
-pub replayed_more : {S : Type 0} (gives : S → S → List ℕ → Result Step SourceFault → Type 0)
-    (choice : Choice) (signed : Bool) (file : S) (s : StationModel) (left then : S)
-    (station next : StationState) (counts : Replayed) (met : Gone)
-    (Took Later : List Heard → Type 0)
-    (before : IsReplayed gives choice signed file s left station counts Took)
-    → counts.fault ≡ None
-    → IsGone gives choice signed left before.end before.told then next met Later
-    → IsReplayed gives choice signed file s then next (counts_after counts met) Later
-replayed_more gives choice signed file s left then station next counts met Took Later before none
-    one =
-    record {
-      given = before.given ++ one.given ∷ [];
-      told = before.told ++ one.told;
-      end = one.next;
-      counted = counts_last counts before.given before.told met one.given one.told before.counted
-          none one.met_is;
-      tells = steps_last gives choice signed file s before.given before.told left before.end
-          one.given one.told then one.next before.tells one.gave one.tells;
-      took = one.took;
-      stands = one.stands;
-    }
-
--- the same of counts that are known to be those after the step, and with one call more
-pub counted_then : {S : Type 0} (gives : S → S → List ℕ → Result Step SourceFault → Type 0)
-    (choice : Choice) (signed : Bool) (file : S) (s : StationModel) (left then : S)
-    (station next : StationState) (counts : Replayed) (met : Gone) (result : Replayed)
-    (Took Later : List Heard → Type 0) (step : ℕ)
-    (before : IsReplayed gives choice signed file s left station counts Took)
-    → length before.given ≡ step
-    → result ≡ counts_after counts met → counts.fault ≡ None
-    → IsGone gives choice signed left before.end before.told then next met Later
-    → (after : IsReplayed gives choice signed file s then next result Later)
-    × (length after.given ≡ step + 1)
+-- one more step, which isn't the last
+replaying_more : {S : Type 0} (gives : S → S → List ℕ → Result Step SourceFault → Type 0)
+    (selection : Selection) (file : S) (s : StationModel) (left then : S)
+    (station later : StationState) (counts next : RecordCounts) (Took Later : List Heard → Type 0)
+    (one : Given) (new : List Heard) (end : StationModel)
+    (k : IsReplaying gives selection file s left station counts Took)
+    → gives left then one.octets one.step
+    → TellsStep selection.choice selection.signed one.octets one.step k.0.end new end
+    → next.read ≡ counts.read + records_of one.step → next.chosen ≡ counts.chosen + length new
+    → next.left + 1 ≡ counts.left → fault_of_step one.step ≡ None → Later (k.0.told ++ new)
+    → RepresentsStation later end
+    → IsReplaying gives selection file s then later next Later
 unfolding replayed_more
-counted_then gives choice signed file s left then station next counts met result Took Later step
-    before steps is none one =
-    subst (λ (r : Replayed). (after : IsReplayed gives choice signed file s then next r Later)
-    × (length after.given ≡ step + 1)) (sym is) (
-      replayed_more gives choice signed file s left then station next counts met Took Later before
-          none one,
-      omega (arith, length-append before.given (one.given ∷ []), steps),
+replaying_more gives selection file s left then station later counts next Took Later one new end k
+    gave tells read chosen fewer is took stands = (
+      replayed_more gives selection.choice selection.signed file s left then station later counts next
+          None Took Later one new end k.0 gave tells read chosen is took stands,
+      omega (arith, k.1, length-append k.0.given (one ∷ []), fewer),
     )
 
--- the last step found the end of the file, or its fault
-ends_by : (count : Option ℕ) (counts : Replayed) (before : List Given) (one : Given) (met : Gone)
-    (told : List Heard) → is_end met ≡ true → IsMet met one.step told
-    → EndsFile count (counts_after counts met) (before ++ one ∷ [])
-ends_by count counts before one gone.Chosen told is met = absurd (true≢false (sym is))
-ends_by count counts before one gone.Passed told is met = absurd (true≢false (sym is))
-ends_by count counts before one gone.NoRecord told is met = absurd (true≢false (sym is))
-ends_by count counts before one (gone.End None) told is met =
-    inr (inl (before, one, refl, met.3))
-ends_by count counts before one (gone.End (Some fault)) told is met = inl refl
+-- a record that comes next, and is heard
+pub replaying_chosen : {S : Type 0} (gives : S → S → List ℕ → Result Step SourceFault → Type 0)
+    (selection : Selection) (file : S) (s : StationModel) (left then : S)
+    (station later : StationState) (counts next : RecordCounts) (Took Later : List Heard → Type 0)
+    (after : List ℕ) (head : RecordHeader) (air : OnAir)
+    → IsReplaying gives selection file s left station counts Took
+    → IsNext gives ReadsAir selection left counts then after next (pulls.Chosen head air)
+    → ((end : StationModel) (log : List Heard) → RepresentsStation station end → Took log
+    → IsHeard air head.moment end log later Later)
+    → IsReplaying gives selection file s then later next Later
+replaying_chosen gives selection file s left then station later counts next Took Later after head air
+    before comes hears =
+    let k = replaying_skips gives selection file s left station counts Took comes.mid comes.between
+    before comes.skips in
+    let heard = hears k.0.end k.0.told k.0.stands k.0.took in
+    elim comes.ends [
+      | inl one ↦
+          let (is, reads) = one.meets in
+          let tells : TellsStep selection.choice selection.signed one.given.octets
+          (Ok (steps.Record head)) k.0.end (heard.heard ∷ []) heard.next = inr (record {
+            air = air;
+            on_air = reads.0;
+            chosen = reads.1;
+            heard = heard.heard;
+            told_is = refl;
+            told_of = heard.told;
+            received = heard.received;
+          }) in
+          replaying_more gives selection file s comes.mid then station later comes.between next Took
+          Later one.given (heard.heard ∷ []) heard.next k one.gave
+          (subst (λ (step : Result Step SourceFault). TellsStep selection.choice selection.signed
+          one.given.octets step k.0.end (heard.heard ∷ []) heard.next) (sym is) tells)
+          one.read one.chosen one.left (ap fault_of_step is) heard.took heard.stands
+      | inr stopped ↦ absurd stopped.none
+    ]
 
--- the file was read to its end, or to its fault
-pub whole_then : {S : Type 0} (gives : S → S → List ℕ → Result Step SourceFault → Type 0)
-    (choice : Choice) (count : Option ℕ) (signed : Bool) (file : S) (s : StationModel)
-    (left then : S) (station next : StationState) (counts : Replayed) (met : Gone)
-    (result : Replayed) (Took Later : List Heard → Type 0)
-    (before : IsReplayed gives choice signed file s left station counts Took)
-    → result ≡ counts_after counts met → counts.fault ≡ None → is_end met ≡ true
-    → IsGone gives choice signed left before.end before.told then next met Later
-    → IsReplayedWhole gives choice count signed file s then next result Later
+-- the start of an interface that comes next
+pub replaying_interface : {S : Type 0} (gives : S → S → List ℕ → Result Step SourceFault → Type 0)
+    (selection : Selection) (file : S) (s : StationModel) (left then : S)
+    (station : StationState) (counts next : RecordCounts) (Took : List Heard → Type 0)
+    (after : List ℕ)
+    → IsReplaying gives selection file s left station counts Took
+    → IsNext gives ReadsAir selection left counts then after next pulls.Interface
+    → IsReplaying gives selection file s then station next Took
+replaying_interface gives selection file s left then station counts next Took after before comes =
+    let k = replaying_skips gives selection file s left station counts Took comes.mid comes.between
+    before comes.skips in
+    elim comes.ends [
+      | inl one ↦ replaying_more gives selection file s comes.mid then station station comes.between
+          next Took Took one.given [] k.0.end k one.gave
+          (subst (λ (step : Result Step SourceFault). TellsStep selection.choice selection.signed
+          one.given.octets step k.0.end [] k.0.end) (sym one.meets) (refl, refl))
+          one.read one.chosen one.left (ap fault_of_step one.meets)
+          (subst Took (sym (append-nil k.0.told)) k.0.took) k.0.stands
+      | inr stopped ↦ absurd stopped.none
+    ]
+
+-- no step is made: as many records are chosen as are wanted, or no step is left
+replayed_stopped : {S : Type 0} (gives : S → S → List ℕ → Result Step SourceFault → Type 0)
+    (selection : Selection) (file : S) (s : StationModel) (left : S) (station : StationState)
+    (counts : RecordCounts) (Took : List Heard → Type 0)
+    → IsReplaying gives selection file s left station counts Took
+    → (selection.count ≡ Some counts.chosen) ⊎ (counts.left ≡ 0)
+    → IsReplayedWhole gives selection.choice selection.count selection.signed file s station counts
+    None Took
+replayed_stopped gives selection file s left station counts Took k why =
+    record {
+      left = left;
+      replayed = k.0;
+      ended = elim why [
+        | inl full ↦ inr (inr (inl full))
+        | inr none ↦ inr (inr (inr (omega (arith, k.1, none))))
+      ];
+    }
+
+-- the end that comes next, or the fault of the file
+pub replayed_end : {S : Type 0} (gives : S → S → List ℕ → Result Step SourceFault → Type 0)
+    (selection : Selection) (file : S) (s : StationModel) (left then : S)
+    (station : StationState) (counts next : RecordCounts) (Took : List Heard → Type 0)
+    (after : List ℕ) (fault : Option SourceFault)
+    → IsReplaying gives selection file s left station counts Took
+    → IsNext gives ReadsAir selection left counts then after next (pulls.End fault)
+    → IsReplayedWhole gives selection.choice selection.count selection.signed file s station next
+    fault Took
 unfolding replayed_more
-whole_then gives choice count signed file s left then station next counts met result Took Later
-    before is none ends one =
-    subst (λ (r : Replayed). IsReplayedWhole gives choice count signed file s then next r Later)
-    (sym is) (record {
-      replayed = replayed_more gives choice signed file s left then station next counts met Took
-          Later before none one;
-      ended = ends_by count counts before.given one.given met one.told ends one.met_is;
-    })
-
--- a step that isn't the last leaves the fault as it is
-pub fault_stays : (counts : Replayed) (met : Gone) → counts.fault ≡ None → is_end met ≡ false
-    → (counts_after counts met).fault ≡ None
-fault_stays counts gone.Chosen none not = none
-fault_stays counts gone.Passed none not = none
-fault_stays counts gone.NoRecord none not = none
-fault_stays counts (gone.End fault) none not = absurd (true≢false not)
-
--- no more records are read than steps are gone, and no more of them chosen
-pub read_grows : (counts : Replayed) (met : Gone) (step : ℕ) → counts.read ≤ step
-    → (counts_after counts met).read ≤ step + 1
-read_grows counts gone.Chosen step le = omega arith
-read_grows counts gone.Passed step le = omega arith
-read_grows counts gone.NoRecord step le = omega arith
-read_grows counts (gone.End fault) step le = omega arith
-
-pub chosen_grows : (counts : Replayed) (met : Gone) → counts.chosen ≤ counts.read
-    → (counts_after counts met).chosen ≤ (counts_after counts met).read
-chosen_grows counts gone.Chosen le = omega arith
-chosen_grows counts gone.Passed le = omega arith
-chosen_grows counts gone.NoRecord le = le
-chosen_grows counts (gone.End fault) le = le
-
--- a record that isn't chosen
-pub heard_none : (choice : Choice) (signed : Bool) (head : RecordHeader) (w : List ℕ) (s : StationModel)
-    (log : List Heard) (station : StationState) (Took : List Heard → Type 0) (air : OnAir)
-    → IsOnAir signed head w air → AnswersChoice air choice head.moment false
-    → RepresentsStation station s → Took log
-    → IsHeard choice signed head w s log station gone.Passed Took
-heard_none choice signed head w s log station Took air on passed rep took =
-    record {
-      told = [];
-      next = s;
-      met_is = (refl, refl, refl);
-      tells = inl (record {
-        air = air;
-        on_air = on;
-        passed = passed;
-        told_is = refl;
-        next_is = refl;
-      });
-      took = subst Took (sym (append-nil log)) took;
-      stands = rep;
-    }
-
--- a step that gave a record
-pub gone_record : {S E : Type 0} (gives : S → S → List ℕ → Result Step SourceFault → Type 0)
-    (choice : Choice) (signed : Bool) (file : S) (s : StationModel) (log : List Heard) (left : S)
-    (station : StationState) (result : Result Gone E) (Took : List Heard → Type 0) (head : RecordHeader)
-    (w : List ℕ)
-    → gives file left w (Ok (steps.Record head))
-    → IfOk result (λ met. IsHeard choice signed head w s log station met Took)
-    → IfOk result (λ met. IsGone gives choice signed file s log left station met Took)
-gone_record gives choice signed file s log left station (Err e) Took head w gave heard = tt
-gone_record gives choice signed file s log left station (Ok met) Took head w gave heard =
-    record {
-      given = record { octets = w; step = Ok (steps.Record head) };
-      told = heard.told;
-      next = heard.next;
-      met_is = heard.met_is;
-      gave = gave;
-      tells = heard.tells;
-      took = heard.took;
-      stands = heard.stands;
-    }
-
--- a step of which nothing is told
-pub gone_none : {S : Type 0} (gives : S → S → List ℕ → Result Step SourceFault → Type 0)
-    (choice : Choice) (signed : Bool) (file : S) (s : StationModel) (log : List Heard) (left : S)
-    (station : StationState) (met : Gone) (Took : List Heard → Type 0) (w : List ℕ)
-    (step : Result Step SourceFault)
-    → gives file left w step → IsMet met step [] → TellsStep choice signed w step s [] s
-    → RepresentsStation station s → Took log
-    → IsGone gives choice signed file s log left station met Took
-gone_none gives choice signed file s log left station met Took w step gave is tells rep took =
-    record {
-      given = record { octets = w; step = step };
-      told = [];
-      next = s;
-      met_is = is;
-      gave = gave;
-      tells = tells;
-      took = subst Took (sym (append-nil log)) took;
-      stands = rep;
-    }
+replayed_end gives selection file s left then station counts next Took after None before comes =
+    let k = replaying_skips gives selection file s left station counts Took comes.mid comes.between
+    before comes.skips in
+    elim comes.ends [
+      | inl one ↦ record {
+        left = then;
+        replayed = replayed_more gives selection.choice selection.signed file s comes.mid then station
+            station comes.between next None Took Took one.given [] k.0.end k.0 one.gave
+            (subst (λ (step : Result Step SourceFault). TellsStep selection.choice selection.signed
+            one.given.octets step k.0.end [] k.0.end) (sym one.meets) (refl, refl))
+            one.read one.chosen (ap fault_of_step one.meets)
+            (subst Took (sym (append-nil k.0.told)) k.0.took) k.0.stands;
+        ended = inr (inl (k.0.given, one.given, refl, one.meets));
+      }
+      | inr stopped ↦ subst
+          (λ (c : RecordCounts). IsReplayedWhole gives selection.choice selection.count
+          selection.signed file s station c None Took) (sym stopped.next_is)
+          (replayed_stopped gives selection file s comes.mid station comes.between Took k stopped.why)
+    ]
+replayed_end gives selection file s left then station counts next Took after (Some fault) before comes =
+    let k = replaying_skips gives selection file s left station counts Took comes.mid comes.between
+    before comes.skips in
+    elim comes.ends [
+      | inl one ↦ record {
+        left = then;
+        replayed = replayed_more gives selection.choice selection.signed file s comes.mid then station
+            station comes.between next (Some fault) Took Took one.given [] k.0.end k.0 one.gave
+            (subst (λ (step : Result Step SourceFault). TellsStep selection.choice selection.signed
+            one.given.octets step k.0.end [] k.0.end) (sym one.meets) (refl, refl))
+            one.read one.chosen (ap fault_of_step one.meets)
+            (subst Took (sym (append-nil k.0.told)) k.0.took) k.0.stands;
+        ended = inl refl;
+      }
+      | inr stopped ↦ absurd stopped.none
+    ]

@@ -1,7 +1,10 @@
 -- The records of a file, received by the station of the model one after the other.
 use Rattle.std.specs.Prelude.{◌≡◌, ℕ, ◌+◌, ◌-◌, ◌^◌, ◌⊎◌, ◌++◌, ◌∷◌, [], List, length, Result}
 use Rattle.std.specs.Prelude.{Ok, Err, Option, Some, None, IsSome, Bool, true, false}
+use Rattle.cap_records.specs.Pulls.{Given, records_in}
 use Rattle.cap_records.specs.declared.choosing.Choice.{Choice}
+use Rattle.cap_records.specs.declared.counts.RecordCounts.{RecordCounts}
+use Rattle.cap_records.specs.declared.selection.Selection.{Selection}
 use Rattle.its_model.specs.Calls as model
 use Rattle.its_model.specs.Station.{StationModel, station_step}
 use Rattle.cap_pcap.specs.declared.fault.SourceFault.{SourceFault}
@@ -17,9 +20,6 @@ use Rattle.cmd_stats.specs.declared.replay.heard.Heard.TheVariants as heards
 use Rattle.cmd_stats.specs.declared.replay.on_air.OnAir.{OnAir}
 use Rattle.cmd_stats.specs.declared.replay.on_air.OnAir.TheVariants as airs
 use Rattle.cmd_stats.specs.declared.replay.secured_octets.SecuredOctets.{SecuredOctets}
-use Rattle.cmd_stats.specs.declared.replay.replaying.Gone.{Gone}
-use Rattle.cmd_stats.specs.declared.replay.replaying.Gone.TheVariants as gone
-use Rattle.cmd_stats.specs.declared.replay.replaying.Replayed.{Replayed}
 
 -- The station receives these octets at the moment: the reply is the answer of that very step of the
 -- model, and the station is the one after it.
@@ -95,11 +95,6 @@ TellsStep choice signed w (Ok steps.Passed) s told next = (told ≡ []) × (next
 TellsStep choice signed w (Ok steps.End) s told next = (told ≡ []) × (next ≡ s)
 TellsStep choice signed w (Err fault) s told next = (told ≡ []) × (next ≡ s)
 
--- what one call for the next record gave
-pub record Given : Type 0 where
-  pub octets : List ℕ
-  pub step : Result Step SourceFault
-
 -- The file gave these, one after the other, and was left so: what was told of them, and the station
 -- afterwards.
 abbrev pub TellsSteps : {S : Type 0} → (S → S → List ℕ → Result Step SourceFault → Type 0)
@@ -111,22 +106,10 @@ TellsSteps {S} gives choice signed file s (given ∷ more) told left end =
     × TellsStep choice signed given.octets given.step s first next
     × TellsSteps gives choice signed then next more rest left end
 
--- how many records one call gave, and why it gave none
-abbrev pub records_of : Result Step SourceFault → ℕ
-records_of (Ok (steps.Record head)) = 1
-records_of (Ok steps.Interface) = 0
-records_of (Ok steps.Passed) = 0
-records_of (Ok steps.End) = 0
-records_of (Err fault) = 0
-
+-- why one call gave no step, and the first such fault of many
 abbrev pub fault_of_step : Result Step SourceFault → Option SourceFault
 fault_of_step (Ok step) = None
 fault_of_step (Err fault) = Some fault
-
--- how many records the calls gave, and the first fault
-abbrev pub records_in : List Given → ℕ
-records_in [] = 0
-records_in (given ∷ more) = records_of given.step + records_in more
 
 abbrev pub fault_first : Option SourceFault → Option SourceFault → Option SourceFault
 fault_first (Some fault) later = Some fault
@@ -136,22 +119,24 @@ abbrev pub fault_in : List Given → Option SourceFault
 fault_in [] = None
 fault_in (given ∷ more) = fault_first (fault_of_step given.step) (fault_in more)
 
--- The counts are those of these calls, and of what was told of them.
-pub record AreCounts (counts : Replayed) (given : List Given) (told : List Heard) : Type 0 where
+-- The counts and the fault are those of these calls, and of what was told of them.
+pub record AreCounts (counts : RecordCounts) (fault : Option SourceFault) (given : List Given)
+    (told : List Heard) : Type 0 where
   pub read : counts.read ≡ records_in given
   pub chosen : counts.chosen ≡ length told
-  pub fault : counts.fault ≡ fault_in given
+  pub fault_is : fault ≡ fault_in given
 
 -- A station that was this one has received the records that a file gave, those that are chosen, in
 -- their order and each at its moment: what was told of them was taken, and it represents the station
 -- of the model after these very receptions.
 pub record IsReplayed {S : Type 0} (gives : S → S → List ℕ → Result Step SourceFault → Type 0)
     (choice : Choice) (signed : Bool) (file : S) (s : StationModel) (left : S)
-    (station : StationState) (counts : Replayed) (Took : List Heard → Type 0) : Type 0 where
+    (station : StationState) (counts : RecordCounts) (fault : Option SourceFault)
+    (Took : List Heard → Type 0) : Type 0 where
   pub given : List Given
   pub told : List Heard
   pub end : StationModel
-  pub counted : AreCounts counts given told
+  pub counted : AreCounts counts fault given told
   pub tells : TellsSteps gives choice signed file s given told left end
   pub took : Took told
   pub stands : RepresentsStation station end
@@ -163,74 +148,45 @@ IsAtEnd given = (before : List Given) × (last : Given) × (given ≡ before ++ 
 
 -- Why nothing further was read: the file has a fault or ended, or as many records are chosen as are
 -- wanted. No file has so many steps as the last case says.
-abbrev pub EndsFile : Option ℕ → Replayed → List Given → Type 0
-EndsFile count counts given =
-    IsSome counts.fault ⊎ IsAtEnd given ⊎ (count ≡ Some counts.chosen)
-    ⊎ (length given ≡ 2 ^ 64 - 1)
+abbrev pub EndsFile : Option ℕ → RecordCounts → Option SourceFault → List Given → Type 0
+EndsFile count counts fault given =
+    IsSome fault ⊎ IsAtEnd given ⊎ (count ≡ Some counts.chosen) ⊎ (length given ≡ 2 ^ 64 - 1)
 
 -- The same, and the file was read to its end, to its fault, or to as many chosen records as are
--- wanted.
+-- wanted: so it was left.
 pub record IsReplayedWhole {S : Type 0} (gives : S → S → List ℕ → Result Step SourceFault → Type 0)
-    (choice : Choice) (count : Option ℕ) (signed : Bool) (file : S) (s : StationModel) (left : S)
-    (station : StationState) (counts : Replayed) (Took : List Heard → Type 0) : Type 0 where
-  pub replayed : IsReplayed gives choice signed file s left station counts Took
-  pub ended : EndsFile count counts replayed.given
+    (choice : Choice) (count : Option ℕ) (signed : Bool) (file : S) (s : StationModel)
+    (station : StationState) (counts : RecordCounts) (fault : Option SourceFault)
+    (Took : List Heard → Type 0) : Type 0 where
+  pub left : S
+  pub replayed : IsReplayed gives choice signed file s left station counts fault Took
+  pub ended : EndsFile count counts fault replayed.given
 
 -- ---- words of private functions
 
--- what the end is: the file's own, where it has no fault
-abbrev pub IsEndOf : Option SourceFault → Result Step SourceFault → Type 0
-IsEndOf None step = step ≡ Ok steps.End
-IsEndOf (Some fault) step = step ≡ Err fault
+-- What is read of a record for a station: what there is of it to hear, if it is chosen by that.
+abbrev pub ReadsAir : Selection → RecordHeader → List ℕ → List ℕ → Option OnAir → Type 0
+ReadsAir selection head w after (Some air) =
+    IsOnAir selection.signed head w air × AnswersChoice air selection.choice head.moment true
+ReadsAir selection head w after None =
+    (air : OnAir) × IsOnAir selection.signed head w air
+    × AnswersChoice air selection.choice head.moment false
 
--- what a step met is of what the call gave and of what was told of it
-abbrev pub IsMet : Gone → Result Step SourceFault → List Heard → Type 0
-IsMet gone.Chosen step told =
-    (records_of step ≡ 1) × (length told ≡ 1) × (fault_of_step step ≡ None)
-IsMet gone.Passed step told =
-    (records_of step ≡ 1) × (length told ≡ 0) × (fault_of_step step ≡ None)
-IsMet gone.NoRecord step told =
-    (records_of step ≡ 0) × (length told ≡ 0) × (fault_of_step step ≡ None)
-IsMet (gone.End fault) step told =
-    (records_of step ≡ 0) × (length told ≡ 0) × (fault_of_step step ≡ fault)
-    × IsEndOf fault step
+-- The steps so far, none of which was the last, with so many steps left.
+abbrev pub IsReplaying : {S : Type 0} → (S → S → List ℕ → Result Step SourceFault → Type 0)
+    → Selection → S → StationModel → S → StationState → RecordCounts → (List Heard → Type 0) → Type 0
+IsReplaying gives selection file s left station counts Took =
+    (r : IsReplayed gives selection.choice selection.signed file s left station counts None Took)
+    × (counts.left + length r.given ≡ 2 ^ 64 - 1)
 
--- whether no further step follows
-abbrev pub is_end : Gone → Bool
-is_end gone.Chosen = false
-is_end gone.Passed = false
-is_end gone.NoRecord = false
-is_end (gone.End fault) = true
-
--- the counts after one more step
-abbrev pub counts_after : Replayed → Gone → Replayed
-counts_after r gone.Chosen =
-    record { read = r.read + 1; chosen = r.chosen + 1; fault = r.fault }
-counts_after r gone.Passed = record { read = r.read + 1; chosen = r.chosen; fault = r.fault }
-counts_after r gone.NoRecord = r
-counts_after r (gone.End fault) = record { read = r.read; chosen = r.chosen; fault = fault }
-
--- one step of the file, after others of which this was told
-pub record IsGone {S : Type 0} (gives : S → S → List ℕ → Result Step SourceFault → Type 0)
-    (choice : Choice) (signed : Bool) (file : S) (s : StationModel) (log : List Heard) (left : S)
-    (station : StationState) (met : Gone) (Took : List Heard → Type 0) : Type 0 where
-  pub given : Given
-  pub told : List Heard
+-- what was on the air was received at the moment, and taken after what is in the log
+pub record IsHeard (air : OnAir) (moment : ℕ) (s : StationModel) (log : List Heard)
+    (station : StationState) (Took : List Heard → Type 0) : Type 0 where
+  pub heard : Heard
+  pub told : IsTold air heard
   pub next : StationModel
-  pub met_is : IsMet met given.step told
-  pub gave : gives file left given.octets given.step
-  pub tells : TellsStep choice signed given.octets given.step s told next
-  pub took : Took (log ++ told)
-  pub stands : RepresentsStation station next
-
--- the same of a record
-pub record IsHeard (choice : Choice) (signed : Bool) (head : RecordHeader) (w : List ℕ) (s : StationModel)
-    (log : List Heard) (station : StationState) (met : Gone) (Took : List Heard → Type 0) : Type 0 where
-  pub told : List Heard
-  pub next : StationModel
-  pub met_is : IsMet met (Ok (steps.Record head)) told
-  pub tells : TellsRecord choice signed head w s told next
-  pub took : Took (log ++ told)
+  pub received : TellsAir air s moment heard next
+  pub took : Took (log ++ heard ∷ [])
   pub stands : RepresentsStation station next
 
 -- these octets were received at the moment

@@ -123,15 +123,8 @@ where
     let alloc = rt.alloc();
     let reader = open(rt, file, input)?;
     let mut counts = Counts::new(alloc);
-    let mut records = open_records(alloc, file, selection.format, reader)?;
-    let walked = each_record(
-        alloc,
-        file,
-        selection,
-        &mut records,
-        &mut counts,
-        &mut io.out,
-    )?;
+    let records = open_records(alloc, file, selection.format, reader)?;
+    let walked = each_record(alloc, file, selection, records, &mut counts, &mut io.out)?;
     let counted = Counted {
         counts: &counts,
         walked: &walked,

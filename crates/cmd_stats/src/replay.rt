@@ -13,5 +13,5 @@ mod unit;
 
 pub use command::{ReplayOptions, replay_file};
 pub use heard::{Heard, HeardSink};
-pub use replaying::{Replayed, replay_records};
+pub use replaying::replay_records;
 pub use unit::{PortList, Unit};

@@ -107,15 +107,14 @@ fn replay_lines<'a, R: Read + Drop, F: Write + Drop, W: Write, E: Write>(
     ensures { IfOk result IsCommandStatus }
 {
     let (file, selection) = (replay.file, &replay.selection);
-    let CaptureFile::Source(mut source) = open_records(alloc, file, selection.format, reader)?
-    else {
+    let CaptureFile::Source(source) = open_records(alloc, file, selection.format, reader)? else {
         return printer.refuse(FileFault::gzip(), 0);
     };
     let mut station = replay.unit.begin(alloc)?;
-    let replayed = replay_records(alloc, &mut station, selection, &mut source, printer)?;
-    let Some(fault) = replayed.fault else {
+    let (counts, fault) = replay_records(alloc, &mut station, selection, source, printer)?;
+    let Some(fault) = fault else {
         return Ok(Status::Done);
     };
-    let fault = FileFault::of(fault, file, replayed.read, selection.format)?;
-    printer.refuse(fault, replayed.read)
+    let fault = FileFault::of(fault, file, counts.read, selection.format)?;
+    printer.refuse(fault, counts.read)
 }

@@ -1,88 +1,48 @@
 //! The records of a file, each received by the station at its moment.
 
-ghost use Rattle.std.specs.Prelude.{◌≡◌, ◌<◌, ◌-◌, ◌^◌, [], IfOk, List, None};
+ghost use Rattle.std.specs.Prelude.{◌≡◌, [], IfOk, List};
 ghost use Rattle.its_model.specs.Station.{StationModel};
 ghost use Rattle.its_station.specs.State.{RepresentsStation};
 ghost use Rattle.cmd_stats.specs.declared.replay.heard.Heard.{Heard as ToldRecord};
-ghost use Rattle.cmd_stats.specs.Replays.{IsReplayedWhole, IsGone, IsHeard, TellsOctets};
+ghost use Rattle.cmd_stats.specs.Replays.{IsReplayedWhole, IsHeard, TellsOctets};
 ghost use Rattle.cmd_stats.specs.Replays.{TellsOnAir};
-ghost use Rattle.cmd_stats.specs.Replays.{counts_after, is_end};
 
 use crate::replay::air_octets::AirOctets;
 use crate::replay::heard::{Heard, HeardSink};
 use crate::replay::on_air::OnAir;
-use cap_pcap::{LONGEST_RECORD, RecordHeader, RecordSource, SourceFault, Step};
-use cap_records::Selection;
+use cap_pcap::{LONGEST_RECORD, RecordHeader, RecordSource, SourceFault};
+use cap_records::{Pulled, RecordCounts, RecordReader, Records, Selection};
 use cmd_reporting::Fault;
 use its_gnvalue::NoMemory;
 use its_loctable::SortedTable;
 use its_station::Station;
-use std::alloc::Global;
+use std::alloc::{AllocError, Global};
 
-/// How far a file was replayed.
-#[derive(Clone, Copy, Debug, PartialEq, Eq)]
-pub struct Replayed {
-    /// How many records were read.
-    pub read: u64,
-    /// How many of them were chosen.
-    pub chosen: u64,
-    /// Why no further one was, where the file is at fault.
-    pub fault: Option<SourceFault>,
+/// Reads what there is of a record for a station to hear.
+#[derive(Drop)]
+struct AirReader {
+    alloc: Global,
 }
 
-impl Replayed {
-    /// Nothing yet.
-    fn begin() -> Replayed
-        ensures { result ≡ record { read = 0; chosen = 0; fault = None } }
-    {
-        Replayed {
-            read: 0,
-            chosen: 0,
-            fault: None,
+impl RecordReader for AirReader {
+    ghost use Rattle.cmd_stats.specs.Replays.{ReadsAir};
+
+    type Record = OnAir;
+
+    ghost Reads = { ReadsAir };
+
+    fn read(
+        &mut self,
+        selection: &Selection,
+        head: &RecordHeader,
+        octets: &mut Vec<u8>,
+    ) -> Result<Option<OnAir>, AllocError> {
+        let on_air = OnAir::of(self.alloc, head, octets, selection.signed)?;
+        if on_air.is_chosen(&selection.choice, head.moment) {
+            Ok(Some(on_air))
+        } else {
+            Ok(None)
         }
-    }
-
-    /// The same after one more step.
-    fn after(self, met: Gone) -> Replayed
-        requires read { self.read < 2 ^ 64 - 1 }
-        requires chosen { self.chosen < 2 ^ 64 - 1 }
-        ensures { result ≡ counts_after self met }
-    {
-        match met {
-            Gone::Chosen => Replayed {
-                read: self.read + 1,
-                chosen: self.chosen + 1,
-                fault: self.fault,
-            },
-            Gone::Passed => Replayed {
-                read: self.read + 1,
-                ..self
-            },
-            Gone::NoRecord => self,
-            Gone::End(fault) => Replayed { fault, ..self },
-        }
-    }
-}
-
-/// What a step over the file met.
-#[derive(Clone, Copy, Debug, PartialEq, Eq)]
-enum Gone {
-    /// A record that is chosen.
-    Chosen,
-    /// A record that isn't.
-    Passed,
-    /// A part of the file that has no record.
-    NoRecord,
-    /// Its end, or its fault.
-    End(Option<SourceFault>),
-}
-
-impl Gone {
-    /// Whether there is no further step.
-    fn is_end(self) -> bool
-        ensures { result ≡ is_end self }
-    {
-        matches!(self, Gone::End(_))
     }
 }
 
@@ -90,7 +50,8 @@ impl Gone {
 /// gives the octets of each chosen one to the station, at the record's moment: each is a call of
 /// `Station::receive`, or of `Station::receive_verified` for a secured frame, if the selection reads
 /// these by their plain part. The outcome is passed to the sink before the next record is read. The
-/// station represents that of the model after these calls.
+/// station represents that of the model after these calls. Returns how many records were read, and
+/// the fault of the file if it has one.
 ///
 /// `OutOfMemory` where an allocation failed, and what the sink answers: then nothing further is
 /// read.
@@ -100,77 +61,43 @@ impl Gone {
 ///   reported as one without a frame. What is reported is that step's answer, once and in order.
 ///   The file is read to its end, to its fault, or to as many selected records as are wanted. The
 ///   station is one of the model throughout.
-pub fn replay_records<'f, S: RecordSource, K: HeardSink>(
+pub fn replay_records<'f, S: RecordSource + Drop, K: HeardSink>(
     alloc: Global,
     station: &mut Station<SortedTable>,
     selection: &Selection,
-    source: &mut S,
+    source: S,
     sink: &mut K,
-) -> Result<Replayed, Fault<'f>>
+) -> Result<(RecordCounts, Option<SourceFault>), Fault<'f>>
     ensures { (s : StationModel) → RepresentsStation station.old s → K.Took sink.old [] →
-        IfOk result (λ counts. IsReplayedWhole S.GivesStep selection.now.choice
-        selection.now.count selection.now.signed source.old s source.new station.new counts
+        IfOk result (λ ended. IsReplayedWhole S.GivesStep selection.now.choice
+        selection.now.count selection.now.signed source s station.new ended.0 ended.1
         (K.Took sink.new)) }
 {
-    let mut octets = Vec::with_capacity(alloc, LONGEST_RECORD)?;
-    let mut replayed = Replayed::begin();
-    // The range is there so that the walk ends on any source. No file reaches its end: a step has
-    // 11 octets at least, so that many are over 2^67 octets.
-    for step in 0..u64::MAX {
-        if selection.count == Some(replayed.chosen) {
-            return Ok(replayed);
+    let octets = Vec::with_capacity(alloc, LONGEST_RECORD)?;
+    let mut records = Records::new(source, AirReader { alloc }, octets, *selection);
+    loop {
+        match records.next_chosen()? {
+            Pulled::Chosen(head, on_air) => hear(alloc, station, head.moment, on_air, sink)?,
+            Pulled::Interface => {}
+            Pulled::End(fault) => return Ok((records.counts, fault)),
         }
-        let met = go_on(alloc, station, selection, source, &mut octets, sink)?;
-        replayed = replayed.after(met);
-        if met.is_end() {
-            return Ok(replayed);
-        }
-    }
-    Ok(replayed)
-}
-
-/// Goes one step over the file.
-fn go_on<'f, S: RecordSource, K: HeardSink>(
-    alloc: Global,
-    station: &mut Station<SortedTable>,
-    selection: &Selection,
-    source: &mut S,
-    octets: &mut Vec<u8>,
-    sink: &mut K,
-) -> Result<Gone, Fault<'f>>
-    ensures { (s : StationModel) (log : List ToldRecord) → RepresentsStation station.old s →
-        K.Took sink.old log → IfOk result (λ met. IsGone S.GivesStep selection.now.choice
-        selection.now.signed source.old s log source.new station.new met (K.Took sink.new)) }
-{
-    match source.next_into(octets) {
-        Ok(Step::Record(head)) => hear(alloc, station, selection, &head, octets, sink),
-        Ok(Step::Interface) => Ok(Gone::NoRecord),
-        Ok(Step::Passed) => Ok(Gone::NoRecord),
-        Ok(Step::End) => Ok(Gone::End(None)),
-        Err(fault) => Ok(Gone::End(Some(fault))),
     }
 }
 
-/// Gives a record to the station, if it is chosen, and what came of it to the sink.
+/// Gives what was on the air to the station at a moment, and what came of it to the sink.
 fn hear<'f, K: HeardSink>(
     alloc: Global,
     station: &mut Station<SortedTable>,
-    selection: &Selection,
-    head: &RecordHeader,
-    octets: &mut Vec<u8>,
+    moment: u64,
+    on_air: OnAir,
     sink: &mut K,
-) -> Result<Gone, Fault<'f>>
+) -> Result<(), Fault<'f>>
     ensures { (s : StationModel) (log : List ToldRecord) → RepresentsStation station.old s →
-        K.Took sink.old log → IfOk result (λ met. IsHeard selection.now.choice selection.now.signed
-        head.now octets.old.items s log station.new met (K.Took sink.new)) }
+        K.Took sink.old log → IfOk result (λ _. IsHeard on_air moment s log station.new
+        (K.Took sink.new)) }
 {
-    let on_air = OnAir::of(alloc, head, octets, selection.signed)?;
-    if !on_air.is_chosen(&selection.choice, head.moment) {
-        return Ok(Gone::Passed);
-    }
-    let heard = receive(alloc, station, head.moment, on_air)?;
-    sink.put(heard)?;
-    Ok(Gone::Chosen)
+    let heard = receive(alloc, station, moment, on_air)?;
+    sink.put(heard)
 }
 
 /// Gives what was on the air to the station at a moment. `NoMemory` where an allocation failed: the

@@ -1,56 +1,56 @@
-use Rattle.std.proofs.Common.{◌≤◌, ◌+◌, ◌∙◌, ap, sym, subst, arith, inr}
-use Rattle.cmd_stats.specs.declared.replay.replaying.Replayed.{Replayed}
-use Rattle.cmd_stats.proofs.Records.{chosen_grows, fault_stays, read_grows, counted_then, whole_then}
-use Rattle.cmd_stats.proofs.Records.{replayed_begun}
+use Rattle.std.proofs.Common.{◌∙◌, subst, sym}
+use Rattle.cmd_stats.specs.Replays.{IsReplaying}
+use Rattle.cmd_stats.proofs.Records.{replayed_end, replaying_chosen, replaying_interface}
+use Rattle.cmd_stats.proofs.Records.{replaying_none}
 use Rattle.cmd_stats.proofs.replay.replaying.replay_records.Goals as goal
 
-pub returns-then-is_end : goal.returns-then-is_end
-returns-then-is_end g c = λ s rep took.
-    let before = (c.loop-step.invariant.received s rep took).0 in
-    whole_then {S = g.row.S.Denot} g.S.RecordSource.GivesStep c.args.selection.now.choice
-    c.args.selection.now.count c.args.selection.now.signed c.args.source.now s c.loop-step.source
-    c.go_on.new.source c.loop-step.station c.go_on.new.station c.loop-step.replayed
-    c.in_ok-met.met c.after-replayed.result (g.K.HeardSink.Took c.loop-step.sink)
-    (g.K.HeardSink.Took c.go_on.new.sink) before c.after-replayed.ensures
-    c.loop-step.invariant.good (sym c.is_end.ensures ∙ c.if-is_end.true)
-    (c.in_ok-met.ensures before.end before.told before.stands before.took)
-
-pub loop-step-preserved : goal.loop-step-preserved
-loop-step-preserved g c = record {
-  read = subst (λ (r : Replayed). r.read ≤ c.loop-step.step + 1) (sym c.after-replayed.ensures)
-      (read_grows c.loop-step.replayed c.in_ok-met.met c.loop-step.step c.loop-step.invariant.read);
-  chosen = subst (λ (r : Replayed). r.chosen ≤ r.read) (sym c.after-replayed.ensures)
-      (chosen_grows c.loop-step.replayed c.in_ok-met.met c.loop-step.invariant.chosen);
-  good = ap (λ (r : Replayed). r.fault) c.after-replayed.ensures
-      ∙ fault_stays c.loop-step.replayed c.in_ok-met.met c.loop-step.invariant.good
-      (sym c.is_end.ensures ∙ c.if-is_end.false);
+pub loop-records-init : goal.loop-records-init
+loop-records-init g c = record {
+  selection = c.new-records.ensures.selection;
   received = λ s rep took.
-      let (before, steps) = c.loop-step.invariant.received s rep took in
-      counted_then {S = g.row.S.Denot} g.S.RecordSource.GivesStep c.args.selection.now.choice
-      c.args.selection.now.signed c.args.source.now s c.loop-step.source c.go_on.new.source
-      c.loop-step.station c.go_on.new.station c.loop-step.replayed c.in_ok-met.met
-      c.after-replayed.result (g.K.HeardSink.Took c.loop-step.sink)
-      (g.K.HeardSink.Took c.go_on.new.sink) c.loop-step.step before steps
-      c.after-replayed.ensures c.loop-step.invariant.good
-      (c.in_ok-met.ensures before.end before.told before.stands before.took);
+      let none = replaying_none g.S.RecordSource.GivesStep c.args.selection.now c.args.source s
+      c.args.station.now (g.K.HeardSink.Took c.args.sink.now) c.new-records.result.counts
+      c.new-records.ensures.counts rep took in
+      subst (λ (file : g.row.S.Denot). IsReplaying g.S.RecordSource.GivesStep c.args.selection.now
+      c.args.source s file c.args.station.now c.new-records.result.counts
+      (g.K.HeardSink.Took c.args.sink.now)) (sym c.new-records.ensures.source) none;
 }
 
-pub loop-step-init : goal.loop-step-init
-loop-step-init g c = record {
-  read = subst (λ (r : Replayed). r.read ≤ 0) (sym c.begin-replayed.ensures) (omega arith);
-  chosen = subst (λ (r : Replayed). r.chosen ≤ r.read) (sym c.begin-replayed.ensures) (omega arith);
-  good = ap (λ (r : Replayed). r.fault) c.begin-replayed.ensures;
-  received = λ s rep took.
-      replayed_begun {S = g.row.S.Denot} g.S.RecordSource.GivesStep c.args.selection.now.choice
-      c.args.selection.now.signed c.args.source.now s c.args.station.now (g.K.HeardSink.Took c.args.sink.now)
-      c.begin-replayed.result c.begin-replayed.ensures rep took;
-}
-
--- no file has so many steps
-pub returns : goal.returns
-returns g c = λ s rep took.
-    let (before, steps) = c.loop-step.invariant.received s rep took in
+pub loop-records-preserved-in-Continue-branch-4 : goal.loop-records-preserved-in-Continue-branch-4
+loop-records-preserved-in-Continue-branch-4 g c =
+    let i = c.loop-records.invariant in
+    let comes = (rw c.in-Chosen.is at (rw i.selection at c.in_ok-head.ensures.next)) in
     record {
-      replayed = before;
-      ended = inr (inr (inr (omega (arith, steps, c.loop-step.auto.step-end))));
+      selection = c.in_ok-head.ensures.selection ∙ i.selection;
+      received = λ s rep took.
+          replaying_chosen g.S.RecordSource.GivesStep c.args.selection.now c.args.source s
+          c.loop-records.records.source c.next_chosen.new.self.source c.loop-records.station
+          c.hear.new.station c.loop-records.records.counts c.next_chosen.new.self.counts
+          (g.K.HeardSink.Took c.loop-records.sink) (g.K.HeardSink.Took c.hear.new.sink)
+          c.next_chosen.new.self.octets.items c.in-Chosen.head c.in-Chosen.on_air
+          (i.received s rep took) comes c.in_ok-hear-in-Chosen.ensures;
     }
+
+pub loop-records-preserved : goal.loop-records-preserved
+loop-records-preserved g c =
+    let i = c.loop-records.invariant in
+    let comes = (rw c.in-Interface.is at (rw i.selection at c.in_ok-head.ensures.next)) in
+    record {
+      selection = c.in_ok-head.ensures.selection ∙ i.selection;
+      received = λ s rep took.
+          replaying_interface g.S.RecordSource.GivesStep c.args.selection.now c.args.source s
+          c.loop-records.records.source c.next_chosen.new.self.source c.loop-records.station
+          c.loop-records.records.counts c.next_chosen.new.self.counts
+          (g.K.HeardSink.Took c.loop-records.sink) c.next_chosen.new.self.octets.items
+          (i.received s rep took) comes;
+    }
+
+pub returns-in-End : goal.returns-in-End
+returns-in-End g c = λ s rep took.
+    let i = c.loop-records.invariant in
+    let comes = (rw c.in-End.is at (rw i.selection at c.in_ok-head.ensures.next)) in
+    replayed_end g.S.RecordSource.GivesStep c.args.selection.now c.args.source s
+    c.loop-records.records.source c.next_chosen.new.self.source c.loop-records.station
+    c.loop-records.records.counts c.next_chosen.new.self.counts
+    (g.K.HeardSink.Took c.loop-records.sink) c.next_chosen.new.self.octets.items c.in-End.fault
+    (i.received s rep took) comes

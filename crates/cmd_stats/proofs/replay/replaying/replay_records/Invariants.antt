@@ -1,18 +1,18 @@
-use Rattle.std.proofs.Common.{◌≡◌, ◌≤◌, [], None, length}
+use Rattle.std.proofs.Common.{◌≡◌, []}
 use Rattle.its_model.specs.Station.{StationModel}
 use Rattle.its_station.specs.State.{RepresentsStation}
-use Rattle.cmd_stats.specs.Replays.{IsReplayed}
+use Rattle.cmd_stats.specs.Replays.{IsReplaying}
 use Rattle.cmd_stats.proofs.replay.replaying.replay_records.Given as goal
 
--- no more records were read than steps gone, no more chosen, and the station received the latter, in
--- as many calls for the next record as steps
-abbrev pub invariant-loop-step : goal.invariant-loop-step
-invariant-loop-step g l = record {
-  read : l.replayed.read ≤ l.step;
-  chosen : l.replayed.chosen ≤ l.replayed.read;
-  good : l.replayed.fault ≡ None;
+-- the station received the records so far that are chosen
+abbrev pub invariant-loop-records : goal.invariant-loop-records
+invariant-loop-records g l = record {
+  selection : l.records.selection ≡ l.selection;
   received : (s : StationModel) → RepresentsStation l.fn.station s
       → g.K.HeardSink.Took l.fn.sink []
-      → (r : IsReplayed g.S.RecordSource.GivesStep l.selection.choice l.selection.signed l.fn.source s
-      l.source l.station l.replayed (g.K.HeardSink.Took l.sink)) × (length r.given ≡ l.step);
+      → IsReplaying g.S.RecordSource.GivesStep l.selection l.fn.source s l.records.source l.station
+      l.records.counts (g.K.HeardSink.Took l.sink);
 }
+
+abbrev pub decreases-loop-records : goal.decreases-loop-records
+decreases-loop-records g l = l.records.counts.left

@@ -19,7 +19,7 @@ const YEAR: u64 = 365;
 
 /// A day.
 #[derive(Clone, Copy)]
-pub(crate) struct Date {
+pub struct Date {
     year: u64,
     /// From 1.
     month: u64,
@@ -30,7 +30,7 @@ pub(crate) struct Date {
 impl Date {
     /// How many days this date is after the first of January of 1970; `None` if it is before it, or
     /// if the year has more than nine digits. Month and day are counted from 1.
-    pub(crate) fn days_of(year: u64, month: u64, day: u64) -> Option<u64> {
+    pub fn days_of(year: u64, month: u64, day: u64) -> Option<u64> {
         if year == 0 || year > 999_999_999 || month == 0 || month > 12 || day > 31 {
             return None;
         }
@@ -47,7 +47,7 @@ impl Date {
 
     /// The day that is so many after the first of January of 1970, at most 2^40 of them. Years are
     /// counted from March on here, so that a leap day is the last of its year.
-    pub(crate) fn of(days: u64) -> Date
+    pub fn of(days: u64) -> Date
         requires { days < 2 ^ 40 }
     {
         let all = days + EPOCH;
@@ -77,7 +77,7 @@ impl Date {
 }
 
 /// How many days a month has, which is counted from 1; none if there is no such month.
-pub(crate) fn days_in_month(year: u64, month: u64) -> u64 {
+pub fn days_in_month(year: u64, month: u64) -> u64 {
     let is_leap = year % 4 == 0 && (year % 100 != 0 || year % 400 == 0);
     match month {
         1 | 3 | 5 | 7 | 8 | 10 | 12 => 31,

@@ -1,12 +1,8 @@
-//! The times of records, as `show` prints them.
+//! The times of records, as commands print them.
 
 use crate::date::Date;
-use crate::text::Text;
-use cap_records::RecordPlace;
 use serde::{Described, Serialize, Serializer};
-use std::alloc::AllocError;
 use std::fmt;
-use std::fmt::Write;
 
 /// How the times of records are printed.
 #[derive(Clone, Copy, Debug, PartialEq, Eq)]
@@ -23,13 +19,26 @@ pub enum Time {
 
 /// The time of a record.
 #[derive(Clone, Copy)]
-pub(crate) struct Instant {
+pub struct Instant {
     millis: u64,
     /// Nanoseconds below the millisecond.
     nanos: u32,
 }
 
 impl Instant {
+    /// The time of so many milliseconds, and nanoseconds below them.
+    pub fn new(millis: u64, nanos: u32) -> Instant {
+        Instant { millis, nanos }
+    }
+
+    /// The time of so many nanoseconds.
+    pub fn of_nanos(nanos: u64) -> Instant {
+        Instant {
+            millis: nanos / 1_000_000,
+            nanos: (nanos % 1_000_000) as u32,
+        }
+    }
+
     /// In nanoseconds.
     fn in_nanos(self) -> u128 {
         u128::from(self.millis) * NANOS_OF_MILLI + u128::from(self.nanos)
@@ -44,7 +53,7 @@ const NANOS_OF_SECOND: u128 = 1_000_000_000;
 
 /// A time as it is printed.
 #[derive(Clone, Copy)]
-pub(crate) enum Moment {
+pub enum Moment {
     /// Milliseconds.
     Raw(u64),
     /// The time since 1970, as date and time.
@@ -55,16 +64,13 @@ pub(crate) enum Moment {
 
 impl Moment {
     /// Whether it is printed as a number with a fraction.
-    pub(crate) fn is_fraction(&self) -> bool {
+    pub fn is_fraction(&self) -> bool {
         matches!(self, Moment::Between(_, _))
     }
 
-    /// Adds it to a text.
-    pub(crate) fn add_to(self, text: &mut Text) -> Result<(), AllocError> {
-        match self {
-            Moment::Raw(moment) => text.number("", moment),
-            _ => write!(text, "{self}").map_err(|_| AllocError),
-        }
+    /// Whether it is a text in JSON: a date.
+    pub fn is_text(&self) -> bool {
+        matches!(self, Moment::Utc(_))
     }
 }
 
@@ -129,7 +135,7 @@ impl Serialize for Moment {
 
 /// Tells the moments of the records of a file, one after the other.
 #[derive(Clone, Copy)]
-pub(crate) struct Clock {
+pub struct Clock {
     time: Time,
     /// The time of the record before.
     last: Option<Instant>,
@@ -137,24 +143,16 @@ pub(crate) struct Clock {
 
 impl Clock {
     /// No record was printed yet.
-    pub(crate) fn new(time: Time) -> Clock {
+    pub fn new(time: Time) -> Clock {
         Clock { time, last: None }
     }
 
-    /// The moment of the next record.
-    pub(crate) fn next(&mut self, place: RecordPlace) -> Moment {
-        let time = Instant {
-            millis: place.moment,
-            nanos: place.nanos,
-        };
-        let first = Instant {
-            millis: place.first,
-            nanos: place.first_nanos,
-        };
+    /// The moment of the next record, at this time of a file whose first record has that one.
+    pub fn at(&mut self, first: Instant, time: Instant) -> Moment {
         let last = self.last.unwrap_or(time);
         self.last = Some(time);
         match self.time {
-            Time::Raw => Moment::Raw(place.moment),
+            Time::Raw => Moment::Raw(time.millis),
             Time::Utc => Moment::Utc(time),
             Time::Relative => Moment::Between(first, time),
             Time::Delta => Moment::Between(last, time),

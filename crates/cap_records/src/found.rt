@@ -1,0 +1,46 @@
+//! Where a frame is among the octets of a record.
+
+ghost use Rattle.std.specs.Prelude.{◌≡◌, ◌≤◌, ◌-◌, length, take, drop};
+ghost use Rattle.its_linkframe.specs.Frames.{EncodesFrame, transmission_of};
+ghost use Rattle.its_model.specs.Packet.{Transmission};
+ghost use Rattle.cap_records.specs.FoundFrames.{IsPlaced, octets_at};
+
+use crate::signed::SecuredFacts;
+use its_linkframe::FrameView;
+
+/// Where a frame is among the octets of a record.
+#[derive(Clone, Copy, Debug, PartialEq, Eq)]
+pub struct FramePlace {
+    /// Where it begins.
+    pub start: usize,
+    /// Where it ends.
+    pub end: usize,
+}
+
+impl FramePlace {
+    /// The octets of the frame.
+    pub fn octets(self, octets: &[u8]) -> &[u8]
+        requires order { self.start ≤ self.end }
+        requires inside { self.end ≤ length octets.now }
+        ensures { result.now ≡ take (self.end - self.start) (drop self.start octets.now) }
+    {
+        &octets[self.start..self.end]
+    }
+
+    /// The frame that is there. It was read before, and is not checked again.
+    pub fn view(self, octets: &[u8]) -> FrameView<'_>
+        requires { (t : Transmission) × IsPlaced octets.now t self }
+        ensures { EncodesFrame (transmission_of result) (octets_at self octets.now) }
+    {
+        FrameView::of_frame(self.octets(octets))
+    }
+}
+
+/// The frame of a record, as it was found among the octets of a buffer.
+#[derive(Clone, Copy, Debug, PartialEq, Eq)]
+pub struct FoundFrame {
+    /// Where it is in the buffer.
+    pub place: FramePlace,
+    /// What is known of the secured frame, if it is the inner frame of one.
+    pub secured: Option<SecuredFacts>,
+}

@@ -1,0 +1,225 @@
+//! What is read of the records of a file for a command that looks at each frame.
+
+ghost use Rattle.std.specs.Prelude.{◌≡◌, IfOk, IfSome, Err};
+ghost use Rattle.its_model.specs.Packet.{Transmission};
+ghost use Rattle.cap_records.specs.FoundFrames.{IsPlaced, ReadsFrame};
+
+use crate::cut::{CUT, CutFrame, complete_frame, read_front};
+use crate::found::FoundFrame;
+use crate::records::RecordReader;
+use crate::refusal::RecordFault;
+use crate::selection::Selection;
+use crate::signed::SecuredFacts;
+use cap_linklayers::LinkFacts;
+use cap_pcap::RecordHeader;
+use its_linkframe::LONGEST_FRAME;
+use std::alloc::AllocError;
+
+/// Where a record stands in its file, and what is known of it beside its frame.
+#[derive(Clone, Copy, Debug, PartialEq, Eq)]
+pub struct RecordPlace {
+    /// How many records come before it.
+    pub number: u64,
+    /// Its moment, in milliseconds.
+    pub moment: u64,
+    /// The nanoseconds of its time below the millisecond.
+    pub nanos: u32,
+    /// The moment of the file's first record.
+    pub first: u64,
+    /// The nanoseconds of that below the millisecond.
+    pub first_nanos: u32,
+    /// The number of its interface, from 0.
+    pub interface: u32,
+    /// How many of its octets the file has.
+    pub length: u32,
+    /// What the headers of its link layer say.
+    pub link: LinkFacts,
+    /// How many octets of its frame there are, if the record was cut and is read as far as it goes.
+    pub known: Option<usize>,
+    /// What is known of its secured frame, if it has one and that is read by its plain part.
+    pub secured: Option<SecuredFacts>,
+}
+
+impl RecordPlace {
+    /// What is known of a record that was found, before which this number of records comes. The
+    /// first record of the file has this moment and these nanoseconds below it.
+    pub(crate) fn of(
+        number: u64,
+        head: &RecordHeader,
+        first: (u64, u32),
+        found: &FoundRecord,
+    ) -> RecordPlace {
+        RecordPlace {
+            number,
+            moment: head.moment,
+            nanos: head.fine.nanos,
+            first: first.0,
+            first_nanos: first.1,
+            interface: head.interface,
+            length: head.captured,
+            link: found.link,
+            known: found.known,
+            secured: found.secured(),
+        }
+    }
+}
+
+/// What the headers of the link layer say, if that is one that is read.
+fn link_facts(head: &RecordHeader, octets: &[u8]) -> LinkFacts {
+    match head.layer {
+        Some(layer) => LinkFacts::of(layer, octets),
+        None => LinkFacts::none(),
+    }
+}
+
+/// What is found of a record that is selected, beside its header.
+#[derive(Clone, Copy, Debug, PartialEq, Eq)]
+pub struct FoundRecord {
+    /// What the headers of its link layer say.
+    pub link: LinkFacts,
+    /// How many octets of its frame there are, if the record was cut and is read as far as it goes.
+    pub known: Option<usize>,
+    /// Where its frame is in the buffer, or why it has none.
+    pub frame: Result<FoundFrame, RecordFault>,
+}
+
+impl FoundRecord {
+    /// What is known of its secured frame, if it has one and that is read by its plain part.
+    fn secured(&self) -> Option<SecuredFacts> {
+        match &self.frame {
+            Ok(found) => found.secured,
+            Err(_) => None,
+        }
+    }
+}
+
+/// Reads the frame of each record, in the buffer.
+#[derive(Drop)]
+pub(crate) struct FrameReader {
+    /// The moment of the first record, and the nanoseconds below it.
+    first: Option<(u64, u32)>,
+    /// Where a frame that was cut is completed.
+    room: [u8; LONGEST_FRAME],
+}
+
+impl FrameReader {
+    /// No record yet.
+    pub(crate) fn new() -> FrameReader {
+        FrameReader {
+            first: None,
+            room: [0; LONGEST_FRAME],
+        }
+    }
+
+    /// The moment of the first record, and the nanoseconds below it. Before any, those of this one.
+    pub(crate) fn first(&self, head: &RecordHeader) -> (u64, u32) {
+        self.first.unwrap_or((head.moment, head.fine.nanos))
+    }
+
+    /// Reads the frame of a record that was cut, as far as it goes. Where secured frames are read by
+    /// their plain part, one that was cut isn't read.
+    fn read_cut(
+        &mut self,
+        selection: &Selection,
+        link: LinkFacts,
+        head: &RecordHeader,
+        octets: &mut Vec<u8>,
+    ) -> Result<Option<FoundRecord>, AllocError>
+        ensures { IfOk result (λ found. IfSome found (λ r. IfOk r.frame
+            (λ f. (t : Transmission) × IsPlaced octets.new.items t f.place))) }
+    {
+        let moment = head.moment;
+        let completed = match complete_frame(head, octets, &mut self.room) {
+            Ok(completed) => completed,
+            Err(fault) => return Ok(refused(selection, moment, link, fault)),
+        };
+        octets.clear();
+        octets.extend_from_slice(&self.room[..completed.length])?;
+        match read_front(octets.as_slice(), completed.known) {
+            Ok(cut) => Ok(known_part(selection, moment, link, completed.known, cut)),
+            Err(RecordFault::Secured(_)) if selection.signed => {
+                Ok(refused(selection, moment, link, CUT))
+            }
+            Err(fault) => Ok(refused(selection, moment, link, fault)),
+        }
+    }
+}
+
+/// A record of this moment that was cut and has this frame, of which so many octets are there, if it
+/// is selected.
+fn known_part(
+    selection: &Selection,
+    moment: u64,
+    link: LinkFacts,
+    known: usize,
+    cut: CutFrame,
+) -> Option<FoundRecord>
+    ensures { IfSome result (λ r. IfOk r.frame (λ f. f.place ≡ cut.place)) }
+{
+    if !selection.choice.selects(moment, Some(cut.traits), false) {
+        return None;
+    }
+    Some(FoundRecord {
+        link,
+        known: Some(known),
+        frame: Ok(FoundFrame {
+            place: cut.place,
+            secured: None,
+        }),
+    })
+}
+
+/// A record of this moment that was cut and is refused, if it is selected.
+fn refused(
+    selection: &Selection,
+    moment: u64,
+    link: LinkFacts,
+    fault: RecordFault,
+) -> Option<FoundRecord>
+    ensures { IfSome result (λ r. r.frame ≡ Err fault) }
+{
+    if !selection.choice.selects(moment, None, fault.is_other()) {
+        return None;
+    }
+    Some(FoundRecord {
+        link,
+        known: None,
+        frame: Err(fault),
+    })
+}
+
+impl RecordReader for FrameReader {
+    ghost use Rattle.cap_records.specs.FoundFrames.{ReadsFrame};
+
+    type Record = FoundRecord;
+
+    ghost Reads = { ReadsFrame };
+
+    fn read(
+        &mut self,
+        selection: &Selection,
+        head: &RecordHeader,
+        octets: &mut Vec<u8>,
+    ) -> Result<Option<FoundRecord>, AllocError> {
+        self.first = Some(self.first(head));
+        let link = link_facts(head, octets.as_slice());
+        if selection.partial && is_cut(head) {
+            return self.read_cut(selection, link, head, octets);
+        }
+        let frame = selection.find(head, octets);
+        if selection.has(head.moment, &frame, octets.as_slice()) {
+            Ok(Some(FoundRecord {
+                link,
+                known: None,
+                frame,
+            }))
+        } else {
+            Ok(None)
+        }
+    }
+}
+
+/// Whether the record is of a link layer that is read, and was cut.
+fn is_cut(head: &RecordHeader) -> bool {
+    head.fault() == Some(cap_pcap::RecordFault::CutFrame)
+}
