@@ -4,7 +4,7 @@
   'use strict';
 
   const {byId, element, grouped} = geostation.dom;
-  const {files, reading, way: ways, why, reason, rows, words, filter, clock, load} = geostation;
+  const {files, reading, way: ways, why, reason, rows, words, filter, clock, load, scene} = geostation;
   const {countUpTo} = geostation.columns;
   const LIMITS = {links: geostation.map.MOST_LINKS, circles: geostation.map.MOST_CIRCLES};
 
@@ -108,6 +108,7 @@
     byId('load').title = '';
     byId('all').hidden = true;
     byId('away').hidden = !run.presence.isTold;
+    for (const kind of ['held', 'cancelled']) byId(kind).hidden = run.events.holds.length === 0;
     showTotals();
     timeline.begin(run.times, state.sends.map(({event}, i) =>
       ({event, name: `Warning ${i + 1}, at ${run.moment(event)} ms`})));
@@ -130,7 +131,9 @@
       count(total.frames, 'frame'), count(total.deliveries, 'delivery', 'deliveries'),
       count(total.duplicates, 'duplicate'),
       count(total.ignored, 'ignored otherwise', 'ignored otherwise'),
-      count(total.refused, 'refused', 'refused')].join(' · '));
+      count(total.refused, 'refused', 'refused'),
+      ...(run.air?.contends ? [count(total.held, 'held', 'held'),
+        count(total.cancelled, 'cancelled', 'cancelled')] : [])].join(' · '));
   }
 
   function rowCount() {
@@ -162,8 +165,8 @@
     state.at = Math.max(0, Math.min(at, run.events.length - 1));
     state.note = note;
     const event = run.events.at(state.at);
-    state.frames = note === undefined ? {came: event?.frame, given: event?.sent}
-      : {came: run.notes.is(note, 'lost') ? run.notes.at(note).frame : undefined};
+    state.frames = note === undefined ? {came: event?.frame, given: event?.sent ?? event?.waits}
+      : {came: scene.frameOfNote(run, note)};
     const told = note !== undefined ? words.ofNote(run, note)
       : event ? words.ofEvent(run, event) : 'This run has no events.';
     byId('present').textContent = told;
@@ -298,7 +301,7 @@
   function drawMap() {
     const boxes = document.querySelectorAll('[data-arc]:checked');
     const arcs = new Set(Array.from(boxes, ({dataset}) => dataset.arc));
-    map.show(geostation.scene.scene(state, {...LIMITS, isRange: byId('range').checked, arcs}));
+    map.show(scene.scene(state, {...LIMITS, isRange: byId('range').checked, arcs}));
   }
 
   /** Shows the load of the chosen station or of all, which is worked out once, in turns. */
@@ -344,8 +347,8 @@
   /** Shows a frame that was received or lost, and the one that was forwarded. */
   function showFrame(frame, event) {
     const {run} = state;
-    const {frame: came, sent} = run.events.at(event);
-    state.frames = {came: frame, given: came === frame ? sent : undefined};
+    const {frame: came, sent, waits} = run.events.at(event);
+    state.frames = {came: frame, given: came === frame ? sent ?? waits : undefined};
     geostation.packet.show(byId('packet'), run, state.frames);
     byId('packet').closest('section').scrollIntoView({block: 'nearest'});
   }
@@ -433,6 +436,10 @@
     const {mark} = key.dataset;
     key.setAttribute('class', `symbol ${mark}`);
     key.setAttribute('d', geostation.shape.markPath(geostation.shape.markOf(mark), 4.2));
+  }
+  for (const key of document.querySelectorAll('.key [data-hold]')) {
+    key.setAttribute('class', 'hold');
+    key.setAttribute('d', geostation.shape.ringPath(key.dataset.hold, 4.6));
   }
   byId('loading').remove();
   state.wanted = clock.eventOf(location.hash);

@@ -16,7 +16,7 @@
   const COLOURS = {idle: '--idle', reached: '--accepted', delivered: '--delivered',
     sender: '--sender', missed: '--red', accepted: '--accepted', duplicate: '--duplicate',
     other: '--duplicate', refused: '--refused', lost: '--red', chosen: '--accent',
-    active: '--text', ground: '--map'};
+    active: '--text', ground: '--map', hold: '--held'};
 
   class Painted {
     /** @param {HTMLCanvasElement} canvas @param {any} map that says what is where */
@@ -48,6 +48,7 @@
       this.placedAt = scene.at;
       this.drawBystanders();
       this.drawLinks();
+      this.drawRings();
       this.drawRoles();
       this.drawNames();
     }
@@ -139,6 +140,21 @@
       const {west, east, south, north} = this.map.bounds;
       const apart = Math.sqrt(((east - west) * (north - south)) / this.xs.length);
       return Math.max(0.5, Math.min(3, (apart * this.map.view.scale) / 4));
+    }
+
+    /** The rings of stations that hold a frame, crossed ones where it was cancelled. */
+    drawRings() {
+      const {colours, context, radius} = this;
+      const size = 1.4 * Math.max(LEAST_MARK, 1.5 * radius) + 3;
+      context.strokeStyle = colours.hold;
+      context.lineWidth = 2;
+      for (const [station, kind] of this.scene.holds) {
+        if (station >= this.xs.length || this.presenceOf(station) === 'expected') continue;
+        context.save();
+        context.translate(this.xs[station], this.ys[station]);
+        context.stroke(new Path2D(shape.ringPath(kind, size)));
+        context.restore();
+      }
     }
 
     /** Who has a part in the chosen send, and the present and the chosen station, above all. */

@@ -16,6 +16,7 @@
       this.layers = layers;
       this.map = map;
       this.links = new Pool(makeLink, layers.links);
+      this.rings = new Pool(() => svg('path', {class: 'hold'}), layers.holds);
       this.labels = new Pool(makeLabel, layers.labels);
     }
 
@@ -48,6 +49,7 @@
       this.stations.forEach((station, index) => this.drawStation(station, index, isAnew));
       this.drawLabels();
       this.drawLinks();
+      this.drawRings();
     }
 
     /** The names of the stations in sight, where these are few, and as far as they have room. */
@@ -149,6 +151,18 @@
       for (const line of group.children) line.setAttribute('d', path);
     }
 
+    /** The rings of stations that hold a frame, crossed ones where it was cancelled. */
+    drawRings() {
+      this.rings.begin();
+      for (const [index, kind] of this.scene.holds) {
+        const {x, y, radius, isShown} = this.stations[index] ?? {isShown: false};
+        if (!isShown) continue;
+        set(this.rings.next(), {class: `hold ${kind}`, d: shape.ringPath(kind, 1.4 * radius + 3),
+          transform: `translate(${x.toFixed(1)} ${y.toFixed(1)})`});
+      }
+      this.rings.finish();
+    }
+
     /** What a click is at. @param {MouseEvent} event */
     hit(event) {
       const target = /** @type {Element} */ (event.target);
@@ -169,7 +183,7 @@
 
     clear() {
       for (const name of ['stations', 'sender', 'trails']) this.layers[name].replaceChildren();
-      for (const pool of [this.links, this.labels]) {
+      for (const pool of [this.links, this.rings, this.labels]) {
         pool.begin();
         pool.finish();
       }

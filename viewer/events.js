@@ -3,7 +3,7 @@
 (function (geostation) {
   'use strict';
 
-  const {Table, Words, widened} = geostation.columns;
+  const {Table, Words, widened, countUpTo} = geostation.columns;
 
   /**
    * @typedef {object} Event
@@ -21,17 +21,22 @@
    * @property {number} [port] at which a payload was delivered
    * @property {number} [info]
    * @property {string} [payload]
-   * @property {number} [sent] the number of the frame that the station gave
+   * @property {number} [sent] the number of the frame that the station sent at once
+   * @property {number} [waits] the number of the frame that the station holds
+   * @property {string} [until] the digits of the time at which that frame is due
+   * @property {number[]} [cancels] the numbers of the held frames that a copy cancelled
    */
 
   const DOS = ['move', 'open', 'close', 'restart', 'tick', 'shb', 'gbc', 'gac', 'deliver'];
   const RESULTS = ['moved', 'opened', 'closed', 'restarted', 'quiet', 'sent', 'ignored',
     'accepted', 'refused'];
-  const NOTES = ['came', 'left', 'lost', 'absent'];
+  const NOTES = ['came', 'left', 'lost', 'absent', 'released', 'dropped'];
   /** The number of a word of `do`, of `result` and of a note. */
   const DO = numbers(DOS);
   const RESULT = numbers(RESULTS);
   const NOTE = numbers(NOTES);
+  /** Whether a note of a kind is about a frame. */
+  const IS_OF_FRAME = NOTES.map((word) => ['lost', 'released', 'dropped'].includes(word));
   /** More octets than a frame has. */
   const LONGEST = 2048;
 
@@ -40,6 +45,8 @@
     const pairs = words.map((word, i) => [word, i]);
     return Object.assign(Object.create(null), Object.fromEntries(pairs));
   }
+
+  const NONE = [];
 
   /** An event as its columns have it: numbers, which are read into it one event after the other. */
   class Row {
@@ -54,6 +61,8 @@
       this.result = 0;
       this.frame = 0;
       this.sent = -1;
+      this.until = -1;
+      this.cancels = NONE;
       this.port = -1;
       this.info = 0;
       this.word = 0;
@@ -67,7 +76,8 @@
   class Events extends Table {
     /** @param {number} [capacity] */
     constructor(capacity) {
-      // `word` is the number of `why` or `code`; `sent` and `port` are -1 if the event has none.
+      // `word` is the number of `why` or `code`; `sent` is the frame that the station sent or
+      // holds; `sent` and `port` are -1 if the event has none.
       super({moment: Float64Array, station: Int32Array, do: Uint8Array, result: Uint8Array,
         frame: Uint32Array, sent: Int32Array, port: Int32Array, info: Uint16Array,
         word: Uint32Array, reason: Uint32Array, payload: Uint32Array, lat: Int32Array,
@@ -77,6 +87,8 @@
       this.full = this.words.number('S4');
       /** The digits of moments past what a number holds, by event. @type {Map<number, string>} */
       this.exact = new Map();
+      this.holds = new Holds();
+      this.cancels = new Cancels();
     }
 
     /** @param {Row} row the next one */
@@ -95,6 +107,8 @@
       this.payload.values[i] = row.payload;
       this.lat.values[i] = row.lat;
       this.lon.values[i] = row.lon;
+      if (row.until >= 0) this.holds.push(i, row.sent, row.until);
+      for (const frame of row.cancels) this.cancels.push(i, frame);
     }
 
     /** @param {number} index @returns {Event | undefined} */
@@ -119,8 +133,18 @@
         event.info = this.info.values[index];
         event.payload = texts[this.payload.values[index]];
       }
-      if (this.sent.values[index] >= 0) event.sent = this.sent.values[index];
+      this.addFrames(event);
       return event;
+    }
+
+    /** Adds the frame that was sent or held, and those that were cancelled. @param {Event} event */
+    addFrames(event) {
+      const frame = this.sent.values[event.index];
+      const hold = frame < 0 ? -1 : this.holds.of(frame);
+      if (hold >= 0) Object.assign(event, {waits: frame, until: this.holds.digits(hold)});
+      else if (frame >= 0) event.sent = frame;
+      const cancels = this.cancels.of(event.index);
+      if (cancels.length > 0) event.cancels = cancels;
     }
 
     /** Whether an event is a delivery of a frame. @param {number} index */
@@ -155,6 +179,58 @@
     /** @template T @param {(event: Event) => T} change @returns {T[]} */
     map(change) {
       return Array.from(this, change);
+    }
+  }
+
+  /** The frames that stations held, in the order of their numbers. */
+  class Holds extends Table {
+    constructor() {
+      // `event` is the one at which the frame was held, `until` when it is due.
+      super({event: Int32Array, frame: Int32Array, until: Float64Array}, 16);
+      /** The digits of due times past what a number holds, by hold. @type {Map<number, string>} */
+      this.exact = new Map();
+    }
+
+    /** @param {number} event @param {number} frame @param {number} until */
+    push(event, frame, until) {
+      const i = this.next();
+      this.event.values[i] = event;
+      this.frame.values[i] = frame;
+      this.until.values[i] = until;
+    }
+
+    /** The hold of a frame, -1 of one that no station held. @param {number} frame */
+    of(frame) {
+      const {values} = this.frame;
+      const hold = countUpTo(values, frame, this.length) - 1;
+      return hold >= 0 && values[hold] === frame ? hold : -1;
+    }
+
+    /** The digits of the time at which a frame is due. @param {number} hold */
+    digits(hold) {
+      return this.exact.get(hold) ?? String(this.until.values[hold]);
+    }
+  }
+
+  /** Which events cancelled which held frames. */
+  class Cancels extends Table {
+    constructor() {
+      super({event: Int32Array, frame: Int32Array}, 16);
+    }
+
+    /** @param {number} event @param {number} frame */
+    push(event, frame) {
+      const i = this.next();
+      this.event.values[i] = event;
+      this.frame.values[i] = frame;
+    }
+
+    /** The frames that an event cancelled. @param {number} event @returns {number[]} */
+    of(event) {
+      const {values} = this.event;
+      const end = countUpTo(values, event, this.length);
+      const begin = countUpTo(values, event - 1, end);
+      return begin === end ? NONE : Array.from(this.frame.values.subarray(begin, end));
     }
   }
 
@@ -213,7 +289,10 @@
     }
   }
 
-  /** Notes: who came and left, which frame was lost where, and which stations weren't there. */
+  /**
+   * Notes: who came and left, which frame was lost where, which held frame was released or dropped,
+   * and which stations weren't there.
+   */
   class Notes extends Table {
     constructor() {
       // `after` is the event that a note follows, -1 if it precedes all; `id` is the number of a
@@ -252,5 +331,6 @@
     }
   }
 
-  geostation.events = {Events, Frames, Notes, Row, LONGEST, DOS, RESULTS, NOTES, DO, RESULT, NOTE};
+  geostation.events = {Events, Frames, Notes, Row, LONGEST, DOS, RESULTS, NOTES, DO, RESULT, NOTE,
+    IS_OF_FRAME};
 })(globalThis.geostation ??= {});

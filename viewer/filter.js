@@ -5,12 +5,15 @@
   'use strict';
 
   const {peek} = geostation;
-  const {DO, DOS, NOTE, NOTES, RESULT} = geostation.events;
+  const {DO, DOS, IS_OF_FRAME, NOTES, RESULT} = geostation.events;
   const OWN = {tick: 'beacon', shb: 'shb', gbc: 'gbc', gac: 'gac'};
   /** The kinds that can be selected: packets, other requests to a station, notes of it. */
   const KINDS = ['beacon', 'shb', 'gbc', 'gac', 'move', 'open', 'close', 'restart', 'came', 'left',
     'absent'];
-  const RESULTS = ['sent', 'delivered', 'accepted', 'duplicate', 'ignored', 'refused', 'lost'];
+  const RESULTS = ['sent', 'delivered', 'accepted', 'duplicate', 'ignored', 'refused', 'lost', 'held',
+    'cancelled'];
+  /** The notes of a result. */
+  const NOTES_OF = {sent: 'released', lost: 'lost'};
 
   /** The kind of an event. @param {import('./run.js').Run} run @param {number} index */
   function kind({events, frames}, index) {
@@ -22,12 +25,16 @@
   /** The kind of a note. @param {import('./run.js').Run} run @param {number} index */
   function kindOfNote({notes, frames}, index) {
     const note = notes.kind.values[index];
-    return note === NOTE.lost ? peek.kind(frames, notes.frame.values[index]) : NOTES[note];
+    return IS_OF_FRAME[note] ? peek.kind(frames, notes.frame.values[index]) : NOTES[note];
   }
 
   /** Whether an event has a result, as the page groups them. @param {string} result */
   function has(events, index, result) {
-    if (result === 'sent') return events.sent.values[index] >= 0;
+    const frame = events.sent.values[index];
+    const isHeld = frame >= 0 && events.holds.of(frame) >= 0;
+    if (result === 'sent') return frame >= 0 && !isHeld;
+    if (result === 'held') return isHeld;
+    if (result === 'cancelled') return events.cancels.of(index).length > 0;
     if (result === 'delivered') return events.port.values[index] >= 0;
     if (result === 'duplicate') return events.isDuplicate(index);
     if (result === 'ignored') return events.is(index, 'ignored') && !events.isDuplicate(index);
@@ -63,7 +70,7 @@
     const isAll = station === undefined;
     const isEvent = (index) => (!result || has(events, index, result)) &&
       (!wanted || kind(run, index) === wanted);
-    const isNote = (index) => (!result || (result === 'lost' && notes.is(index, 'lost'))) &&
+    const isNote = (index) => (!result || notes.is(index, NOTES_OF[result])) &&
       (!wanted || kindOfNote(run, index) === wanted);
     return run.entries.merge(
       choose(events.length, isAll ? undefined : run.byStation.of(station), isEvent),

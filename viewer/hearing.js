@@ -27,25 +27,27 @@
   }
 
   /**
-   * Whether a station would have heard what another gave at an event, if no draw had lost it.
-   * @param {import('./run.js').Run} run @param {number} station @param {number} event
+   * Whether a station would have heard a frame, if no draw had lost it.
+   * @param {import('./run.js').Run} run @param {number} station @param {number} frame
    */
-  function isInRange(run, station, event) {
-    return !isPastEnd(run, event) && isNear(run, station, event);
+  function isInRange(run, station, frame) {
+    return run.held.isSent(frame) && !isPastEnd(run, frame) && isNear(run, station, frame);
   }
 
-  /** Whether a station is present and near enough for what another gave at an event. */
-  function isNear(run, station, event) {
-    const giver = run.events.station.values[event];
+  /** Whether a station is present and near enough for a frame that was sent. */
+  function isNear(run, station, frame) {
+    const giver = run.events.station.values[run.frames.giver.values[frame]];
     if (giver === station || !run.stations[giver]) return false;
-    if (!run.isPresent(station, event - 1) || !run.isPresent(giver, event - 1)) return false;
-    return distance2(run, giver, station, event) <= limit2(run);
+    const {at, noted} = run.held.before(frame);
+    const isThere = (one) => run.presence.isThere(one, noted, at);
+    if (!isThere(station) || !isThere(giver)) return false;
+    return distance2(run, giver, station, run.held.sentAfter(frame)) <= limit2(run);
   }
 
-  /** Whether what is given at an event would come when the run is over. */
-  function isPastEnd({air, events}, event) {
+  /** Whether a frame that was sent would come when the run is over. */
+  function isPastEnd({air, held}, frame) {
     if (!air || air.until === null) return false;
-    return events.moment.values[event] + air.delay > air.until;
+    return held.momentOf(frame) + air.delay > air.until;
   }
 
   const heard = new WeakMap();
@@ -62,7 +64,7 @@
       for (const event of run.deliveries.of(frame)) {
         const to = run.events.station.values[event];
         if (!run.stations[to]) continue;
-        const far = distance2(run, from, to, giver);
+        const far = distance2(run, from, to, run.held.sentAfter(frame));
         if (far > most) most = far;
       }
     }

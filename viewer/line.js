@@ -5,7 +5,7 @@
 (function (geostation) {
   'use strict';
 
-  const {DO, RESULT, NOTE, Row, LONGEST} = geostation.events;
+  const {DO, RESULT, NOTE, IS_OF_FRAME, Row, LONGEST} = geostation.events;
   const {Prefix} = geostation.scan;
   /** The greatest numbers that the columns hold. */
   const MOST = {station: 65535, frame: 2 ** 31 - 1, port: 65535, lat: 9e8, lon: 18e8};
@@ -24,8 +24,10 @@
 
   const DOS = words(',"do":"', DO, ['deliver', 'move', 'tick']);
   const RESULTS = words(',"result":"', RESULT, ['accepted', 'ignored', 'moved', 'sent']);
-  const NOTES = words('{"note":"', NOTE, ['lost']);
-  const KEYS = keys(['moment', 'station', 'frame', 'lat', 'lon', 'port', 'info', 'sent'], '');
+  const NOTES = words('{"note":"', NOTE, ['lost', 'released']);
+  const KEYS = keys(['moment', 'station', 'frame', 'lat', 'lon', 'port', 'info', 'sent', 'waits',
+    'until'], '');
+  const CANCELS = new Prefix(',"cancels":[');
   const TEXTS = keys(['why', 'payload', 'octets'], '"');
   const EVENT = new Prefix('{"event":');
 
@@ -59,8 +61,8 @@
       const result = scanner.takesOne(RESULTS.prefixes);
       row.result = RESULTS.numbers[result];
       if (result < 0 || row.result === RESULT.refused || !this.takeResult()) return false;
-      const length = this.takeSent();
-      if (length < 0 || !scanner.takesEnd()) return false;
+      const length = this.takeGiven();
+      if (length < 0 || !this.takeCancels() || !scanner.takesEnd()) return false;
       if (row.sent >= 0) frames.close(events.length, length);
       events.push(row);
       return true;
@@ -95,14 +97,25 @@
       return row.payload >= 0;
     }
 
-    /** The frame that was sent. @returns {number} its length, 0 without a frame, -1 */
-    takeSent() {
+    /** The frame that was sent or held. @returns {number} its length, 0 without a frame, -1 */
+    takeGiven() {
       const {scanner, row, run: {frames}} = this;
-      if (!scanner.takes(KEYS.sent)) return row.result === RESULT.sent ? -1 : 0;
+      const isHeld = row.result === RESULT.accepted && scanner.takes(KEYS.waits);
+      if (!isHeld && !scanner.takes(KEYS.sent)) return row.result === RESULT.sent ? -1 : 0;
       row.sent = scanner.whole();
+      if (isHeld) row.until = scanner.wholeBehind(KEYS.until);
+      if (isHeld && row.until < 0) return -1;
       if (row.sent !== frames.length || !scanner.takes(TEXTS.octets)) return -1;
       const store = frames.room();
       return scanner.hex(store, frames.used, LONGEST);
+    }
+
+    /** The held frames that were cancelled. */
+    takeCancels() {
+      const {scanner, row} = this;
+      if (row.result !== RESULT.ignored || !scanner.takes(CANCELS)) return true;
+      row.cancels = scanner.wholes();
+      return row.cancels?.every((frame) => frame <= MOST.frame) ?? false;
     }
 
     takeNote() {
@@ -113,8 +126,8 @@
       const moment = scanner.wholeBehind(KEYS.moment);
       const station = scanner.wholeBehind(KEYS.station);
       if (moment < 0 || !isWithin(station, MOST.station)) return false;
-      const frame = kind === NOTE.lost ? scanner.wholeBehind(KEYS.frame) : -1;
-      if (kind === NOTE.lost && !isWithin(frame, MOST.frame)) return false;
+      const frame = IS_OF_FRAME[kind] ? scanner.wholeBehind(KEYS.frame) : -1;
+      if (IS_OF_FRAME[kind] && !isWithin(frame, MOST.frame)) return false;
       if (!scanner.takesEnd()) return false;
       notes.push(kind, moment, station, frame, events.length - 1);
       return true;

@@ -52,11 +52,14 @@
       this.tables = new geostation.tables.Tables(run, station);
     }
 
-    /** Ends the bin before an event of a later one. @param {number} index */
-    turn(index) {
-      const number = Math.floor(this.run.times[index] / this.width);
+    /**
+     * Ends the bin before a later one.
+     * @param {number} moment in the later bin @param {number} last event before that
+     */
+    turn(moment, last) {
+      const number = Math.floor(moment / this.width);
       if (number === this.number) return;
-      this.close(index - 1);
+      this.close(last);
       this.number = number;
     }
 
@@ -83,9 +86,11 @@
       this.frames = 0;
     }
 
-    /** Adds a frame at its giving. @param {number} giver @param {number} frame */
-    give(giver, frame) {
+    /** Adds a frame when it is sent. @param {number} frame */
+    give(frame) {
       const {run, station} = this;
+      const giver = run.events.station.values[run.frames.giver.values[frame]];
+      if (giver >= run.stations.length) return;
       const time = airTime(run.frames.lengthOf(frame));
       if (station === undefined || station === giver) this.frames += 1;
       this.busy[giver] += time;
@@ -110,11 +115,14 @@
     const {events} = run;
     for (let i = 0; i < events.length; i += 1) {
       if (i % TURN === TURN - 1) yield undefined;
-      sum.turn(i);
+      sum.turn(run.times[i], i - 1);
       sum.tables.take(i);
       const sent = events.sent.values[i];
-      const giver = events.station.values[i];
-      if (sent >= 0 && giver < run.stations.length) sum.give(giver, sent);
+      if (sent >= 0 && events.holds.of(sent) < 0) sum.give(sent);
+      for (const frame of run.held.releasedAfter(i)) {
+        sum.turn(run.held.momentOf(frame), i);
+        sum.give(frame);
+      }
     }
     sum.close(events.length - 1);
     return {width: sum.width, bins: sum.bins};

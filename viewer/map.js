@@ -31,6 +31,7 @@
    * @property {Link[]} links
    * @property {import('./geo.js').Area[]} areas
    * @property {Map<number, string>} roles of stations: sender, delivered, reached, missed
+   * @property {Map<number, 'held' | 'cancelled'>} holds of stations that contend
    * @property {{place: object, metres: number, isNew: boolean}[]} circles of range
    * @property {string[]} unseen what can't be drawn
    */
@@ -51,7 +52,7 @@
       this.net = [];
       this.layers = {};
       root.append(geostation.drawn.makeMarkers());
-      for (const name of ['grid', 'areas', 'circles', 'trails', 'links', 'stations', 'sender',
+      for (const name of ['grid', 'areas', 'circles', 'trails', 'links', 'holds', 'stations', 'sender',
         'labels', 'scale']) {
         this.layers[name] = svg('g', {class: name});
         root.append(this.layers[name]);

@@ -66,17 +66,27 @@
     return element('dl', 'fields', ...rows.flatMap(parts));
   }
 
+  /** Who sent a frame and when, or held it. @param {number} number */
+  function sending(run, number) {
+    const giver = run.frames.giver.values[number];
+    const who = `by station ${run.name(run.events.station.values[giver])}`;
+    const fate = run.held.fate(number);
+    const [from, end] = [run.moment(giver), run.held.digits(number)];
+    if (fate === 'sent') return `sent ${who} at ${end} ms`;
+    if (fate === 'waits') return `held ${who} from ${from} ms on`;
+    const done = fate === 'released' ? 'sent' : fate;
+    return `held ${who} at ${from} ms and ${done} at ${end} ms`;
+  }
+
   /**
    * What the stations did with a frame.
    * @param {import('./run.js').Run} run @param {number} number
    */
   function fate(run, number) {
-    const giver = run.frames.giver.values[number];
     const deliveries = Array.from(run.deliveries.of(number));
     const count = (result) => deliveries.filter((index) => run.events.is(index, result)).length;
     const lost = run.lost.of(number).length;
-    const from = run.name(run.events.station.values[giver]);
-    const words = `Frame ${number}, sent by station ${from} at ${run.moment(giver)} ms: ` +
+    const words = `Frame ${number}, ${sending(run, number)}: ` +
       `${count('accepted')} accepted it, ${count('ignored')} ignored it, ` +
       `${count('refused')} refused it`;
     return lost > 0 ? `${words}, ${lost} lost it.` : `${words}.`;
@@ -115,7 +125,7 @@
     if (isThere(came) && isThere(given)) {
       const {rows} = rowsOf(run, came);
       box.replaceChildren(part(run, came, 'Received frame', []),
-        part(run, given, 'Forwarded frame', rows));
+        part(run, given, run.held.isSent(given) ? 'Forwarded frame' : 'Held frame', rows));
       return;
     }
     const number = came ?? given;

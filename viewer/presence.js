@@ -101,9 +101,8 @@
   function missesFrame(run, station, there) {
     const {giver, length} = run.frames;
     for (let frame = 0; frame < length; frame += 1) {
-      const event = giver.values[frame];
-      if (!there[run.events.station.values[event]]) continue;
-      if (geostation.hearing.isInRange(run, station, event)) return true;
+      if (!there[run.events.station.values[giver.values[frame]]]) continue;
+      if (geostation.hearing.isInRange(run, station, frame)) return true;
     }
     return false;
   }

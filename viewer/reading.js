@@ -4,12 +4,13 @@
 (function (geostation) {
   'use strict';
 
-  const {DO, RESULT, NOTE, Row} = geostation.events;
+  const {DO, RESULT, NOTE, IS_OF_FRAME, Row} = geostation.events;
   const {Run} = geostation.run;
   const {LINE_FEED} = geostation.scan;
 
   /** No line of a run comes near it: 65535 stations take some 4 million letters. */
   const LONGEST_LINE = 1 << 24;
+  const MOST_FRAME = 2 ** 31 - 1;
   const NONE = new Uint8Array(0);
   const NOT_A_RUN = 'This file isn’t the output of “sim --json”';
 
@@ -138,7 +139,8 @@
       const {range, delay = 1, loss = 0, beacons = false, until = null} = air;
       if (!isWhole(delay, 0, 65535)) this.refuse('“delay” of “air” is invalid');
       if (!isWhole(loss, 0, 100)) this.refuse('“loss” of “air” is invalid');
-      this.run.air = {range, delay, loss, beacons, until};
+      const contends = air.contention !== undefined;
+      this.run.air = {range, delay, loss, beacons, until, contends};
     }
 
     /** @param {any} station */
@@ -179,7 +181,7 @@
       if (kind === undefined) this.refuse('“note” is unknown');
       const moment = this.moment(value, text, notes);
       const station = kind === NOTE.absent ? -1 : this.whole(value, 'station', 65535);
-      const frame = kind === NOTE.lost ? this.whole(value, 'frame', 2 ** 31 - 1) : -1;
+      const frame = IS_OF_FRAME[kind] ? this.whole(value, 'frame', MOST_FRAME) : -1;
       const id = typeof value.id === 'string' ? value.id : undefined;
       notes.push(kind, moment, station, frame, events.length - 1, notes.ids.number(id));
     }
@@ -219,7 +221,9 @@
       if (row.result === RESULT.ignored) row.word = events.words.number(this.text(value, 'why'));
       if (row.result === RESULT.refused) this.readRefusal(value);
       if (value.port !== undefined) this.readPayload(value);
-      if (row.result === RESULT.sent || value.sent !== undefined) this.readSent(value);
+      if (row.result === RESULT.ignored && value.cancels !== undefined) this.readCancels(value);
+      if (row.result === RESULT.accepted && value.waits !== undefined) this.readHeld(value, text);
+      else if (row.result === RESULT.sent || value.sent !== undefined) this.readGiven(value, 'sent');
     }
 
     /** @param {any} value */
@@ -244,23 +248,40 @@
       this.row.payload = this.run.events.words.number(value.payload);
     }
 
-    /** @param {any} value */
-    readSent(value) {
+    /**
+     * The frame that a station sent or holds.
+     * @param {any} value @param {'sent' | 'waits'} key of its number
+     */
+    readGiven(value, key) {
       const {length} = this.run.frames;
-      if (value.sent !== length) this.refuse(`“sent” isn’t ${length}`);
+      if (value[key] !== length) this.refuse(`“${key}” isn’t ${length}`);
       if (!isHex(value.octets)) this.refuse('“octets” is missing or isn’t hexadecimal');
-      this.row.sent = value.sent;
+      this.row.sent = value[key];
+    }
+
+    /** @param {any} value @param {string} text */
+    readHeld(value, text) {
+      this.readGiven(value, 'waits');
+      this.row.until = this.moment(value, text, this.run.events.holds, 'until');
+    }
+
+    /** @param {any} value */
+    readCancels(value) {
+      const {cancels} = value;
+      const isList = Array.isArray(cancels) && cancels.every((it) => isWhole(it, 0, MOST_FRAME));
+      if (!isList) this.refuse('“cancels” isn’t a list of numbers of frames');
+      this.row.cancels = cancels;
     }
 
     /**
      * The moment of an event or a note, whose digits are kept where a number doesn't hold it.
      * @param {any} value @param {string} text @param {any} table that it goes into
      */
-    moment(value, text, table) {
-      const {moment} = value;
-      if (!isWhole(moment, 0, 2 ** 63)) this.refuse('“moment” is missing or invalid');
+    moment(value, text, table, key = 'moment') {
+      const moment = value[key];
+      if (!isWhole(moment, 0, 2 ** 63)) this.refuse(`“${key}” is missing or invalid`);
       if (!Number.isSafeInteger(moment)) {
-        table.exact.set(table.length, /"moment":(\d+)/.exec(text)?.[1]);
+        table.exact.set(table.length, new RegExp(`"${key}":(\\d+)`).exec(text)?.[1]);
       }
       return moment;
     }

@@ -30,7 +30,8 @@
         'the run ended before them.';
     }
     if (event === undefined || isLikely) return missing(run, send, miss, who);
-    const when = `frame ${frame} at ${run.moment(event)} ms`;
+    const moment = reason === 'lost' ? run.held.digits(frame) : run.moment(event);
+    const when = `frame ${frame} at ${moment} ms`;
     const sender = run.name(run.events.station.values[run.frames.giver.values[frame]]);
     const words = {
       closed: `accepted ${when} in the area. Its port ` +
@@ -60,9 +61,9 @@
   function nearest(run, send, station) {
     let best = {far: -1n, frame: send.first, giver: 0, metres: 0};
     for (const frame of send.numbers) {
-      const event = run.frames.giver.values[frame];
-      const giver = run.events.station.values[event];
-      if (!run.stations[giver]) continue;
+      const event = run.held.sentAfter(frame);
+      const giver = run.events.station.values[run.frames.giver.values[frame]];
+      if (event < 0 || !run.stations[giver]) continue;
       const far = hearing.distance2(run, giver, station, event);
       if (best.far < 0n || far < best.far) {
         best = {far, frame, giver, metres: Math.sqrt(Number(far)) / 100};

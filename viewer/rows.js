@@ -54,11 +54,15 @@
         ['note', reason.short(missed)]]};
   }
 
+  /** What a station did with the frame that it was to forward, by what happened to that. */
+  const FORWARDED = {sent: 'forwarded', released: 'forwarded', cancelled: 'cancelled',
+    dropped: 'dropped', waits: 'held'};
+
   /** A hop of the chosen warning's path. @param {any} state @param {number} row @returns {Row} */
   function step({run, steps, chosen, at}, row) {
     const {event, station, hop, delivered, sent, duplicates} = steps[row];
     const done = [hop === 0 ? 'sent it' : delivered ? 'delivered' : 'accepted'];
-    if (hop > 0 && sent !== undefined) done.push('forwarded');
+    if (hop > 0 && sent !== undefined) done.push(FORWARDED[run.held.fate(sent)]);
     if (duplicates > 0) done.push(`${duplicates} duplicate${duplicates > 1 ? 's' : ''}`);
     const kind = hop === 0 ? 'sent' : delivered ? 'accepted delivered' : 'accepted';
     const note = done.join(', ');

@@ -21,6 +21,7 @@
    * @property {number} delay in milliseconds
    * @property {number} loss in percent
    * @property {boolean} beacons whether each station that is there sends beacons by itself
+   * @property {boolean} contends whether a station contends
    * @property {number | null} until the last moment that is run
    */
 
@@ -55,10 +56,11 @@
       this.byStation = new Groups(events.station.values, most, length);
       this.moves = new Groups(movers(events), most);
       this.deliveries = new Groups(deliveredFrames(events, frames), frames.length);
-      this.lost = new Groups(notes.frame.values, frames.length, notes.length);
+      this.lost = new Groups(lostFrames(notes), frames.length);
       this.notesOf = new Groups(notes.station.values, most, notes.length);
       this.times = risingTimes(events);
       this.entries = new geostation.entries.Entries(events, notes);
+      this.held = new geostation.held.Held(this);
       this.ids = new Map(stations.map(({id}, i) => [id, i]).filter(([id]) => id !== undefined));
       this.presence = new geostation.presence.Presence(this);
       geostation.presence.findNever(this);
@@ -150,6 +152,15 @@
     for (let i = 0; i < keys.length; i += 1) {
       const frame = values[i];
       if (events.isDelivery(i) && frame < frames.length && giver[frame] < i) keys[i] = frame;
+    }
+    return keys;
+  }
+
+  /** The frame of each note that one was lost, -1 of others. @param {any} notes */
+  function lostFrames(notes) {
+    const keys = new Int32Array(notes.length).fill(-1);
+    for (let i = 0; i < keys.length; i += 1) {
+      if (notes.is(i, 'lost')) keys[i] = notes.frame.values[i];
     }
     return keys;
   }

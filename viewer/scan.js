@@ -7,6 +7,8 @@
   const QUOTE = 34;
   const MINUS = 45;
   const ZERO = 48;
+  const COMMA = 44;
+  const BRACKET = 93;
   const BRACE = 125;
   /** More digits may be more than a number holds exactly. */
   const MOST_DIGITS = 15;
@@ -96,6 +98,21 @@
       const length = at - start;
       const isLed = length > 1 && octets[start] === ZERO;
       return length === 0 || length > MOST_DIGITS || isLed ? -1 : value;
+    }
+
+    /** Whole numbers up to their closing bracket, undefined if they aren't. @returns {number[]} */
+    wholes() {
+      const {octets} = this;
+      const found = [];
+      for (;;) {
+        const value = this.whole();
+        if (value < 0) return undefined;
+        found.push(value);
+        this.at += 1;
+        const sign = octets[this.at - 1];
+        if (sign === BRACKET) return found;
+        if (sign !== COMMA) return undefined;
+      }
     }
 
     /** A whole number from -most to most, else NaN. @param {number} most */

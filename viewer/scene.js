@@ -37,8 +37,9 @@
   function lost(run, frame, at) {
     const giver = run.frames.giver.values[frame];
     const from = run.events.station.values[giver];
+    const isNew = run.held.sentAfter(frame) === at;
     return Array.from(run.lost.of(frame), (note) => ({from, frame, event: giver, kind: 'lost',
-      to: run.notes.station.values[note], isNew: giver === at}));
+      to: run.notes.station.values[note], isNew}));
   }
 
   /**
@@ -47,11 +48,11 @@
    * latest others. The path is drawn last, above the others.
    */
   function ofSend(state, most, arcs) {
-    const {run, at, chosen, path} = state;
+    const {run, at, noted, chosen, path} = state;
     const deliveries = shownOf(state, arcs);
     const isPath = arcs.has('accepted');
     const first = isPath ? path.events.subarray(0, countUpTo(path.events, at)) : new Int32Array(0);
-    const given = chosen.numbers.filter((frame) => run.frames.giver.values[frame] <= at);
+    const given = chosen.numbers.filter((frame) => run.held.isSentBy(frame, at, noted));
     const gone = arcs.has('lost') ? given.flatMap((frame) => lost(run, frame, at)) : [];
     const along = ofPath(path, first, most);
     const room = most - along.length;
@@ -102,31 +103,40 @@
     const found = [];
     let count = 0;
     for (let i = at; i >= 0 && i > at - 4 * most; i -= 1) {
-      if (Math.abs(events.moment.values[at] - events.moment.values[i]) > AFTERGLOW) break;
-      const sent = events.sent.values[i];
-      const gone = sent < 0 ? [] : lost(run, sent, at);
-      const links = [...gone, ...(events.isDelivery(i) ? [delivered(run, i, at)] : [])]
-        .filter((link) => !link || arcs.has(ARCS[link.kind]));
+      const isRecent = Math.abs(events.moment.values[at] - events.moment.values[i]) <= AFTERGLOW;
+      const gone = sentWith(state, i, isRecent).flatMap((frame) => lost(run, frame, at));
+      const came = isRecent && events.isDelivery(i) ? [delivered(run, i, at)] : [];
+      const links = [...gone, ...came].filter((link) => !link || arcs.has(ARCS[link.kind]));
       count += links.length;
       if (found.length < most) found.push(...links);
+      if (!isRecent) break;
     }
     return {links: found.reverse(), count};
   }
 
+  /** The frames of the last moments that were sent at an event, or after it and before the next. */
+  function sentWith({run, at, noted}, index, isRecent) {
+    const {events, held, times} = run;
+    const released = held.releasedAfter(index).filter((frame) =>
+      held.isSentBy(frame, at, noted) && held.momentOf(frame) >= times[at] - AFTERGLOW);
+    const sent = events.sent.values[index];
+    return isRecent && sent >= 0 && held.fate(sent) === 'sent' ? [sent, ...released] : released;
+  }
+
   /** The stations that gave a frame that is shown, with how far it is heard. */
   function circles(state) {
-    const {run, at, chosen} = state;
+    const {run, at, note, noted, chosen} = state;
     const {metres} = hearing.range(run);
     const present = run.events.at(at);
-    const frame = present?.sent ?? present?.frame;
+    const told = note === undefined ? undefined : frameOfNote(run, note);
+    const frame = told ?? present?.sent ?? present?.frame;
     const numbers = new Set(chosen?.numbers);
     if (frame !== undefined && frame < run.frames.length) numbers.add(frame);
-    const given = [...numbers].map((number) => [number, run.frames.giver.values[number]])
-      .filter(([, giver]) => giver <= at);
-    return given.map(([number, giver]) => {
-      const station = run.events.station.values[giver];
+    const given = [...numbers].filter((number) => run.held.isSentBy(number, at, noted));
+    return given.map((number) => {
+      const station = run.events.station.values[run.frames.giver.values[number]];
       return {metres, isNew: number === frame,
-        place: run.stations[station] && run.placeAt(station, giver)};
+        place: run.stations[station] && run.placeAt(station, run.held.sentAfter(number))};
     }).filter(({place}) => place);
   }
 
@@ -140,6 +150,22 @@
     return packets.map((packet) => packet?.area).filter((found) => found);
   }
 
+  /** The frame of a note, undefined without one. @param {number} note */
+  function frameOfNote(run, note) {
+    const {frame} = run.notes.at(note);
+    return frame < 0 ? undefined : frame;
+  }
+
+  /**
+   * The stations that hold a frame, and those whose frame was cancelled: of the chosen send, or of
+   * any frame and in the last moments.
+   */
+  function holds({run, at, noted, chosen}) {
+    const {held} = run;
+    const own = chosen ? held.holdsOf(chosen.numbers) : held.recent(at, AFTERGLOW);
+    return held.rings(own, at, noted);
+  }
+
   /** The station of the current event or note, undefined without one. */
   function activeStation({run, at, note}) {
     if (note === undefined) return run.events.at(at)?.station;
@@ -148,12 +174,14 @@
   }
 
   /**
-   * @param {any} state of the page
+   * @param {any} page its state
    * @param {{links: number, circles: number, isRange: boolean, arcs?: Set<string>}} limits the arcs
    *   are the kinds that are shown, all without it
    */
-  function scene(state, {links: most, circles: mostCircles, isRange, arcs = ALL_ARCS}) {
-    const {run, at, note, station, chosen, steps, judgement} = state;
+  function scene(page, {links: most, circles: mostCircles, isRange, arcs = ALL_ARCS}) {
+    const {run, at, note, station, chosen, steps, judgement} = page;
+    const noted = note === undefined ? run.entries.notesTold(at) : note + 1;
+    const state = {...page, noted};
     const isEmpty = run.events.length === 0;
     const {links, count} = isEmpty ? {links: [], count: 0}
       : chosen ? ofSend(state, most, arcs) : ofAll(state, most, arcs);
@@ -165,11 +193,10 @@
         `${grouped(count)} arcs`);
     }
     if (rings.length > mostCircles) unseen.push(`${rings.length - mostCircles} circles`);
-    const noted = note === undefined ? run.entries.notesTold(at) : note + 1;
     return {at, noted, active: activeStation(state), chosen: station, links: shown, circles: rings,
-      unseen, areas: isEmpty ? [] : areas(state, shown),
+      unseen, areas: isEmpty ? [] : areas(state, shown), holds: holds(state),
       roles: chosen ? why.roles(steps, judgement, at) : new Map()};
   }
 
-  geostation.scene = {scene, kindOf};
+  geostation.scene = {scene, kindOf, frameOfNote};
 })(globalThis.geostation ??= {});

@@ -63,6 +63,17 @@
   }
 
   /**
+   * The ring about the origin of a station that holds a frame, crossed if the frame was cancelled.
+   * @param {'held' | 'cancelled'} kind @param {number} radius in pixels
+   */
+  function ringPath(kind, radius) {
+    const ring = markPath('circle', radius);
+    if (kind === 'held') return ring;
+    const far = ((radius + 3) * Math.SQRT1_2).toFixed(1);
+    return `${ring}M-${far} -${far}L${far} ${far}M-${far} ${far}L${far} -${far}`;
+  }
+
+  /**
    * The border of an area, in metres from its centre.
    * @param {import('./geo.js').Area} area @param {number} steps of a round one @returns {Point[]}
    */
@@ -100,5 +111,5 @@
     return {x: a * x1 + b * cx + c * x2, y: a * y1 + b * cy + c * y2};
   }
 
-  geostation.shape = {markOf, markPath, arc, pathOf, along, outline, roundLength};
+  geostation.shape = {markOf, markPath, ringPath, arc, pathOf, along, outline, roundLength};
 })(globalThis.geostation ??= {});

@@ -22,7 +22,7 @@
    * @property {number} station
    * @property {number} hop 0 for the send itself
    * @property {boolean} delivered whether a payload was delivered to its port
-   * @property {number} [sent] the frame that it gave
+   * @property {number} [sent] the frame that it sent or held
    * @property {number} duplicates how often that frame was ignored as a duplicate
    */
 
@@ -107,7 +107,7 @@
       do: what,
       port: packetOf(run, send)?.port,
       delivered: send.reached.size,
-      frames: send.numbers.length,
+      frames: send.numbers.filter((frame) => run.held.isSent(frame)).length,
       hops: send.hops,
       last: String(last(run, send)),
     };
@@ -123,7 +123,8 @@
     const waiting = [{index: send.event, hop: 0}];
     while (waiting.length > 0) {
       const {index, hop} = waiting.pop();
-      const {station, sent, port} = run.events.at(index);
+      const {station, sent: atOnce, waits, port} = run.events.at(index);
+      const sent = atOnce ?? waits;
       const deliveries = sent === undefined ? [] : Array.from(run.deliveries.of(sent));
       const accepted = deliveries.filter((i) => run.events.is(i, 'accepted'));
       const duplicates = deliveries.filter((i) => run.events.isDuplicate(i)).length;
@@ -173,7 +174,7 @@
   }
 
   /** The counts of a whole run, by the summary's names. @param {import('./run.js').Run} run */
-  function total({events, frames}) {
+  function total({air, events, frames, held}) {
     const [port, result] = [events.port.values, events.result.values];
     let [deliveries, duplicates, ignored, refused] = [0, 0, 0, 0];
     for (let i = 0; i < events.length; i += 1) {
@@ -182,7 +183,10 @@
       else if (events.isDuplicate(i)) duplicates += 1;
       else if (result[i] === RESULT.ignored) ignored += 1;
     }
-    return {events: events.length, frames: frames.length, deliveries, duplicates, ignored, refused};
+    const {length} = events.holds;
+    const more = air?.contends ? {held: length, cancelled: events.cancels.length} : {};
+    return {events: events.length, frames: frames.length - length + held.released.length, deliveries,
+      duplicates, ignored, refused, ...more};
   }
 
   geostation.way = {follow, figures, tree, path, deliveries, end, total, packetOf};

@@ -136,7 +136,7 @@
         take(run.events.station.values[event], rankOf(run, event, area), frame, event);
       }
       for (const note of run.lost.of(frame)) {
-        take(run.notes.station.values[note], LOST, frame, run.frames.giver.values[frame]);
+        take(run.notes.station.values[note], LOST, frame, run.held.sentAfter(frame));
       }
     }
     return found;
@@ -178,13 +178,12 @@
    */
   function isCut(run, send) {
     const late = send.numbers.filter((frame) =>
-      hearing.isPastEnd(run, run.frames.giver.values[frame]));
+      run.held.isSent(frame) && hearing.isPastEnd(run, frame));
     return late.some((frame) => {
-      const event = run.frames.giver.values[frame];
       const stations = run.notes.station.values;
       const lost = new Set(Array.from(run.lost.of(frame), (note) => stations[note]));
       return run.stations.some((_, station) =>
-        !lost.has(station) && hearing.isNear(run, station, event));
+        !lost.has(station) && hearing.isNear(run, station, frame));
     });
   }
 
@@ -197,8 +196,9 @@
   function lostNear(run, send, station) {
     if (run.air?.loss === 0) return undefined;
     for (const frame of send.numbers) {
-      const event = run.frames.giver.values[frame];
-      if (hearing.isInRange(run, station, event)) return {event, frame};
+      if (hearing.isInRange(run, station, frame)) {
+        return {event: run.held.sentAfter(frame), frame};
+      }
     }
     return undefined;
   }

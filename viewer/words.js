@@ -20,6 +20,8 @@
     }
     if (event.result === 'accepted' && event.sent !== undefined) words.push('sent');
     if (event.sent !== undefined) words.push(event.sent);
+    if (event.waits !== undefined) words.push('waits', event.waits, 'until', event.until);
+    if (event.cancels !== undefined) words.push('cancels', event.cancels);
     return words.join(' ');
   }
 
@@ -37,14 +39,16 @@
   function partsOfNote(run, number) {
     const {note, station, frame, id} = run.notes.at(number);
     const who = note === 'absent' ? String(id) : run.name(station);
-    if (note !== 'lost') return {who, what: note, entry: WHAT[note]};
+    if (frame < 0) return {who, what: note, entry: WHAT[note]};
+    if (note !== 'lost') return {who, what: `${note} ${frame}`, entry: WHAT[note]};
     const giver = run.events.station.values[run.frames.giver.values[frame]];
     const from = giver === undefined ? '' : `sent by station ${run.name(giver)}`;
     return {who, what: `lost ${frame}`, entry: from};
   }
 
   const WHAT = {came: 'present from now on', left: 'away from now on',
-    absent: 'away: its event isn’t run'};
+    absent: 'away: its event isn’t run', released: 'sends the frame that it held',
+    dropped: 'doesn’t send the frame that it held'};
 
   /** @param {import('./run.js').Run} run @param {number} number of a note */
   function ofNote(run, number) {

@@ -160,13 +160,16 @@ class Message(NamedTuple):
 
 
 class Packet(NamedTuple):
-    """A packet as its source sent it. A beacon or an shb has no number and no area."""
+    """A packet as its source sent it. A beacon or an shb has no number and no area, and nothing is
+    said of its traffic class and its most hops."""
 
     kind: str
     source: Vector
     message: Message | None = None
     number: int | None = None
     area: Area | None = None
+    tc: int | None = None
+    most_hops: int | None = None
 
 
 class Frame(NamedTuple):
@@ -176,6 +179,42 @@ class Frame(NamedTuple):
     sender: int
     hops: int
     packet: Packet
+
+    def is_copy_of(self, held: Frame, own: int) -> bool:
+        """Whether it is a held frame, sent to all by another station than this one."""
+        same = self._replace(sender=held.sender) == held
+        return same and self.to == BROADCAST and self.sender != own
+
+
+MOST_HELD = 64
+
+
+class Rule(NamedTuple):
+    """How long a station waits that contends, in milliseconds; how many copies cancel a frame."""
+
+    longest: int = 100
+    shortest: int = 1
+    metres: int = 1000
+    copies: int = 2
+
+    def wait(self, square: int | None, tie: int) -> int:
+        """The wait by the square of the distance of the sender in centimetres, where it is known."""
+        span = self.longest - self.shortest
+        if square is None:
+            return self.longest - tie % (quot(span, 2) + 1)
+        reach = 100 * self.metres
+        return self.longest - max(k for k in range(span + 1) if (k * reach) ** 2 <= span**2 * square)
+
+
+@dataclass
+class Held:
+    """A frame that a station holds, by its number, and who sent copies of it."""
+
+    station: int
+    number: int
+    frame: Frame
+    due: int
+    senders: set[int] = field(default_factory=set)
 
 
 @dataclass
@@ -240,6 +279,9 @@ class Entry:
     word: str
     handed: Message | None = None
     frame: Frame | None = None
+    # Until when the frame waits, where it does, and the numbers of the frames that are cancelled.
+    until: int | None = None
+    cancels: list[int] = field(default_factory=list)
 
 
 @dataclass
@@ -252,6 +294,18 @@ class Station:
     number: int = 0
     beacon_from: int = 0
     ports: set[int] = field(default_factory=set)
+    contends: bool = False
+
+    def due(self, rule: Rule, now: int, frame: Frame) -> int | None:
+        """Until when it holds what it sends on of a frame that it accepted, where it contends and
+        stands in the area of a geobroadcast."""
+        packet, own = frame.packet, self.vector.place
+        if not self.contends or packet.kind != "gbc" or not packet.area.holds(own):
+            return None
+        known = [s.vector for s in self.table.live(now).values() if s.vector.mid == frame.sender]
+        is_known = known and known[0].pai
+        square = squared_distance(own, known[0].place) if is_known else None
+        return now + rule.wait(square, self.vector.mid + packet.number)
 
     def call(self, now: int, keys: dict, air: list[Frame]) -> Entry:
         """Does what an event says. Where it isn't refused it sets the clock."""
@@ -306,7 +360,9 @@ class Station:
         if keys["hops"] == 0:
             raise Refused("S7")
         to = choose(self.table, now, self.vector.place, area, None)
-        packet = Packet(keys["do"], self.vector, message, self.number, area)
+        packet = Packet(
+            keys["do"], self.vector, message, self.number, area, keys["tc"], keys["hops"]
+        )
         self.number = (self.number + 1) % 65536
         return self.originate(now, to, keys["hops"], packet)
 
@@ -555,6 +611,13 @@ class World:
         # The capacity of each full table that refused a packet.
         self.full: list[int] = []
         self.expected: list[dict] = scenario.get("expect", [])
+        # Whether stations contend that say nothing of it, those of rows, and any station.
+        contend = self.air is not None and self.air.get("contention", False)
+        self.rows_contend = self.air is not None and self.making.get("contention", contend)
+        for station, keys in zip(self.stations, scenario.get("station", [])):
+            station.contends = self.air is not None and keys.get("contention", contend)
+        self.has_contention = any(station.contends for station in self.stations)
+        self.has_contention |= moves is not None and self.rows_contend
 
     def run(self) -> Iterator[Step]:
         """The events of the run, each with its entry, and its notes, done as they are asked for."""
@@ -608,11 +671,12 @@ class World:
         )
         table = Table(self.making.get("capacity", 1024), self.making.get("remember", 8))
         self.known[row.id] = len(self.stations)
-        self.stations.append(Station(vector, table))
+        self.stations.append(Station(vector, table, contends=self.rows_contend))
 
 
-# What comes first of one moment: rows, leaves, the scenario's events, and then the air's own.
-ROWS, LEAVES, EVENTS, OWNS = range(4)
+# What comes first of one moment: rows, leaves, the scenario's events, then the air's own, and last
+# the frames that are released.
+ROWS, LEAVES, EVENTS, OWNS, RELEASES = range(5)
 
 
 class AirRun:
@@ -627,6 +691,11 @@ class AirRun:
         self.order = itertools.count()
         self.greatest = max((event["at"] for event in world.events), default=0)
         self.of_file = len(world.events)
+        keys = ("contention_max", "contention_min", "contention_range", "contention_copies")
+        usual = Rule()
+        self.rule = Rule(*(air.get(key, number) for key, number in zip(keys, usual)))
+        # In the order in which they were held.
+        self.held: list[Held] = []
 
     def put(self, event: dict, own: str | int | None = None) -> None:
         heapq.heappush(self.waiting, (event["at"], next(self.order), event, own))
@@ -708,6 +777,9 @@ class AirRun:
                 moments.append((leave[0], LEAVES))
             if first is not None:
                 moments.append((first[0], EVENTS if first[1] < self.of_file else OWNS))
+            held = min(self.held, key=lambda held: held.due, default=None)
+            if held is not None and held.due <= LAST_MOMENT:
+                moments.append((held.due, RELEASES))
             if not moments or min(moments)[0] > self.until(row):
                 self.world.undelivered = self.undelivered()
                 return
@@ -717,6 +789,10 @@ class AirRun:
                 row = self.world.next_row()
             elif kind == LEAVES:
                 yield from self.leave(now, leave[1])
+            elif kind == RELEASES:
+                self.held.remove(held)
+                yield Note(now, held.station, f"released {held.number}")
+                yield from self.spread(held.station, now, held.number)
             else:
                 _, order, event, own = heapq.heappop(self.waiting)
                 yield from self.run_event(now, event, own, order)
@@ -766,20 +842,53 @@ class AirRun:
         """An event of the world, and who hears its frame. Returns whether it was refused. An event
         of the scenario has its number there as its order."""
         world, station, now = self.world, event["station"], event["at"]
-        is_heard = station in world.present
         entry = world.do(event)
+        dropped = self.contend(event, entry)
         if order is not None and order < self.of_file:
             world.note_refusal(order, event, entry)
         yield Done(event, entry)
-        if entry.frame is not None and is_heard:
-            at, frame = now + self.air.get("delay", 1), len(world.frames) - 1
-            for hearer in self.hearers(station, self.air["range"]):
-                if self.draws.draw(100) < self.air.get("loss", 0):
-                    yield Note(now, hearer, f"lost {frame}")
-                else:
-                    yield Hidden(now, hearer, heard=frame)
-                    self.put({"station": hearer, "at": at, "do": "deliver", "frame": frame})
+        for number in dropped:
+            yield Note(now, station, f"dropped {number}")
+        if entry.frame is not None and entry.until is None:
+            yield from self.spread(station, now, len(world.frames) - 1)
         return entry.word.startswith("refused")
+
+    def spread(self, station: int, now: int, frame: int) -> Iterator[Step]:
+        """Who hears a frame that goes out of a station. Of one that is absent nobody does."""
+        if station not in self.world.present:
+            return
+        at = now + self.air.get("delay", 1)
+        for hearer in self.hearers(station, self.air["range"]):
+            if self.draws.draw(100) < self.air.get("loss", 0):
+                yield Note(now, hearer, f"lost {frame}")
+            else:
+                yield Hidden(now, hearer, heard=frame)
+                self.put({"station": hearer, "at": at, "do": "deliver", "frame": frame})
+
+    def contend(self, event: dict, entry: Entry) -> list[int]:
+        """What a station holds after an event. Returns the numbers of the frames that it drops."""
+        world, number = self.world, event["station"]
+        if entry.word.startswith("refused"):
+            return []
+        station, own = world.stations[number], [h for h in self.held if h.station == number]
+        if entry.word == "restarted":
+            self.held = [held for held in self.held if held.station != number]
+            return [held.number for held in own]
+        if event["do"] != "deliver":
+            return []
+        heard = world.frames[event["frame"]]
+        if entry.word == "ignored duplicate":
+            for held in own:
+                if heard.is_copy_of(held.frame, station.vector.mid):
+                    held.senders.add(heard.sender)
+            entry.cancels = [h.number for h in own if len(h.senders) >= self.rule.copies]
+            self.held = [held for held in self.held if held.number not in entry.cancels]
+        elif entry.frame is not None and len(own) < MOST_HELD:
+            entry.until = station.due(self.rule, event["at"], heard)
+            if entry.until is not None:
+                last = len(world.frames) - 1
+                self.held.append(Held(number, last, entry.frame, entry.until))
+        return []
 
     def come(self, station: int, now: int) -> Iterator[Note]:
         """A station is present from now on: its first tick and sends, where none waits."""
@@ -839,6 +948,9 @@ def watched(world: World, sends: list[Send]) -> Iterator[Step]:
     number = 0
     for step in world.run():
         yield step
+        if isinstance(step, Note) and step.words.startswith("released "):
+            send, _ = origins[int(step.words.split()[1])]
+            send.frames += 1
         if not isinstance(step, Done):
             continue
         event, entry = step
@@ -855,7 +967,7 @@ def watched(world: World, sends: list[Send]) -> Iterator[Step]:
         if gave:
             origins.append((send, hops + 1))
         if send is not None:
-            send.frames += gave
+            send.frames += gave and entry.until is None
             if entry.handed is not None:
                 send.hops = max(send.hops, hops)
                 send.first.setdefault(event["station"], event["at"])
@@ -882,7 +994,11 @@ def lines(run: Iterator[Step], world: World, notes: bool) -> Iterator[str]:
             words += ["port", port, "info", info, payload.hex() or "-"]
         if entry.frame is not None:
             sent = len(world.frames) - 1
+            held = ["waits", sent, "until", entry.until]
             words += [sent] if entry.word == "sent" else ["sent", sent]
+            words = words if entry.until is None else words[:-2] + held
+        if entry.cancels:
+            words += ["cancels", ",".join(map(str, entry.cancels))]
         yield " ".join(str(word) for word in words)
 
 
@@ -896,13 +1012,19 @@ def summary(run: Iterator[Step], world: World, sends: list[Send]) -> Iterator[st
                 gave, handed = entry.frame is not None, entry.handed is not None
                 is_duplicate = entry.word == "ignored duplicate"
                 word = "duplicates" if is_duplicate else entry.word.split()[0]
-                total.update({"events": 1, "frames": gave, "deliveries": handed, word: 1})
+                total.update({"events": 1, "deliveries": handed, word: 1})
+                total["frames"] += gave and entry.until is None
+                total["held"] += entry.until is not None
+                total["cancelled"] += len(entry.cancels)
+            elif isinstance(step, Note):
+                total["frames"] += step.words.startswith("released ")
     except BadRow as row:
         bad = row
     yield from (send.line() for send in sends)
     if bad is not None:
         raise bad
     names = ["events", "frames", "deliveries", "duplicates", "ignored", "refused"]
+    names += ["held", "cancelled"] if world.has_contention else []
     counts = " ".join(f"{name} {total[name]}" for name in names)
     full = f" full {len(world.full)}" if world.air is not None and world.full else ""
     yield f"total {counts}{full}"

@@ -40,6 +40,8 @@ HEADS = {
     "ignored,refused,full,lost,busy,busiest",
     "load": "second,stations,frames,octets,busy_p50,busy_p95,busy_most,peak",
 }
+# Two more columns of a run in which any station contends.
+MORE = {"sends": ",held,cancelled", "stations": ",held,cancelled", "load": ""}
 
 
 def frame_octets(packet: air.Packet) -> int:
@@ -68,8 +70,12 @@ class Happened:
     do: str = ""
     entry: str = ""
     is_handed: bool = False
-    # The frame that was given, delivered, heard or lost, and the octets of one that was given.
+    # The frame that was given, delivered, heard or lost, and the octets of one that was given or
+    # released.
     gave: int | None = None
+    # Whether that is held, and which frames are cancelled.
+    is_held: bool = False
+    cancels: list[int] = field(default_factory=list)
     frame: int | None = None
     octets: int = 0
     # Whether the station stands in the area of the packet that was delivered.
@@ -83,6 +89,7 @@ class Run:
     """What happened in a run, and its stations: id, address, capacity, present at the start."""
 
     is_air: bool
+    has_contention: bool = False
     happened: list[Happened] = field(default_factory=list)
     stations: list[tuple[str, int, int, bool]] = field(default_factory=list)
     is_whole: bool = True
@@ -100,7 +107,8 @@ def run_scenario(scenario: dict, moves: bytes | None) -> Run | None:
         world = air.World(scenario, moves)
     except air.BadRow:
         return None
-    run = Run(world.air is not None, expected=scenario.get("expect", []))
+    expected = scenario.get("expect", [])
+    run = Run(world.air is not None, world.has_contention, expected=expected)
     for number, station in enumerate(world.stations):
         run.add_station(station, "", number in world.present)
     count = 0
@@ -115,17 +123,21 @@ def run_scenario(scenario: dict, moves: bytes | None) -> Run | None:
             elif isinstance(step, air.Hidden):
                 run.happened.append(Happened("heard", step.moment, step.station, frame=step.heard))
             else:
-                run.happened.append(of_note(step))
+                run.happened.append(of_note(world, step))
     except air.BadRow:
         run.is_whole = False
     run.undelivered = world.undelivered
     return run
 
 
-def of_note(note: air.Note) -> Happened:
+def of_note(world: air.World, note: air.Note) -> Happened:
     word, *what = note.words.split(" ", 1)
     station = note.station if isinstance(note.station, int) else None
-    return Happened(word, note.moment, station, frame=int(what[0]) if word == "lost" else None)
+    one = Happened(word, note.moment, station)
+    if word in ("lost", "released", "dropped"):
+        one.frame = int(what[0])
+        one.octets = frame_octets(world.frames[one.frame].packet)
+    return one
 
 
 def of_event(world: air.World, done: air.Done, number: int) -> Happened:
@@ -134,6 +146,7 @@ def of_event(world: air.World, done: air.Done, number: int) -> Happened:
     one.is_handed = entry.handed is not None
     if entry.frame is not None:
         one.gave, one.octets = len(world.frames) - 1, frame_octets(entry.frame.packet)
+    one.is_held, one.cancels = entry.until is not None, entry.cancels
     if one.do == "deliver" and entry.word not in NO_DELIVERY:
         one.frame = event["frame"]
         area = world.frames[one.frame].packet.area
@@ -199,7 +212,9 @@ class Numbers:
     def station_count(self, one: Happened) -> list[str]:
         """The columns of `--stations` that an event counts in."""
         names = []
-        if one.gave is not None:
+        if one.is_held:
+            names.append("held")
+        elif one.gave is not None:
             names.append("relayed" if one.do == "deliver" else "sent")
         if one.do == "deliver" and one.entry not in NO_DELIVERY:
             names.append("heard")
@@ -250,7 +265,24 @@ class Numbers:
         """How much a delivery counts that the end of the run cut off."""
         return 1
 
+    def is_kept(self, one: Happened) -> bool:
+        """Whether the frame that an event gave doesn't go out with it."""
+        return one.is_held
+
+    def released(self) -> int:
+        """How much a frame counts that was held and goes out."""
+        return 1
+
     # ---- rows
+
+    def goes_out(self, one: Happened) -> bool:
+        """Whether a frame goes out with an event or a note."""
+        is_event = one.word == "event" and one.gave is not None and not self.is_kept(one)
+        return is_event or one.word == "released"
+
+    def more(self) -> list[str]:
+        """The columns that a run has in which any station contends."""
+        return ["held", "cancelled"] if self.run.has_contention else []
 
     def quantile(self, numbers: list[int], hundredths: int) -> int:
         place = self.place_of(hundredths, len(numbers))
@@ -268,6 +300,10 @@ class Numbers:
                 send, _ = carried[one.frame]
                 send.counts["lost"] += 1
                 send.came(one.station, "lost")
+            if one.word == "released" and one.frame in carried:
+                carried[one.frame][0].frames += self.released()
+            for frame in one.cancels:
+                carried[frame][0].counts["cancelled"] += 1
             if one.word != "event":
                 continue
             if one.do in ("gbc", "gac") and one.gave is not None:
@@ -282,7 +318,8 @@ class Numbers:
                 else:
                     send.came(one.station, self.reason(one))
                 if one.gave is not None:
-                    send.frames += 1
+                    send.frames += not self.is_kept(one)
+                    send.counts["held"] += one.is_held
                     carried[one.gave] = send, relays + 1
         for frame in self.run.undelivered:
             if frame in carried:
@@ -294,10 +331,11 @@ class Numbers:
         for send in self.sends():
             one, times = send.event, list(send.firsts.values())
             counts = [send.counts[name] for name in ("heard", "lost", "duplicates", "full")]
+            more = [send.counts[name] for name in self.more()]
             rows.append([
                 one.number, one.moment, one.station, self.kind(one.do), one.port,
                 len(one.audience), self.reached(send), len(times), send.frames, *counts,
-                send.hops, min(times, default=0), *self.spread(times),
+                send.hops, min(times, default=0), *self.spread(times), *more,
             ])  # fmt: skip
         return rows
 
@@ -317,7 +355,8 @@ class Numbers:
         for one in self.run.happened:
             if one.word == "event" and one.gave is not None:
                 times[one.gave] = air_time(one.octets)
-                busy.append((one.station, one.moment, times[one.gave]))
+            if self.goes_out(one):
+                busy.append((one.station, one.moment, air_time(one.octets)))
             elif one.word in ("heard", "lost") and self.keeps_busy(one):
                 busy.append((one.station, one.moment, times[one.frame]))
         return busy
@@ -327,8 +366,12 @@ class Numbers:
         for one in self.run.happened:
             if one.word == "event" and one.entry != "refused M4":
                 counts[one.station].update(self.station_count(one))
+                counts[one.station]["cancelled"] += len(one.cancels)
+            if self.goes_out(one):
                 counts[one.station]["octets"] += one.octets
-            elif one.word == "lost":
+            if one.word == "released":
+                counts[one.station]["relayed"] += 1
+            if one.word == "lost":
                 counts[one.station]["lost"] += 1
         intervals = [Counter() for _ in self.run.stations]
         for station, moment, time in self.busy():
@@ -339,6 +382,7 @@ class Numbers:
         for number, (ident, address, _, _) in enumerate(self.run.stations):
             row = [counts[number][name] for name in names]
             row.append(max(intervals[number].values(), default=0))
+            row += [counts[number][name] for name in self.more()]
             times = self.times(self.spans()[number])
             rows.append([number, quoted(ident), f"{address:016x}", *times, *row])
         return rows
@@ -354,7 +398,7 @@ class Numbers:
     def load_rows(self) -> list[list]:
         given: dict[int, list[int]] = {}
         for one in self.run.happened:
-            if one.word == "event" and one.gave is not None:
+            if self.goes_out(one):
                 given.setdefault(one.moment // 1000, []).append(one.octets)
         busy: Counter = Counter()
         dense: dict[int, Counter] = {}
@@ -515,6 +559,16 @@ class HopsFromNone(Numbers):
         return hops
 
 
+class HeldFramesSentAtOnce(Numbers):
+    def is_kept(self, one):
+        return False
+
+
+class ReleasedFramesNotCounted(Numbers):
+    def released(self):
+        return 0
+
+
 class CutOffTakenForUnheard(Numbers):
     def cut_off(self):
         return 0
@@ -526,7 +580,7 @@ MISTAKES = Numbers.__subclasses__()
 # ---- comparison
 
 
-def read_rows(folder: Path, name: str) -> list[list[str]] | None:
+def read_rows(folder: Path, name: str, has_contention: bool) -> list[list[str]] | None:
     """The rows of a file that the program wrote, without those of warnings that were not sent. None
     if the file isn't there or has another head."""
     file = folder / name
@@ -534,7 +588,7 @@ def read_rows(folder: Path, name: str) -> list[list[str]] | None:
         return None
     head, *lines = file.read_text().split("\n")
     rows = [line.split(",") for line in lines[:-1] if not line.startswith(",")]
-    return rows if head == HEADS[name] else None
+    return rows if head == HEADS[name] + MORE[name] * has_contention else None
 
 
 def read_missed(text: str) -> list[list]:
@@ -561,7 +615,7 @@ def read_cut_off(objects: list[dict]) -> list[int]:
     return [int(re.search(r"(\d+) deliver", reason)[1]) for reason in cut]
 
 
-def read_written(folder: Path) -> dict[str, list]:
+def read_written(folder: Path, has_contention: bool) -> dict[str, list]:
     """The numbers that the program wrote."""
     objects = [json.loads(line) for line in (folder / "missed.json").read_text().splitlines()]
     written = {
@@ -573,7 +627,7 @@ def read_written(folder: Path) -> dict[str, list]:
         "table_full": [keys["total"].get("table_full", 0) for keys in objects if "total" in keys],
     }
     for name in HEADS:
-        written[name] = read_rows(folder, name)
+        written[name] = read_rows(folder, name, has_contention)
     return written
 
 
@@ -619,7 +673,7 @@ def main(arguments: list[str]) -> int:
     folder, scenario, *moves = arguments[is_tested:]
     with open(scenario, "rb") as file:
         run = run_scenario(tomllib.load(file), Path(moves[0]).read_bytes() if moves else None)
-    written = read_written(Path(folder))
+    written = read_written(Path(folder), run is not None and run.has_contention)
     if run is None:
         return int(written.pop("status") != [1, 1] or any(rows for rows in written.values()))
     right = Numbers(run).all()

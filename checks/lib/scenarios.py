@@ -8,7 +8,9 @@ Each is drawn from its number alone:
 - as many are moves-N.toml, each with a file of moves, moves-N.csv;
 - a fourth of COUNT are crowd-N.toml: many stations in each other's hearing, small tables, stations
   that leave and come back;
-- as many are plain-N.toml, without an air: frames are delivered by events, some of them late.
+- as many are plain-N.toml, without an air: frames are delivered by events, some of them late;
+- COUNT are contend-N.toml, in which stations contend, and a fourth of COUNT are
+  contend-moves-N.toml, each with contend-moves-N.csv.
 """
 
 import json
@@ -294,6 +296,97 @@ class PlainMaker(Maker):
         return "\n".join(self.parts)
 
 
+def contention_keys(draw):
+    """The keys of contention of an air, some of them left out."""
+    longest = draw.choice([None, 1, 3, 20, 100, 1000])
+    shortest = draw.choice([None, None, 0, 1, longest or 50])
+    return {
+        "contention": draw.choice([True, True, None, False]),
+        "contention_max": longest,
+        "contention_min": min(shortest, longest or 100) if shortest is not None else None,
+        "contention_range": draw.choice([None, 1, 200, 500, 65535]),
+        "contention_copies": draw.choice([None, 1, 1, 2, 3]),
+    }
+
+
+class ContendMaker(Maker):
+    """A scenario whose stations contend, with packets that most of them receive."""
+
+    def __init__(self, number):
+        super().__init__(number)
+        self.many = self.coarse = False
+        self.home, self.spread, self.start = (0, 0), 20000, self.draw.choice([0, 0, 2**62 - 4000])
+        self.beacons = self.start == 0 and self.rarely(3)
+        self.sends = self.start == 0 and self.rarely(6)
+        self.comes = self.rarely(2)
+        self.stations = self.draw.randint(4, 16)
+        self.span = self.draw.choice([300, 2000, 4000])
+        self.delay = self.draw.choice([None, None, 0, 1, 7, 40])
+        # Tables that forget a packet, so that it is accepted and held again; and never full ones.
+        self.forgetful, self.ample = self.rarely(3), not self.rarely(4)
+        # Few places, so that stations wait equally long.
+        self.spots = [self.place() for _ in range(self.draw.choice([2, 5, 40]))]
+
+    def add_air(self):
+        late = min(self.moment(self.span + 300), 2**62)
+        self.add("[air]", {
+            "range": self.draw.choice([150, 300, 400]),
+            "delay": self.delay,
+            "loss": self.draw.choice([None, None, 0, 10, 40]),
+            "seed": self.draw.randrange(2**63),
+            "beacons": True if self.beacons else None,
+            "until": late if self.rarely(3) else None,
+            **contention_keys(self.draw),
+        })  # fmt: skip
+
+    def add_station(self, number):
+        lat, lon = self.draw.choice(self.spots)
+        self.places.append((lat, lon))
+        self.add("[[station]]", {
+            "address": f"14000200000000{number:02x}",
+            "lat": lat,
+            "lon": lon,
+            "capacity": None if self.ample else self.draw.choice([None, 2, 4]),
+            "remember": self.draw.choice([1, 2]) if self.forgetful else None,
+            "absent": True if self.comes and self.rarely(6) else None,
+            "contention": self.draw.choice([None, None, None, True, False]),
+        })  # fmt: skip
+
+    def area(self):
+        alat, alon = self.draw.choice(self.places)
+        a = self.draw.choice([150, 600, 600])
+        return {"shape": "circle", "alat": alat, "alon": alon, "a": a, "b": 0, "angle": 0}
+
+    def make(self):
+        self.add_air()
+        for number in range(self.stations):
+            self.add_station(number)
+        for station in range(self.stations):
+            if not self.rarely(4):
+                self.add_event("open", at=self.start, station=station, port=2002)
+            if not self.rarely(3):
+                lat, lon = self.places[station]
+                keys = {**self.keys("move"), "lat": lat, "lon": lon, "pai": not self.rarely(5)}
+                self.add_event("move", at=self.start, station=station, **keys)
+        if self.sends:
+            self.add_every()
+        words = {"gbc": 20, "gac": 4, "move": 12, "deliver": 14, "restart": 5, "shb": 3, "close": 2}
+        if self.comes:
+            words["leave"] = 6
+        burst = self.draw.choice([0, 0, 70])
+        for do in self.draw.choices([*words], [*words.values()], k=self.draw.randint(15, 70)):
+            self.add_event(do, **self.keys(do) if do != "leave" else {})
+        # Held frames, and others, come to stations by events too, to their holders among them.
+        for _ in range(self.draw.choice([0, 30, 60])):
+            at = self.start + self.draw.randint(0, self.span // 3)
+            self.add_event("deliver", at=at, frame=self.draw.randrange(10))
+        # One source fills the places of a station.
+        at = self.moment(self.span)
+        for _ in range(burst):
+            self.add_event("gbc", at=at, station=0, **{**self.keys("gbc"), "hops": 3})
+        return "\n".join(self.parts)
+
+
 # What a file of moves calls its columns after SUMO, and how many decimals these have of the own
 # unit.
 SUMO = {
@@ -447,6 +540,40 @@ class MovesMaker(Maker):
         lines.insert(place, line)
 
 
+class ContendMovesMaker(MovesMaker):
+    """A scenario that is run with moves, in which stations contend."""
+
+    def __init__(self, number):
+        super().__init__(number)
+        self.coarse = False
+        self.home, self.spread, self.span = (0, 0), 20000, 4000
+        self.places = [self.place()]
+        self.ids = self.draw.sample(IDS, self.draw.randint(3, 7))
+        self.delay = self.draw.choice([None, 0, 1, 20])
+        self.ample, self.forgetful = True, False
+
+    def add_air(self):
+        self.add("[air]", {
+            "range": self.draw.choice([200, 400]),
+            "delay": self.delay,
+            "loss": self.draw.choice([None, 0, 20]),
+            "seed": self.draw.randrange(2**63),
+            "beacons": True if self.rarely(3) else None,
+            "until": self.moment(self.span + 500) if self.rarely(3) else None,
+            **contention_keys(self.draw),
+        })  # fmt: skip
+
+    def area(self):
+        alat, alon = self.place()
+        a = self.draw.choice([200, 600, 600])
+        return {"shape": "circle", "alat": alat, "alon": alon, "a": a, "b": 0, "angle": 0}
+
+    def add_moves(self):
+        super().add_moves()
+        own = self.draw.choice([None, None, "true", "false"])
+        self.parts[-1] += f"contention = {own}\n" if own else ""
+
+
 def expectations(name):
     """What is expected of the run of a scenario, by draws of its own. Most have none."""
     draw, parts = random.Random(name), [""]
@@ -467,6 +594,10 @@ for number in range(count):
     maker = MovesMaker(number)
     write_scenario(folder, f"moves-{number}", maker.make())
     (folder / f"moves-{number}.csv").write_text(maker.csv(), newline="")
+    write_scenario(folder, f"contend-{number}", ContendMaker(number).make())
 for number in range(-(-count // 4)):
+    maker = ContendMovesMaker(number)
+    write_scenario(folder, f"contend-moves-{number}", maker.make())
+    (folder / f"contend-moves-{number}.csv").write_text(maker.csv(), newline="")
     write_scenario(folder, f"crowd-{number}", CrowdMaker(number).make())
     write_scenario(folder, f"plain-{number}", PlainMaker(number).make())

@@ -272,6 +272,12 @@ class Sweeps(Folder):
             (again / "sends.csv").read_text(), (self.folder / "sends.csv").read_text()
         )
 
+    def test_the_record_has_the_frames_that_were_held(self):
+        runs = self.sweep(contention=[False, True], loss=[0, 97, 98])
+        held = [(run.record["held"], run.record["cancelled"]) for run in runs]
+        # One station of ten is missed by the seed. A run of loss 98 does not go to its end.
+        self.assertEqual(held, [(0, 0), (0, 0), (None, None), (9, 8), (0, 0), (None, None)])
+
     @needs_toml
     def test_a_path_changes_a_copy_of_the_scenario(self):
         runs = self.sweep(**{"event.0.hops": [1, 5], "moves.capacity": 64})
@@ -373,6 +379,9 @@ class Sweeps(Folder):
             ({"loss": [0, 0]}, "given twice"),
             ({"loss": 0.5}, "not a whole number"),
             ({"beacons": 1}, "not true or false"),
+            ({"contention": 1}, "not true or false"),
+            ({"contention_copies": True}, "not a whole number"),
+            ({"contention_copy": 1}, "did you mean contention_copies"),
             ({"penetration": 101}, "not a percentage"),
             ({"penetration": [0.05, 1]}, "0.05 is below 1 %: write 5 for 5 % of the vehicles"),
             ({"scenario": "a.toml"}, "list the files"),
@@ -448,6 +457,22 @@ class Summaries(Folder):
         self.assertEqual([row["mean"] for row in rows], [5, 10])
         rows = runs.rows("stations", {"loss": 20})
         self.assertEqual([row["id"] for row in rows], 3 * ["a", "b"])
+
+    def test_frames_that_were_held_have_metrics(self):
+        runs = self.sweep(contention=[False, True], loss=[0, 97], seeds=3)
+        # By seed 9, 8 and 10 of ten. A loss of 97 sends nothing, so no frame could be held.
+        held = [row["held"] for row in runs.rows(where={"contention": True})]
+        self.assertEqual(held, [9, 8, 10, None, None, None])
+        cancelled = [row["cancelled"] for row in runs.rows(where={"contention": False})]
+        self.assertEqual(cancelled, [0, 0, 0, None, None, None])
+        rows = runs.summary_rows("cancelled", by="contention", where={"loss": 0})
+        means = [(row["contention"], row["mean"]) for row in rows]
+        self.assertEqual(means, [(False, 0), (True, 8)])
+        rows = runs.summary_rows("held", by="contention", where={"loss": 0}, table="stations")
+        self.assertEqual([row["mean"] for row in rows], [0, 5])
+        # Without contention there are no such columns.
+        simple = self.sweep(loss=[0, 20], out=self.folder / "simple")
+        self.assertNotIn("held", simple.rows()[0])
 
     def test_a_mean_over_other_parameters_is_refused(self):
         runs = self.sweep(loss=[0, 20], range=[250, 400])

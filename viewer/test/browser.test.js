@@ -12,6 +12,7 @@ const {after, before, beforeEach, test} = require('node:test');
 const {pathToFileURL} = require('node:url');
 const {Page, findBrowser} = require('./devtools.js');
 const {TOP} = require('./load.js');
+const contending = require('./contending.js');
 const samples = require('./samples.js');
 const {elementOf, whole} = require('./whole.js');
 
@@ -533,6 +534,76 @@ test('what was lost is listed and drawn at its sending', async () => {
   assert.match(await text('#present'), /^Note, 6000 ms, station 1: lost 28/);
   await page.press('ArrowLeft');
   assert.match(await text('#present'), /^Event 61, 6000 ms, station 0: gbc, sent 28$/);
+  noFault();
+});
+
+test('a ring while a station holds a frame, a crossed one where it was cancelled', async () => {
+  const file = path.join(room, 'contending.jsonl');
+  fs.writeFileSync(file, contending.textOf(contending.CANCELLED));
+  await show(file);
+  assert.match(await text('#totals'), / · 2 frames · .* · 2 held · 1 cancelled$/);
+  const keys = () => page.value(`['held', 'cancelled'].map((id) =>
+    document.getElementById(id).hidden ? '' : document.getElementById(id).textContent.trim())`);
+  assert.deepEqual(await keys(), ['holds a frame', 'cancelled']);
+  /** Each ring: the station around which it lies, and whether it is crossed. */
+  const rings = () => page.value(`(() => {
+    const at = (shape) => shape.getAttribute('transform');
+    const stations = [...document.querySelectorAll('.station')];
+    return [...document.querySelectorAll('.hold[transform]')]
+      .filter(({style}) => style.display !== 'none')
+      .map((ring) => [Number(stations.find((one) => at(one) === at(ring)).dataset.station),
+        /M.*M/.test(ring.getAttribute('d')), ring.getAttribute('class')]).sort();
+  })()`);
+  // The run is opened at the last delivery of its warning, which cancels.
+  assert.match(await text('#present'), /^Event 7, .* ignored duplicate cancels 1$/);
+  assert.deepEqual(await rings(), [[1, true, 'hold cancelled']]);
+  assert.deepEqual(await rows('tree'), ['station 0 sent it +0 ms',
+    'station 1 accepted, cancelled +1 ms', 'station 2 accepted, forwarded, 1 duplicate +1 ms']);
+  await page.value('geostation.app.go(5)');
+  assert.deepEqual(await rings(), [[1, false, 'hold held'], [2, false, 'hold held']]);
+  assert.equal(await text('#packet .frame + .frame h3'), 'Forwarded frame');
+  assert.match(await text('#packet .frame + .frame .fate'),
+    /^Frame 2, held by station 2 at 1001 ms and sent at 1062 ms: 0 accepted it, 2 ignored it/);
+  await page.value('geostation.app.go(4)');
+  assert.equal(await text('#packet .frame + .frame h3'), 'Held frame');
+  assert.match(await text('#packet .frame + .frame .fate'),
+    /^Frame 1, held by station 1 at 1001 ms and cancelled at 1063 ms: 0 accepted it/);
+  await page.press('ArrowRight');
+  await page.press('ArrowRight');
+  assert.equal(await text('#present'),
+    'Note, 1062 ms, station 2: released 2, sends the frame that it held');
+  assert.deepEqual(await rings(), [[1, false, 'hold held']]);
+  await page.press('End');
+  const saved = await page.value('geostation.saving.textOf(geostation.app.map, "")');
+  const ringed = saved.match(/<path[^>]* d="M0 -[^"]*zM[^"]*"[^>]*>/g);
+  assert.equal(ringed.length, 2);
+  assert.ok(ringed.every((ring) => /fill="none" stroke="rgb\(138, 97, 0\)"/.test(
+    ring.replace(/ (d|transform|fill-opacity)="[^"]*"/g, '').replace(/\s+/g, ' '))), ringed[0]);
+  assert.match(saved, />cancelled</);
+  noFault();
+});
+
+test('more than a thousand stations: rings are painted', async () => {
+  const file = path.join(room, 'many.jsonl');
+  const far = Array.from({length: 1000}, (_, i) => JSON.stringify({
+    address: `1400020100${i.toString(16).padStart(6, '0')}`, lat: 60000, lon: 100 * i}));
+  fs.writeFileSync(file, contending.textOf(contending.CANCELLED)
+    .replace('],"air"', `,${far.join(',')}],"air"`));
+  await show(file);
+  assert.equal(await count('.station'), 0);
+  /** How many points have the colour of the rings. */
+  const painted = () => page.value(`(() => {
+    const canvas = document.getElementById('canvas');
+    const {data} = canvas.getContext('2d').getImageData(0, 0, canvas.width, canvas.height);
+    let count = 0;
+    for (let i = 0; i < data.length; i += 4) {
+      if (data[i] === 138 && data[i + 1] === 97 && data[i + 2] === 0) count += 1;
+    }
+    return count;
+  })()`);
+  assert.ok(await painted() > 10);
+  await page.press('Home');
+  assert.equal(await painted(), 0);
   noFault();
 });
 

@@ -9,9 +9,9 @@ const vm = require('node:vm');
 
 const TOP = path.join(__dirname, '..');
 const NAMES = ['dom', 'geo', 'columns', 'events', 'frame', 'secured', 'peek', 'scan', 'line', 'hearing',
-  'presence', 'entries', 'run', 'reading', 'words', 'way', 'why', 'reason', 'clock', 'filter',
+  'presence', 'entries', 'held', 'run', 'reading', 'words', 'way', 'why', 'reason', 'clock', 'filter',
   'tables', 'load', 'shape', 'streets', 'names', 'drawn', 'canvas', 'ground', 'map', 'saving', 'scene',
-  'split', 'files', 'open'];
+  'rows', 'split', 'files', 'open'];
 
 /** @returns {any} the namespace `geostation`, with the parts that are tested by node */
 function load() {

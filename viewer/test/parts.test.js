@@ -221,6 +221,10 @@ test('what is no run is refused with a sentence', async () => {
     [`${HEAD}\n${open.replace('opened"', 'sent","sent":1')}`, /“sent” isn’t 0/],
     [`${HEAD}\n${open.replace('opened"', 'sent","sent":0,"octets":"0"')}`, /“octets”/],
     [`${HEAD}\n${open.replace('opened', 'ignored')}`, /“why”/],
+    [`${HEAD}\n${open.replace('opened"', 'ignored","why":"duplicate","cancels":7')}`, /“cancels”/],
+    [`${HEAD}\n${open.replace('opened"', 'accepted","waits":1,"until":9')}`, /“waits” isn’t 0/],
+    [`${HEAD}\n${open.replace('opened"', 'accepted","waits":0,"until":-9,"octets":""')}`, /“until”/],
+    [`${HEAD}\n{"note":"released","moment":1,"station":0}`, /“frame”/],
     [`${HEAD}\n${open.replace('opened', 'refused')}`, /“code”/],
     [`${HEAD}\n${open.replace('open"', 'deliver"')}`, /“frame”/],
     [`${HEAD}\n${open.replace('open"', 'move"')}`, /position of the move is missing/],
@@ -282,7 +286,7 @@ test('text is as strong as WCAG AA asks, light and dark', () => {
         assert.ok(found >= 4.5, `${ink} on ${ground}: ${found.toFixed(2)}`);
       }
     }
-    for (const line of ['accepted', 'duplicate', 'refused', 'area', 'idle']) {
+    for (const line of ['accepted', 'duplicate', 'refused', 'area', 'idle', 'held']) {
       const found = ratio(look[line], look.map);
       assert.ok(found >= 3, `${line} on the map: ${found.toFixed(2)}`);
     }

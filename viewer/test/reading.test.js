@@ -8,11 +8,13 @@ const fs = require('node:fs');
 const path = require('node:path');
 const test = require('node:test');
 const {load, read} = require('./load.js');
+const contending = require('./contending.js');
 const samples = require('./samples.js');
 
 const {frame, reading} = load();
-const SAMPLES = ['four', 'road', 'loss'].map((name) =>
-  fs.readFileSync(path.join(samples.DATA, `${name}.jsonl`), 'utf8'));
+const CONTENDING = `${contending.textOf(contending.RESTARTED)}\n`;
+const SAMPLES = [...['four', 'road', 'loss'].map((name) =>
+  fs.readFileSync(path.join(samples.DATA, `${name}.jsonl`), 'utf8')), CONTENDING];
 const HEAD = '{"stations":[{"address":"1400020000000001","lat":0,"lon":0}]}';
 
 /** The same lines in a spelling that is left to JSON. @param {string} text */
@@ -28,7 +30,8 @@ function columns(table, names) {
 /** All that was read of a run, texts in place of their numbers. */
 function content({events, notes, frames, stations}) {
   const octets = Array.from({length: frames.length}, (_, i) => [...frames.octets(i)]);
-  return {events: [...events], exact: [...events.exact], sent: columns(frames, ['giver']), octets,
+  return {events: [...events], exact: [...events.exact, ...events.holds.exact],
+    sent: columns(frames, ['giver']), octets,
     notes: Array.from({length: notes.length}, (_, i) => notes.at(i)), stations};
 }
 
@@ -87,9 +90,12 @@ test('lines that JSON alone reads', async () => {
 });
 
 test('whatever octet of a line is another, both readings agree', async () => {
-  const [, road, loss] = SAMPLES.map((text) => text.trimEnd().split('\n'));
+  const cancelling = contending.textOf(contending.CANCELLED);
+  const [, road, loss, restarted, cancelled] = [...SAMPLES, cancelling].map((text) =>
+    text.trimEnd().split('\n'));
   const picked = [[road, '"move"'], [loss, '"port"'], [loss, '"ignored"'], [loss, '"note"'],
-    [loss, '"sent"']];
+    [loss, '"sent"'], [cancelled, '"waits"'], [cancelled, '"cancels"'], [restarted, '"dropped"'],
+    [cancelled, '"released"']];
   const others = ['0', '9', '-', '"', 'f', 'g', '}', ' ', ',', '\u00e9'];
   let agreed = 0;
   for (const [lines, word] of picked) {
@@ -103,7 +109,7 @@ test('whatever octet of a line is another, both readings agree', async () => {
       agreed += 1;
     }
   }
-  assert.ok(agreed > 300, `${agreed}`);
+  assert.ok(agreed > 500, `${agreed}`);
 });
 
 test('a last line without its feed, feeds behind carriage returns', async () => {

@@ -199,7 +199,8 @@ test('stations that rows of moves make: names, presence, a frame that was lost',
   const found = await read(text.join('\n'));
   assert.deepEqual([found.name(0), found.name(1), found.stations[1].born], ['v1', 'v2', 2]);
   assert.deepEqual([0, 1, 5, 6].map((at) => found.isPresent(0, at)), [false, true, true, false]);
-  assert.deepEqual(found.air, {range: 500, delay: 1, loss: 50, beacons: false, until: null});
+  assert.deepEqual(found.air, {range: 500, delay: 1, loss: 50, beacons: false, until: null,
+    contends: false});
   const [sent] = way.follow(found).sends;
   const {inside, reached} = why.judge(found, sent);
   assert.deepEqual([inside, reached, sent.numbers, sent.hops], [[0], [0], [0, 1], 1]);

@@ -11,7 +11,7 @@ const LESS_THAN: &[u8] = b"\\u003c";
 
 /// What is written for the first octets of some.
 #[derive(Clone, Copy, Debug, PartialEq, Eq)]
-pub struct Piece<'a> {
+pub struct Replacement<'a> {
     /// What is written.
     pub octets: &'a [u8],
     /// For how many octets.
@@ -25,22 +25,22 @@ pub struct Piece<'a> {
 /// - `spelled`: what is written for the octets that it takes is their spelling: the sign `<` as
 ///   `\u003c`, any other octet as it is.
 /// - `signs`: no sign `<` is written.
-pub fn first_piece(octets: &[u8]) -> Piece<'_>
+pub fn first_piece(octets: &[u8]) -> Replacement<'_>
     ensures spelled { result.octets.now ≡ spelled (take result.taken octets.now) }
     ensures signs { All (λ octet. octet ≢ 60) result.octets.now }
     ensures within { result.taken ≤ length octets.now }
     ensures moves { 0 < length octets.now → 0 < result.taken }
 {
     match octets.iter().position(|octet| *octet == b'<') {
-        Some(0) => Piece {
+        Some(0) => Replacement {
             octets: LESS_THAN,
             taken: 1,
         },
-        Some(count) => Piece {
+        Some(count) => Replacement {
             octets: &octets[..count],
             taken: count,
         },
-        None => Piece {
+        None => Replacement {
             octets,
             taken: octets.len(),
         },

@@ -29,5 +29,5 @@ mod run;
 mod viewing;
 mod way;
 
-pub use inside::{Inside, Piece, first_piece};
+pub use inside::{Inside, Replacement, first_piece};
 pub use viewing::{Viewing, view_file};

@@ -2,7 +2,7 @@
 
 use crate::fault::PageFault;
 use crate::folder::path_in;
-use crate::part::{Part, part_of};
+use crate::part::{PagePart, part_of};
 use crate::way::{CopyError, Way, copy, fault_of};
 use cmd_reporting::{Fault, Opened, open};
 use cmd_text::lines::Line;
@@ -55,10 +55,10 @@ where
             Err(error) => return Err(PageFault::from(Fault::of_read(&error, way.index))),
         }
         match part_of(page.line.start()) {
-            Part::Run => return Ok(true),
-            Part::Text => way.or_fault(write_line(page.line.start(), out))?,
-            Part::Style(name) => write_element(rt, way, "style", name, out)?,
-            Part::Script(name) => write_element(rt, way, "script", name, out)?,
+            PagePart::Run => return Ok(true),
+            PagePart::Text => way.or_fault(write_line(page.line.start(), out))?,
+            PagePart::Style(name) => write_element(rt, way, "style", name, out)?,
+            PagePart::Script(name) => write_element(rt, way, "script", name, out)?,
         }
     }
     Ok(false)

@@ -7,7 +7,7 @@ const RUN: &[u8] = b"<script type=\"application/jsonl\" id=\"inside\"></script>"
 
 /// What a line of the page stands for.
 #[derive(Clone, Copy)]
-pub(crate) enum Part<'a> {
+pub(crate) enum PagePart<'a> {
     /// Itself.
     Text,
     /// The style in the file of this name.
@@ -19,16 +19,16 @@ pub(crate) enum Part<'a> {
 }
 
 /// What this line of the page stands for.
-pub(crate) fn part_of(line: &[u8]) -> Part<'_> {
+pub(crate) fn part_of(line: &[u8]) -> PagePart<'_> {
     if line == RUN {
-        return Part::Run;
+        return PagePart::Run;
     }
     let style = name_between(line, b"<link rel=\"stylesheet\" href=\"", b"\">");
     let script = name_between(line, b"<script src=\"", b"\"></script>");
     match (style, script) {
-        (Some(name), _) => Part::Style(name),
-        (None, Some(name)) => Part::Script(name),
-        (None, None) => Part::Text,
+        (Some(name), _) => PagePart::Style(name),
+        (None, Some(name)) => PagePart::Script(name),
+        (None, None) => PagePart::Text,
     }
 }
 

@@ -1,6 +1,6 @@
 -- A run over the events of a file, from one step to the next.
 use Rattle.std.proofs.Common.{◌≡◌, ℕ, suc, ◌+◌, ◌≤◌, ◌<◌, List, [], ◌∷◌, ◌++◌, refl, sym, ap, ◌∙◌}
-use Rattle.std.proofs.Common.{subst, arith, length, map, cond, All, false, append-nil, take, Some}
+use Rattle.std.proofs.Common.{subst, arith, length, map, cond, All, false, append-nil, take, Some, None}
 use Rattle.std.specs.Prelude.{slice_get}
 use Rattle.std.specs.List.{AllByRecursion}
 use Rattle.std.specs.List.Sorted.{IsNonDecreasingBy}
@@ -25,7 +25,7 @@ use Rattle.sim_air_model.specs.Timetable.{AirModel, Filed, NoneWaits, Pending, R
 use Rattle.sim_air_model.specs.Timetable.{air_run, at, moment_in, of_file, schedule_all}
 use Rattle.sim_air_model.specs.Timetable.{schedule_first_ticks, schedule_traffic, take_one}
 use Rattle.sim_air_model.proofs.Putting.{schedule_all_above}
-use Rattle.sim_air.specs.AirRun.{IsAirRun, events_in}
+use Rattle.sim_air.specs.AirRun.{events_in}
 use Rattle.sim_air.specs.AirTimed.{IsTimedRun}
 use Rattle.sim_air.specs.Beside.{IsFrom, Rises, beside, rules_beside}
 use Rattle.sim_air.specs.Delivered.{KeepsFrom}
@@ -203,33 +203,17 @@ filed_over rules configs file due last from end counted by run A are_due late_ow
     from_near [] g = tt
     from_near (f ∷ late) g = let le = g.0 in (omega (arith, le, near), from_near late g.1)
 
--- and its events are among what was done
-pub filed_among : (rules : Rules) (configs : List Config) (file due : List Filed)
-    (last from end counted by : ℕ) (run : Run) (A : List Event → List Entry → Type 0)
-    → AreDue file end due → IsMoving false rules configs [] due last from end counted by run A
-    → IsAirRun configs file end run.world A
-filed_among rules configs file due last from end counted by run A are_due h =
-    subst (λ (cs : List Config). IsAirRun cs file end run.world A)
-    (h.are_all ∙ append-nil configs)
-    (record {
-      events = h.air.done;
-      run = h.timed.told;
-      due = due;
-      is_due = are_due;
-      among = h.among;
-    })
-
 -- ---- the beginning
 
 -- nothing is done yet
 pub filing_begins : (rules : Rules) (configs : List Config) (f : FiledRun)
-    (Took : List Event → List Entry → Type 0) → GoesBy rules f.run
+    (Took : List Event → List Entry → Type 0) → f.run.contentions ≡ None → GoesBy rules f.run
     → f.run.present.items ≡ rules.present → RepresentsWorld f.run.world (opening configs)
     → HoldsOfSchedules configs (opening configs)
     → Keeps f.run.queue f.run.draws (air_opening rules configs []).timetable
     → f.run.world.released ≡ 0 → f.taken ≡ 0 → f.count.before ≡ 0 → f.count.delivered_by ≡ 0
     → Took [] [] → IsFiling rules configs f Took
-filing_begins rules configs f Took goes present stands laws keeps released taken counted by took =
+filing_begins rules configs f Took steady goes present stands laws keeps released taken counted by took =
     record {
       last = 0;
       from = 0;
@@ -239,7 +223,7 @@ filing_begins rules configs f Took goes present stands laws keeps released taken
           (subst (λ (n : ℕ). IsMoving false rules configs [] [] 0 0 f.end n f.count.delivered_by
           f.run Took) (sym counted)
           (subst (λ (n : ℕ). IsMoving false rules configs [] [] 0 0 f.end 0 n f.run Took) (sym by)
-          (begun false rules configs f.end f.run Took tt goes present stands laws keeps released
+          (begun false rules configs f.end f.run Took tt steady goes present stands laws keeps released
           took)));
       next = λ e is. omega arith;
       near = omega arith;

@@ -225,4 +225,5 @@ timed_on rules configs a old new Took world present queue draws h = record {
   told = subst (λ (w : WorldState). IsSimulated configs a.done w Took) (sym world.world) h.told;
   keeps = subst (λ (q : Queue). Keeps q new.draws a.timetable) (sym queue)
       (subst (λ (d : Draws). Keeps old.queue d a.timetable) (sym draws) h.keeps);
+  steady = world.contentions ∙ h.steady;
 }

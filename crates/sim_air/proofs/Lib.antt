@@ -17,4 +17,6 @@ pub mod Moved
 pub mod UnderRows
 pub mod Outside
 pub mod Filing
+pub mod Going
+pub mod Contending
 pub mod FileEvents

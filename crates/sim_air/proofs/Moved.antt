@@ -1,7 +1,7 @@
 -- A run with moves that is under way, as the run of an air.
 use Rattle.std.proofs.Common.{◌≡◌, ℕ, zero, suc, ◌+◌, ◌≤◌, ◌<◌, List, [], ◌∷◌, ◌++◌, refl, sym, ap}
 use Rattle.std.proofs.Common.{subst, ◌∙◌, length, arith, All, Bool, true, false, cond}
-use Rattle.std.proofs.Common.{append_assoc, append-nil, Option, Some, Result, Ok, Err}
+use Rattle.std.proofs.Common.{append_assoc, append-nil, Option, Some, None, Result, Ok, Err}
 use Rattle.std.specs.Prelude.{Vec, OnOk, IfSome, max, min, ◌%◌}
 use Rattle.std.specs.declared.alloc.Global.{Global}
 use Rattle.std.specs.BinaryHeap.{IsUpperBound}
@@ -57,9 +57,7 @@ use Rattle.sim_air.proofs.BesideSteps.{reached_coming, reached_own}
 use Rattle.sim_air.proofs.BesideTaken.{taken_all}
 use Rattle.sim_air.proofs.Keeping.{goes_on}
 use Rattle.sim_air.proofs.BesideMade.{stations_of_run}
-use Rattle.sim_air.proofs.Among.{among_longer}
-use Rattle.sim_air.proofs.Under.{among_line, told_on}
-use Rattle.sim_air.specs.AirRun.{AreAmong, events_in}
+use Rattle.sim_air.proofs.Under.{told_on}
 use Rattle.sim_queue.proofs.Waits.{waits_none, waits_own}
 use Rattle.std.proofs.Common.{◌⊎◌, inl, inr}
 use Rattle.std.proofs.Math.Nat.{le-max_left, max-le, min-le_left}
@@ -68,7 +66,7 @@ use Rattle.std.proofs.lemmas.List.{length-append}
 use Rattle.sim_scenario.specs.declared.events.event.FileEvent.{FileEvent}
 
 -- there are as many stations as configs
-as_many : (configs : List Config) (events : List Event) (world : WorldState)
+pub as_many : (configs : List Config) (events : List Event) (world : WorldState)
     (Took : List Event → List Entry → Type 0) → IsSimulated configs events world Took
     → length world.stations ≡ length configs
 as_many configs events world Took h =
@@ -252,18 +250,6 @@ no_fewer_after now all a p t = by (is_passed_over a.present p)
 
 -- ---- steps
 
--- those before are among what was done, once one of the air's own was taken
-among_after : (now : Rules) (all : List Config) (a : AirModel) (p : Planned) (t : Timetable)
-    (events : List Event) → AreAmong events a.done
-    → AreAmong events (take_one now all a (Does p) t).done
-among_after now all a p t events h = by (is_passed_over a.present p)
-  where
-    by : (b : Bool) → AreAmong events (cond b
-        (record { done = a.done; timetable = t; present = a.present })
-        (do_one now all a p t)).done
-    by true = h
-    by false = among_longer events a.done (p.event ∷ []) h
-
 -- what a run has once what came from outside was taken
 coming_taken : (grows : Bool) (rules : Rules) (configs made : List Config) (past : List Filed)
     (f : Filed) (end counted by : ℕ)
@@ -302,7 +288,6 @@ coming_taken grows rules configs made past (Happens e) end counted by old new A 
       few =
           let more = no_fewer_after h.now h.all h.air (by_file e) h.air.timetable in
           let were = h.few in omega (arith, more, were);
-      among = among_line past h.air.done (Happens e) h.among;
     }
 coming_taken grows rules configs made past (Leaves n m) end counted by old new A B within there
     released does h =
@@ -325,9 +310,6 @@ coming_taken grows rules configs made past (Leaves n m) end counted by old new A
           subst (λ k. AllByRecursion (Awaits k counted by (m + h.now.delay))
           h.air.timetable.waiting) (sym released) h.frames;
       few = h.few;
-      among =
-          subst (AreAmong (events_in (past ++ Leaves n m ∷ []))) (append-nil h.air.done)
-          (among_line past h.air.done (Leaves n m) h.among);
     }
 
 pub comes_at : (grows : Bool) (f : Filed) (old new : Run) (A B : List Event → List Entry → Type 0)
@@ -419,7 +401,6 @@ own_taken w old new A B released does = λ grows rules configs made past from en
       few =
           let more = no_fewer_after h.now h.all h.air (planned_of w) t in
           let were = h.few in omega (arith, more, were);
-      among = among_after h.now h.all h.air (planned_of w) t (events_in past) h.among;
     }
 
 -- where it was done well
@@ -474,13 +455,14 @@ pub is_taken : (grows : Bool) (rules : Rules) (configs made : List Config) (past
     (last from end counted by : ℕ)
     (old new : Run) (A : List Event → List Entry → Type 0) (w : Scheduled) → new.air ≡ old.air
     → new.every ≡ old.every → new.world ≡ old.world → new.present ≡ old.present
-    → new.draws ≡ old.draws → new.queue.pushed ≡ old.queue.pushed
+    → new.draws ≡ old.draws → new.contentions ≡ old.contentions
+    → new.queue.pushed ≡ old.queue.pushed
     → IsPermutation old.queue.own (w ∷ new.queue.own)
     → IsUpperBound waiting_cmp w new.queue.own → w.moment ≤ end
     → IsMoving grows rules configs made past last from end counted by old A
     → IsTaken grows rules configs made past from end counted by w new A
 is_taken grows rules configs made past last from end counted by old new A w air every world present
-    draws pushed moves first within h =
+    draws contentions pushed moves first within h =
     let got = takes_first old.queue new.queue old.draws h.air.timetable w pushed moves first
     h.timed.keeps in
     let since : AllByRecursion (λ p. last ≤ at p) (pending_of w ∷ got.0) =
@@ -506,6 +488,7 @@ is_taken grows rules configs made past last from end counted by old new A w air 
               waiting = got.0;
               draws = h.air.timetable.draws;
             })) (sym draws) got.2;
+            steady = contentions ∙ h.timed.steady;
           };
       reached = h.reached;
       recent = omega (arith, near, le);
@@ -520,7 +503,6 @@ is_taken grows rules configs made past last from end counted by old new A w air 
           (subst (AllByRecursion (Awaits old.world.released counted by (last + h.now.delay)))
           got.1 h.frames));
       few = h.few;
-      among = h.among;
     }
 
 -- frames were let go while it was taken
@@ -528,7 +510,7 @@ pub still_taken : (grows : Bool) (rules : Rules) (configs made : List Config) (p
     (from end counted by counted' by' : ℕ)
     (old new : Run) (A : List Event → List Entry → Type 0) (w : Scheduled) → new.air ≡ old.air
     → new.every ≡ old.every → new.queue ≡ old.queue → new.draws ≡ old.draws
-    → new.present ≡ old.present
+    → new.present ≡ old.present → (old.contentions ≡ None → new.contentions ≡ None)
     → ((x : WorldModel) → RepresentsWorld old.world x → RepresentsWorld new.world x)
     → ((count : ℕ) → counted ≤ count
     → count ≡ old.world.released + length old.world.frames → counted' ≤ count)
@@ -541,6 +523,7 @@ still_taken grows rules configs made past from end counted by counted' by' old n
     queue
     draws
     present
+    none
     stands count frames h =
     let told = h.timed.told in
     let delay : old.air.delay ≡ h.now.delay = ap (λ (r : Rules). r.delay) h.timed.goes_by in
@@ -576,6 +559,7 @@ still_taken grows rules configs made past from end counted by counted' by' old n
                   waiting = h.rest;
                   draws = h.air.timetable.draws;
                 })) (sym draws) h.timed.keeps);
+            steady = none h.timed.steady;
           };
       reached = h.reached;
       recent = h.recent;
@@ -589,15 +573,15 @@ still_taken grows rules configs made past from end counted by counted' by' old n
       few =
           count (length (world_run (opening h.all) h.air.done).air) h.few
           (frames_in_all old.world (world_run (opening h.all) h.air.done) told.stands);
-      among = h.among;
     }
 
 -- none was taken
 pub stays_moving : (old new : Run) (A : List Event → List Entry → Type 0) → new.air ≡ old.air
     → new.every ≡ old.every → new.world ≡ old.world → new.present ≡ old.present
-    → new.draws ≡ old.draws → new.queue.pushed ≡ old.queue.pushed
-    → new.queue.own ≡ old.queue.own → StaysMoving old A new A
-stays_moving old new A air every world present draws pushed heap =
+    → new.draws ≡ old.draws → new.contentions ≡ old.contentions
+    → new.queue.pushed ≡ old.queue.pushed → new.queue.own ≡ old.queue.own
+    → StaysMoving old A new A
+stays_moving old new A air every world present draws contentions pushed heap =
     λ grows rules configs made past last from end counted by h.
     record {
       all = h.all;
@@ -614,6 +598,7 @@ stays_moving old new A air every world present draws pushed heap =
                 h.timed.told;
             keeps = subst (λ (ws : List ℕ). Keeps new.queue ws h.air.timetable) (sym draws)
                 (takes_none old.queue new.queue old.draws h.air.timetable pushed heap h.timed.keeps);
+            steady = contentions ∙ h.timed.steady;
           };
       reached = h.reached;
       recent = h.recent;
@@ -623,7 +608,6 @@ stays_moving old new A air every world present draws pushed heap =
           subst (λ (x : WorldState). AllByRecursion (Awaits x.released counted by
           (last + h.now.delay)) h.air.timetable.waiting) (sym world) h.frames;
       few = h.few;
-      among = h.among;
     }
 
 -- what comes from outside is the next
@@ -654,7 +638,6 @@ comes_to grows rules configs made past last from end counted by moment run A lat
           (awaits_later run.world.released counted by (last + h.now.delay)
           (moment + h.now.delay) (omega (arith, recent, le))) h.frames;
       few = h.few;
-      among = h.among;
     }
 
 -- rows were read: the last moment is later, perhaps
@@ -679,7 +662,6 @@ ends_later grows rules configs made past last from end end' counted by run A le 
       since = h.since;
       frames = h.frames;
       few = h.few;
-      among = h.among;
     }
 
 -- the sink was told more, of which it says nothing
@@ -702,6 +684,7 @@ says_moving grows rules configs made past last from end counted by run A B says 
             present = h.timed.present;
             told = told_on h.all h.air.done run.world A B says h.timed.told;
             keeps = h.timed.keeps;
+            steady = h.timed.steady;
           };
       reached = h.reached;
       recent = h.recent;
@@ -709,7 +692,6 @@ says_moving grows rules configs made past last from end counted by run A B says 
       since = h.since;
       frames = h.frames;
       few = h.few;
-      among = h.among;
     }
 
 -- ---- stations that are made
@@ -743,12 +725,14 @@ pub one_made : (rules : Rules) (configs made : List Config) (past : List Filed)
     → new.every ≡ old.every → new.queue ≡ old.queue → new.draws ≡ old.draws
     → new.present.items ≡ old.present.items ++ false ∷ []
     → new.world.released ≡ old.world.released
+    → (old.contentions ≡ None → new.contentions ≡ None)
     → ((cs : List Config) (events : List Event) → IsSimulation cs events old.world
     → All (λ e. e.station < length cs) events → IsSimulation (cs ++ c ∷ []) events new.world)
     → IsMoving true rules configs made past last from end counted by old A
     → IsMoving true rules configs (made ++ c ∷ []) past last from end counted by new A
 one_made rules configs made past last from end counted by old new A c air every queue draws present
     released
+    none
     adds h =
     let told = h.timed.told in
     let there = h.reached.done_there in
@@ -786,6 +770,7 @@ one_made rules configs made past last from end counted by old new A c air every 
                 subst (λ (q : Queue). Keeps q new.draws h.air.timetable) (sym queue)
                 (subst (λ (ws : List ℕ). Keeps old.queue ws h.air.timetable) (sym draws)
                 h.timed.keeps);
+            steady = none h.timed.steady;
           };
       reached = reached_made h.now h.all h.steps past from end h.air c h.reached;
       recent = h.recent;
@@ -796,7 +781,6 @@ one_made rules configs made past last from end counted by old new A c air every 
           h.air.timetable.waiting) (sym released) h.frames;
       few =
           subst (λ (w : WorldModel). counted ≤ length w.air) (sym same) h.few;
-      among = h.among;
     }
 
 -- ---- the beginning and the end
@@ -862,12 +846,12 @@ all_rules r =
 -- nothing is done yet
 pub begun : (grows : Bool) (rules : Rules) (configs : List Config) (end : ℕ) (run : Run)
     (Took : List Event → List Entry → Type 0) → AreKnown grows configs rules.present
-    → GoesBy rules run → run.present.items ≡ rules.present
+    → run.contentions ≡ None → GoesBy rules run → run.present.items ≡ rules.present
     → RepresentsWorld run.world (opening configs) → HoldsOfSchedules configs (opening configs)
     → Keeps run.queue run.draws (air_opening rules configs []).timetable
     → run.world.released ≡ 0 → Took [] []
     → IsMoving grows rules configs [] [] 0 0 end 0 0 run Took
-begun grows rules configs end run Took long goes present stands laws keeps released took =
+begun grows rules configs end run Took long steady goes present stands laws keeps released took =
     let opened = reached_opening grows rules configs 0 end long in
     record {
       all = configs;
@@ -882,6 +866,7 @@ begun grows rules configs end run Took long goes present stands laws keeps relea
             present = present;
             told = record { stands = stands; laws = laws; log = []; told = tt; took = took };
             keeps = keeps;
+            steady = steady;
           };
       reached = opened;
       recent = omega arith;
@@ -895,7 +880,6 @@ begun grows rules configs end run Took long goes present stands laws keeps relea
           (air_opening rules configs []).timetable.waiting
           (awaits_later 0 0 0 0 (0 + rules.delay) (omega arith)) (opening_awaits rules configs));
       few = omega arith;
-      among = tt;
     }
 
 pub rules_at_end : (r : Rules) (made : List Config) (end : ℕ) (now : Rules)

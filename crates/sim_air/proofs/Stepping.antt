@@ -1,6 +1,6 @@
 -- One step of an air, as a queue takes it.
 use Rattle.std.proofs.Common.{◌≡◌, ℕ, List, [], ◌∷◌, ◌++◌, sym, ap, refl}
-use Rattle.std.proofs.Common.{subst, cond, Bool, true, false}
+use Rattle.std.proofs.Common.{subst, cond, Bool, true, false, None}
 use Rattle.std.specs.Prelude.{slice_get}
 use Rattle.its_model.specs.World.{Config, Event, WorldModel, opening, world_run}
 use Rattle.its_world.specs.Entries.{Entry}
@@ -47,20 +47,21 @@ keeps_opening queue words seed heap pushed drawn =
 
 -- an event of the file was done, and its station came if it does
 pub filed_event : (rules : Rules) (configs : List Config) (a : AirModel) (e : Event) (new : Run)
-    (After : List Event → List Entry → Type 0) → GoesBy rules new
+    (After : List Event → List Entry → Type 0) → GoesBy rules new → new.contentions ≡ None
     → IsSimulated configs (a.done ++ e ∷ []) new.world After
     → Keeps new.queue new.draws
     (after_one rules a.present (by_file e) (world_run (opening configs) (a.done ++ e ∷ []))
     a.timetable)
     → new.present.items ≡ present_after a.present e (world_run (opening configs) (a.done ++ e ∷ []))
     → IsTimed rules configs (take_one rules configs a (of_file (Happens e)) a.timetable) new After
-filed_event rules configs a e new After goes told keeps present =
-    record { goes_by = goes; told = told; keeps = keeps; present = present }
+filed_event rules configs a e new After goes steady told keeps present =
+    record { goes_by = goes; told = told; keeps = keeps; present = present; steady = steady }
 
 -- one of the air's own was done
 pub own_done : (rules : Rules) (configs : List Config) (a : AirModel) (w : Scheduled) (new : Run)
     (After : List Event → List Entry → Type 0) → is_passed_over a.present (planned_of w) ≡ false
-    → GoesBy rules new → IsSimulated configs (a.done ++ happening_of w ∷ []) new.world After
+    → GoesBy rules new → new.contentions ≡ None
+    → IsSimulated configs (a.done ++ happening_of w ∷ []) new.world After
     → Keeps new.queue new.draws
     (after_one rules a.present (planned_of w)
     (world_run (opening configs) (a.done ++ happening_of w ∷ [])) a.timetable)
@@ -68,11 +69,11 @@ pub own_done : (rules : Rules) (configs : List Config) (a : AirModel) (w : Sched
     ≡ present_after a.present (happening_of w)
     (world_run (opening configs) (a.done ++ happening_of w ∷ []))
     → IsTimed rules configs (take_one rules configs a (pending_of w) a.timetable) new After
-own_done rules configs a w new After run goes told keeps present =
+own_done rules configs a w new After run goes steady told keeps present =
     subst (λ (b : Bool). IsTimed rules configs (cond b
     (record { done = a.done; timetable = a.timetable; present = a.present })
     (do_one rules configs a (planned_of w) a.timetable)) new After) (sym run)
-    (record { goes_by = goes; told = told; keeps = keeps; present = present })
+    (record { goes_by = goes; told = told; keeps = keeps; present = present; steady = steady })
 
 -- one of the air's own was passed over
 pub own_passed_over : (rules : Rules) (configs : List Config) (a : AirModel) (w : Scheduled)
@@ -83,4 +84,10 @@ own_passed_over rules configs a w run Took over h =
     subst (λ (b : Bool). IsTimed rules configs (cond b
     (record { done = a.done; timetable = a.timetable; present = a.present })
     (do_one rules configs a (planned_of w) a.timetable)) run Took) (sym over)
-    (record { goes_by = h.goes_by; told = h.told; keeps = h.keeps; present = h.present })
+    (record {
+      goes_by = h.goes_by;
+      told = h.told;
+      keeps = h.keeps;
+      present = h.present;
+      steady = h.steady;
+    })

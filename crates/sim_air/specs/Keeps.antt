@@ -1,5 +1,5 @@
 -- A run keeps the timetable of the model's air.
-use Rattle.std.specs.Prelude.{◌≡◌, ℕ, List, Bool, Option, cond, not, ◌&&◌}
+use Rattle.std.specs.Prelude.{◌≡◌, ℕ, List, Bool, Option, None, cond, not, ◌&&◌}
 use Rattle.its_model.specs.Calls.{Answer}
 use Rattle.its_model.specs.Station.{StationModel}
 use Rattle.its_model.specs.World.{Config, Event, WorldModel, frame_of}
@@ -35,10 +35,11 @@ abbrev pub GoesBy : Rules → Run → Type 0
 GoesBy rules run =
     rules_of run.air (all_traffic run.every.now) rules.until rules.present ≡ rules
 
--- a run that is under way stands as the air of the model does
+-- a run that is under way, in which no station contends, stands as the air of the model does
 pub record IsTimed (rules : Rules) (configs : List Config) (a : AirModel) (run : Run)
     (Took : List Event → List Entry → Type 0) : Type 0 where
   pub goes_by : GoesBy rules run
   pub present : run.present.items ≡ a.present
   pub told : IsSimulated configs a.done run.world Took
   pub keeps : Keeps run.queue run.draws a.timetable
+  pub steady : run.contentions ≡ None

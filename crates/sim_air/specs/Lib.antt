@@ -10,5 +10,7 @@ pub mod Outside
 pub mod Moving
 pub mod UnderRows
 pub mod Beside
+pub mod Contenders
+pub mod Going
 pub mod Delivered
 pub mod Filing

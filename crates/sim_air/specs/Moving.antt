@@ -9,7 +9,6 @@ use Rattle.sim_scenario.specs.declared.events.event.AddressedEvent.{AddressedEve
 use Rattle.sim_settings.specs.declared.moves.Moves.{Moves}
 use Rattle.its_world.specs.Entries.{Entry}
 use Rattle.its_world.specs.State.{WorldState}
-use Rattle.sim_air.specs.AirRun.{AreAmong, events_in}
 use Rattle.sim_air.specs.AirTimed.{IsTimedRun}
 use Rattle.sim_air.specs.Beside.{IsReached, Rises, rules_beside}
 use Rattle.sim_air.specs.Keeps.{IsTimed}
@@ -51,7 +50,7 @@ Awaits released counted by latest (Departs station moment) = Unit {0}
 
 -- A run is under way: it stands as the air of the model does to which so many steps lead, whatever
 -- comes from a moment on, and whichever stations are made, if it grows. The last event was done by
--- another moment; nothing waits for an earlier one. What came is among what was done.
+-- another moment; nothing waits for an earlier one.
 pub record IsMoving (grows : Bool) (rules : Rules) (configs made : List Config)
     (past : List Filed) (last from end counted by : ℕ) (run : Run)
     (Took : List Event → List Entry → Type 0) : Type 0 where
@@ -69,7 +68,6 @@ pub record IsMoving (grows : Bool) (rules : Rules) (configs made : List Config)
   pub frames : AllByRecursion (Awaits run.world.released counted by (last + now.delay))
       air.timetable.waiting
   pub few : counted ≤ length (world_run (opening all) air.done).air
-  pub among : AreAmong (events_in past) air.done
 
 -- the air of the model with its first taken
 abbrev pub without_first : AirModel → List Pending → AirModel
@@ -99,7 +97,6 @@ pub record IsTaken (grows : Bool) (rules : Rules) (configs made : List Config)
   pub frames : AllByRecursion (Awaits run.world.released counted by (taken.moment + now.delay))
       (pending_of taken ∷ rest)
   pub few : counted ≤ length (world_run (opening all) air.done).air
-  pub among : AreAmong (events_in past) air.done
 
 -- this comes at a moment, and is done
 abbrev pub DoesAt : Bool → ℕ → List Filed → Run → (List Event → List Entry → Type 0) → Run

@@ -9,11 +9,21 @@ use Rattle.sim_air.specs.declared.run.Run.{Run}
 abbrev pub AreIndexed : Run → Type 0
 AreIndexed run = AreStandingsOf run.world.stations run.standings.order.items
 
--- its rules, its world, and where the stations stand are as before
+-- its rules, its world, where the stations stand and the frames that they hold are as before
 pub record SameWorld (old new : Run) : Type 0 where
   pub air : new.air ≡ old.air
   pub every : new.every ≡ old.every
   pub world : new.world ≡ old.world
+  pub standings : new.standings ≡ old.standings
+  pub contentions : new.contentions ≡ old.contentions
+
+-- what the radio model goes by, what it put and will draw, and who is present are as before
+pub record SameRadio (old new : Run) : Type 0 where
+  pub air : new.air ≡ old.air
+  pub every : new.every ≡ old.every
+  pub queue : new.queue ≡ old.queue
+  pub draws : new.draws ≡ old.draws
+  pub present : new.present ≡ old.present
   pub standings : new.standings ≡ old.standings
 
 -- what a sink said of events and entries, it says of them still

@@ -1,6 +1,6 @@
 //! A run with a radio model over the events of a file.
 
-ghost use Rattle.std.specs.Prelude.{[], List, Some, All, map, length, slice_get, true, false};
+ghost use Rattle.std.specs.Prelude.{[], List, Some, None, All, map, length, slice_get, true, false};
 ghost use Rattle.std.specs.Prelude.{◌≡◌, ◌≤◌, ◌<◌, ◌+◌, ◌^◌, ◌∷◌, IfNone, IfOk, IfSome, OnOk};
 ghost use Rattle.std.specs.List.Sorted.{IsNonDecreasingBy};
 ghost use denote.Ref.{Bor};
@@ -11,8 +11,10 @@ ghost use Rattle.its_world.specs.State.{RepresentsWorld};
 ghost use Rattle.sim_air.specs.AirRun.{IsAirRun};
 ghost use Rattle.sim_air.specs.AirTimed.{IsTimedRun, rules_of};
 ghost use Rattle.sim_air.specs.Beside.{rules_beside};
+ghost use Rattle.sim_air.specs.Contenders.{NoneContends};
 ghost use Rattle.sim_air.specs.Delivered.{KeepsFrom};
 ghost use Rattle.sim_air.specs.Filing.{IsFiling};
+ghost use Rattle.sim_air.specs.Going.{HasDone};
 ghost use Rattle.sim_air.specs.Keeps.{GoesBy};
 ghost use Rattle.sim_air.specs.Runs.{AreIndexed};
 ghost use Rattle.sim_air_model.specs.Timetable.{Filed, Rules, air_opening};
@@ -26,8 +28,8 @@ ghost use Rattle.sim_scenario.specs.declared.events.event.FileEvent.{FileEvent a
 use crate::fault::AirFault;
 use crate::filed_run::FiledRun;
 use crate::frames::FrameCount;
-use crate::run::Run;
-use crate::step::take_own;
+use crate::run::{Contenders, Run};
+use crate::step::take_turn;
 use its_model::laws::every_schedule;
 use its_world::{Config, What, World};
 use sim_scenario::events::{FileEvent, end_of};
@@ -53,6 +55,10 @@ use std::alloc::{AllocError, Global};
 /// - A move that is not refused makes an absent station present. Its first tick and its first sends
 ///   are put as at the start, if none of them waits.
 ///
+/// - A station that contends, by `contend`, may hold the frame in which a geobroadcast goes on. It is
+///   released when it is due, after all that is done up to that time: its receivers are found then.
+///   Copies of it cancel it, and a restart drops it.
+///
 /// The run ends when nothing waits up to the last time. Frames are released some time after their
 /// deliveries are done, except those from the first on that an event of the file delivers.
 ///
@@ -66,8 +72,8 @@ use std::alloc::{AllocError, Global};
 /// numbers, which stations are present at the start. If an allocation or the sink failed, the sink
 /// has the events before.
 ///
-/// - `timed`: a run that ends well did exactly the events of the timetable of the model
-///   (`IsTimedRun`).
+/// - `timed`: a run that ends well and in which no station contends did exactly the events of the
+///   timetable of the model (`IsTimedRun`).
 /// - `file`: the events of the file up to the last time are among these, by time, and at one time
 ///   in the order of the file (`IsAirRun`).
 pub fn run_air<S: EventSink>(
@@ -77,6 +83,7 @@ pub fn run_air<S: EventSink>(
     file: &[FileEvent],
     air: &Air,
     every: &[Traffic],
+    contend: &[bool],
     sink: &mut S,
 ) -> Result<World, AirFault>
     requires configs { All IsConfig configs.now }
@@ -87,14 +94,18 @@ pub fn run_air<S: EventSink>(
     ensures file { S.Took sink.old [] [] → IfOk result (λ world.
         IsAirRun (map config_of configs.now) (map filed_of file.now)
         (end_of air.now.until file.now) world (S.Took sink.new)) }
-    ensures timed { S.Took sink.old [] [] → IfOk result (λ world.
+    ensures timed { NoneContends contend.now → S.Took sink.old [] [] → IfOk result (λ world.
         IsTimedRun (rules_of air.now (all_traffic every.now) (end_of air.now.until file.now)
         present.now) (map config_of configs.now) (map filed_of file.now) world
         (S.Took sink.new)) }
 {
     // A law, for the proof alone.
     every_schedule();
-    let mut filed = FiledRun::begin(alloc, configs, present, file, air, every)?;
+    let contenders = Contenders {
+        contend,
+        rows_contend: false,
+    };
+    let mut filed = FiledRun::begin(alloc, configs, present, file, air, every, contenders)?;
     for _ in 0..usize::MAX {
         if !filed.go_on(sink)? {
             return Ok(filed.run.world);
@@ -112,6 +123,7 @@ impl<'a> FiledRun<'a> {
         file: &'a [FileEvent],
         air: &Air,
         every: &'a [Traffic],
+        contenders: Contenders<'_>,
     ) -> Result<FiledRun<'a>, AirFault>
         requires configs { All IsConfig configs.now }
         requires count { length configs.now ≤ 65535 }
@@ -123,6 +135,9 @@ impl<'a> FiledRun<'a> {
         ensures kept { IfOk result (λ filed. filed.run.world.released ≡ 0) }
         ensures standings { IfOk result (λ filed. AreIndexed filed.run) }
         ensures present { IfOk result (λ filed. filed.run.present.items ≡ present.now) }
+        ensures steady { contenders.entry.rows_contend ≡ false →
+            NoneContends contenders.entry.contend.now →
+            IfOk result (λ filed. filed.run.contentions ≡ None) }
         ensures rules { IfOk result (λ filed. GoesBy (rules_of air.now (all_traffic every.now)
             (end_of air.now.until []) present.now) filed.run) }
         ensures keeps { IfOk result (λ filed. Keeps filed.run.queue filed.run.draws (air_opening
@@ -143,7 +158,7 @@ impl<'a> FiledRun<'a> {
         let due = due_until(alloc, file, end)?;
         let lowest = lowest_delivery(due.as_slice());
         Ok(FiledRun {
-            run: Run::begin(alloc, configs, present, air, every)?,
+            run: Run::begin(alloc, configs, present, air, every, contenders)?,
             count: FrameCount {
                 before: 0,
                 delivered_by: 0,
@@ -177,14 +192,17 @@ impl<'a> FiledRun<'a> {
             IsFiling rules configs self.old (S.Took sink.old) →
             IsTimedRun (rules_beside [] self.old.end rules) configs file self.new.run.world
             (S.Took sink.new)) }
+        ensures going { IfOk result (λ more. more ≡ true → (configs : List Beginning) →
+            HasDone configs self.old (S.Took sink.old) →
+            HasDone configs self.new (S.Took sink.new)) }
         ensures file { IfOk result (λ more. more ≡ false →
-            (rules : Rules) (configs : List Beginning) (file : List Filed) →
+            (configs : List Beginning) (file : List Filed) →
             AreDue file self.old.end (filed_in self.old.due.items) →
-            IsFiling rules configs self.old (S.Took sink.old) →
+            HasDone configs self.old (S.Took sink.old) →
             IsAirRun configs file self.old.end self.new.run.world (S.Took sink.new)) }
     {
         let limit = self.limit();
-        let taken = take_own(&mut self.run, &mut self.count, self.lowest, limit, sink)?;
+        let taken = take_turn(&mut self.run, &mut self.count, self.lowest, limit, sink)?;
         if taken {
             return Ok(true);
         }

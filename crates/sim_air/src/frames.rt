@@ -1,12 +1,13 @@
 //! Which frames a run keeps: those that may be delivered yet.
 
-ghost use Rattle.std.specs.Prelude.{ℕ, List, ◌≡◌, ◌≤◌, ◌+◌, ◌^◌, length};
+ghost use Rattle.std.specs.Prelude.{ℕ, List, None, ◌≡◌, ◌≤◌, ◌+◌, ◌^◌, length};
 ghost use Rattle.std.specs.List.{AllByRecursion};
 ghost use Rattle.its_model.specs.World.{WorldModel};
 ghost use Rattle.its_world.specs.State.{RepresentsWorld};
 ghost use Rattle.sim_air.specs.Moving.{Awaits};
 ghost use Rattle.sim_air_model.specs.Timetable.{Pending, at};
 
+use crate::contentions::lowest_kept;
 use crate::run::Run;
 
 /// How far the frames of a run were delivered.
@@ -40,6 +41,7 @@ pub(crate) fn release_delivered(
     ensures queue { run.new.queue ≡ run.old.queue }
     ensures draws { run.new.draws ≡ run.old.draws }
     ensures present { run.new.present ≡ run.old.present }
+    ensures none { run.old.contentions ≡ None → run.new.contentions ≡ None }
     ensures kept { run.old.world.released ≤ lowest → run.new.world.released ≤ lowest }
     ensures counted { (total : ℕ) → count.old.before ≤ total →
         total ≡ run.old.world.released + length run.old.world.frames →
@@ -52,7 +54,8 @@ pub(crate) fn release_delivered(
         count.new.delivered_by (moment + run.old.air.delay)) waiting }
 {
     if moment > count.delivered_by {
-        run.world.release(count.before.min(lowest));
+        let kept = lowest_kept(&mut run.contentions, moment);
+        run.world.release(count.before.min(lowest).min(kept));
         count.before = run.world.frames();
         count.delivered_by = moment + run.delay();
     }

@@ -3,6 +3,13 @@
 //!
 //! # What is proved
 //!
+//! Each run that ends well is a run of the world, also if stations contend: there is a list of
+//! events by which the world is at its end, with the laws over every schedule, and the sink took
+//! exactly these (`file` of `run_air`, `run` of `run_moves`). Those of the file of `run_air` are
+//! among them, in their order.
+//!
+//! The rest is proved of runs in which no station contends.
+//!
 //! What the clause `timed` of `run_air` says in detail:
 //!
 //! - Range, delay, loss, seed, beacons, traffic, the last time and who is present at the start are
@@ -34,17 +41,22 @@
 //!
 //! # Only tested
 //!
+//! - `cases/contention.md`, `checks/air`: with contention, which frames a station holds, cancels and
+//!   drops, when each is released, and which stations receive it.
 //! - `cases/moving.md`, `cases/around.md`, `checks/air`: that the rows are all of the file up to
 //!   the last time, of the stations of their ids; which events of ids are left out; when stations
 //!   leave, and in which order; that a run without `until` ends 10 s after its last row or event;
 //!   where an area around its station is.
 #![tactic(auto)]
 
+mod contentions;
 mod departures;
+mod due_frames;
 mod fault;
 mod filed;
 mod filed_run;
 mod frames;
+mod kept_frames;
 mod moving;
 mod moving_run;
 mod run;

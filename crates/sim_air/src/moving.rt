@@ -1,7 +1,8 @@
 //! A run with a radio model in which stations move by the rows of a file. A station comes with its
 //! first row and leaves some time after its last one.
 
-ghost use Rattle.std.specs.Prelude.{[], ℕ, List, Some, None, map, ◌≡◌, ◌≤◌, ◌<◌, ◌+◌, ◌^◌, All};
+ghost use Rattle.std.specs.Prelude.{[], ◌∷◌, ℕ, List, Some, None, map, ◌≡◌, ◌≤◌, ◌<◌, ◌+◌, ◌^◌};
+ghost use Rattle.std.specs.Prelude.{All};
 ghost use Rattle.std.specs.Prelude.{length, slice_get, true, false, vec_len, ◌⊎◌, ◌*◌};
 ghost use Rattle.std.specs.Prelude.{IfNone, IfOk, IfSome, OnOk};
 ghost use Rattle.std.specs.BinaryHeap.{heap_items};
@@ -18,7 +19,9 @@ ghost use Rattle.its_world.specs.Events.{IsConfig, IsInRange, config_of, event_o
 ghost use Rattle.its_world.specs.Steps.{IsKept};
 ghost use Rattle.its_world.specs.State.{RepresentsWorld};
 ghost use Rattle.sim_air.specs.AirTimed.{rules_of};
+ghost use Rattle.sim_air.specs.Contenders.{IsMadeRun, NoneContends};
 ghost use Rattle.sim_air.specs.FitsRun.{FitsRun};
+ghost use Rattle.sim_air.specs.Going.{GoesOn};
 ghost use Rattle.sim_air.specs.Keeps.{GoesBy};
 ghost use Rattle.sim_queue.specs.Keeps.{Keeps};
 ghost use Rattle.sim_air.specs.Moving.{Awaits, IsMovedRun};
@@ -35,8 +38,8 @@ use crate::departures::Departures;
 use crate::fault::AirFault;
 use crate::frames::FrameCount;
 use crate::moving_run::{Coming, MovingRun, Outside};
-use crate::run::Run;
-use crate::step::{do_at, do_filed, move_in, take_own};
+use crate::run::{Contenders, Run};
+use crate::step::{do_at, do_filed, move_in, take_turn};
 use crate::vehicles::Vehicles;
 use its_gnvalue::Place;
 use its_model::laws::every_schedule;
@@ -74,8 +77,9 @@ use std::io::BufRead;
 /// The error is `Moves` if a row can't be read, or needs one station too many, or a station with
 /// the MID of another. If it fails, the sink has the events before.
 ///
-/// - its clause: a run that ends well is a run as in `timed`, of all stations (`IsMovedRun`). Its
-///   field `outside` (`IsOutside`) says what came from outside.
+/// - `run`: a run that ends well is a run of the world, of all stations (`IsMadeRun`).
+/// - `moved`: if no station contends it is a run as in `timed` (`IsMovedRun`). Its field `outside`
+///   (`IsOutside`) says what came from outside.
 pub fn run_moves<R: BufRead + Drop, S: EventSink>(
     alloc: Global,
     scenario: &Scenario,
@@ -84,9 +88,12 @@ pub fn run_moves<R: BufRead + Drop, S: EventSink>(
     sink: &mut S,
 ) -> Result<World, AirFault>
     requires { vec_len scenario.now.stations ≤ 65535 }
-    ensures { S.Took sink.old [] [] → IfOk result (λ world.
-        IsMovedRun (rules_of timeline.now.air (all_traffic timeline.now.every.items)
-        (end_of timeline.now.air.until []) scenario.now.present.items)
+    ensures run { S.Took sink.old [] [] → IfOk result (λ world.
+        IsMadeRun (map config_of scenario.now.stations.items) world (S.Took sink.new)) }
+    ensures moved { NoneContends (timeline.now.moves.contends ∷ scenario.now.contend.items) →
+        S.Took sink.old [] [] → IfOk result (λ world. IsMovedRun (rules_of timeline.now.air
+        (all_traffic timeline.now.every.items) (end_of timeline.now.air.until [])
+        scenario.now.present.items)
         (map config_of scenario.now.stations.items) timeline.now.moves
         timeline.now.events.items timeline.now.air.until world (S.Took sink.new)) }
 {
@@ -122,6 +129,8 @@ impl<'a> MovingRun<'a> {
         ensures world { IfOk result (λ moving. RepresentsWorld moving.run.world
             (opening (map config_of scenario.now.stations.items))) }
         ensures standings { IfOk result (λ moving. AreIndexed moving.run) }
+        ensures steady { NoneContends (timeline.now.moves.contends ∷ scenario.now.contend.items)
+            → IfOk result (λ moving. moving.run.contentions ≡ None) }
         ensures rules { IfOk result (λ moving. GoesBy (rules_of timeline.now.air
             (all_traffic timeline.now.every.items) (end_of timeline.now.air.until [])
             scenario.now.present.items) moving.run) }
@@ -148,9 +157,13 @@ impl<'a> MovingRun<'a> {
         let events = in_order(alloc, timeline.events.as_slice())?;
         let greatest = last_moment(events.as_slice());
         let every = timeline.every.as_slice();
+        let contenders = Contenders {
+            contend: scenario.contend.as_slice(),
+            rows_contend: moves.contends,
+        };
         Ok(MovingRun {
             alloc,
-            run: Run::begin(alloc, stations, present, &timeline.air, every)?,
+            run: Run::begin(alloc, stations, present, &timeline.air, every, contenders)?,
             moves,
             vehicles: Vehicles::beside(alloc, stations, moves)?,
             departures: Departures::of(alloc, stations.len(), moves.gone)?,
@@ -220,6 +233,8 @@ impl<'a> MovingRun<'a> {
         ensures until { self.new.until ≡ self.old.until }
         ensures moves { self.new.moves ≡ self.old.moves }
         ensures asked { self.new.events ≡ self.old.events }
+        ensures going { OnOk result (GoesOn true self.old.run.world (S.Took sink.old)
+            self.new.run.world (S.Took sink.new)) }
         ensures moving { IfOk result (λ more. more ≡ true →
             (rules : Rules) (configs : List Beginning) →
             IsUnderSome rules configs rows.old.begin rows.old.before self.old (S.Took sink.old) →
@@ -235,7 +250,7 @@ impl<'a> MovingRun<'a> {
         let coming = self.next_until(end);
         let limit = limit_of(coming, end);
         // An event that delivers a frame is left out of a run with rows.
-        let taken = take_own(&mut self.run, &mut self.count, usize::MAX, limit, sink)?;
+        let taken = take_turn(&mut self.run, &mut self.count, usize::MAX, limit, sink)?;
         if taken {
             return Ok(true);
         }
@@ -339,6 +354,8 @@ impl<'a> MovingRun<'a> {
         ensures until { self.new.until ≡ self.old.until }
         ensures moves { self.new.moves ≡ self.old.moves }
         ensures asked { self.new.events ≡ self.old.events }
+        ensures going { OnOk result (GoesOn true self.old.run.world (S.Took sink.old)
+            self.new.run.world (S.Took sink.new)) }
         ensures moving { OnOk result ((rules : Rules) (configs made : List Beginning)
             (past : List Filed) (came : List Came) →
             IsUnder rules configs made past coming.moment coming.moment rows.old.begin
@@ -364,6 +381,8 @@ impl<'a> MovingRun<'a> {
         ensures until { self.new.until ≡ self.old.until }
         ensures moves { self.new.moves ≡ self.old.moves }
         ensures asked { self.new.events ≡ self.old.events }
+        ensures going { OnOk result (GoesOn true self.old.run.world (S.Took sink.old)
+            self.new.run.world (S.Took sink.new)) }
         ensures moving { OnOk result ((rules : Rules) (configs made : List Beginning)
             (past : List Filed) (came : List Came) (moment : ℕ) →
             IsComing self.old moment Outside.Row → moment ≤ end_in self.old →
@@ -393,6 +412,8 @@ impl<'a> MovingRun<'a> {
         ensures moves { self.new.moves ≡ self.old.moves }
         ensures row { self.new.row ≡ self.old.row }
         ensures events { (self.new.events ≡ self.old.events) × (self.new.taken ≡ self.old.taken) }
+        ensures going { OnOk result (GoesOn true self.old.run.world (S.Took sink.old)
+            self.new.run.world (S.Took sink.new)) }
         ensures moving { OnOk result (DoesLeave station moment self.old (S.Took sink.old) self.new
             (S.Took sink.new)) }
     {
@@ -414,6 +435,8 @@ impl<'a> MovingRun<'a> {
         ensures end { self.new.greatest ≡ self.old.greatest }
         ensures moves { self.new.moves ≡ self.old.moves }
         ensures events { (self.new.events ≡ self.old.events) × (self.new.taken ≡ self.old.taken) }
+        ensures going { OnOk result (GoesOn true self.old.run.world (S.Took sink.old)
+            self.new.run.world (S.Took sink.new)) }
         ensures moving { OnOk result (DoesRow row.now self.old (S.Took sink.old) self.new
             (S.Took sink.new)) }
     {
@@ -439,6 +462,8 @@ impl<'a> MovingRun<'a> {
         ensures events { (self.new.events ≡ self.old.events) × (self.new.taken ≡ self.old.taken) }
         ensures there { IfOk result (λ found.
             found.station < length self.new.run.world.stations) }
+        ensures going { OnOk result (GoesOn true self.old.run.world (S.Took sink.old)
+            self.new.run.world (S.Took sink.new)) }
         ensures moving { IfOk result (λ found.
             ((found.station < stations_in self.old) × (found.ports.now ≡ [])
             × StaysUnder self.old (S.Took sink.old) self.new (S.Took sink.new))
@@ -497,6 +522,8 @@ impl<'a> MovingRun<'a> {
         ensures moves { self.new.moves ≡ self.old.moves }
         ensures events { (self.new.events ≡ self.old.events) × (self.new.taken ≡ self.old.taken) }
         ensures number { IfOk result (λ station. station ≡ stations_in self.old) }
+        ensures going { OnOk result (GoesOn true self.old.run.world (S.Took sink.old)
+            self.new.run.world (S.Took sink.new)) }
         ensures moving { OnOk result ((config : Beginning)
             × MakesUnder config self.old (S.Took sink.old) self.new (S.Took sink.new)) }
         ensures there { IfOk result (λ station.
@@ -507,7 +534,7 @@ impl<'a> MovingRun<'a> {
             // This was checked when the row was read.
             return Err(MovesFault::Line(line, Word::TooManyStations).into());
         };
-        self.run.add_station(&config)?;
+        self.run.add_station(&config, self.moves.contends)?;
         self.departures.add_station()?;
         let id = row.id.as_str();
         self.vehicles.add(self.alloc, id, station)?;
@@ -522,6 +549,8 @@ impl<'a> MovingRun<'a> {
         requires standings { AreIndexed self.old.run }
         ensures standings { OnOk result (AreIndexed self.new.run) }
         ensures until { self.new.until ≡ self.old.until }
+        ensures going { OnOk result (GoesOn true self.old.run.world (S.Took sink.old)
+            self.new.run.world (S.Took sink.new)) }
         ensures moving { (e : Bor Addressed) →
             slice_get self.old.events.items self.old.taken ≡ Some e → OnOk result
             (DoesEvent e.now self.old (S.Took sink.old) self.new (S.Took sink.new)) }

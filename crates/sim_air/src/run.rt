@@ -1,14 +1,15 @@
 //! The state of a run with a radio model, and what it does with one event.
 
 ghost use Rattle.std.specs.Prelude.{◌≡◌, ◌≤◌, ◌<◌, ◌^◌, ◌++◌, ◌∷◌, [], List, All, map, length};
-ghost use Rattle.std.specs.Prelude.{ℕ, ◌+◌, ◌↔◌, cond, slice_set};
-ghost use Rattle.std.specs.Prelude.{false, Some, IfOk, OnOk, IsTrue, slice_get};
+ghost use Rattle.std.specs.Prelude.{ℕ, ◌+◌, ◌↔◌, Bool, cond, slice_set};
+ghost use Rattle.std.specs.Prelude.{false, Some, None, IfOk, IfSome, OnOk, IsTrue, slice_get};
 ghost use Rattle.std.specs.List.{filter};
 ghost use Rattle.std.specs.Option.{option_map};
 ghost use Rattle.its_model.specs.Calls.{Answer};
 ghost use Rattle.its_model.specs.Reach.{is_moved};
 ghost use Rattle.its_model.specs.World.{Config as Beginning, Event as Happening, opening};
 ghost use Rattle.its_model.specs.World.{WorldModel, world_run};
+ghost use Rattle.its_model.specs.World.{frame_of as model_frame_of};
 ghost use Rattle.its_station.specs.State.{StationState};
 ghost use Rattle.its_world.specs.State.{RepresentsWorld};
 ghost use Rattle.its_world.specs.Entries.{TellsEntry};
@@ -16,10 +17,12 @@ ghost use Rattle.its_world.specs.Steps.{AreSameBut, IsKept};
 ghost use Rattle.its_world.specs.Events.{IsConfig, IsInRange, config_of, event_of, what_of};
 ghost use Rattle.its_world.specs.Mids.{AreApart};
 ghost use Rattle.sim_scenario.specs.Airs.{end_of, moment_of};
-ghost use Rattle.sim_simulation.specs.Simulated.{IsSimulated, IsSimulation};
+ghost use Rattle.sim_simulation.specs.Simulated.{IsEntryOf, IsSimulated, IsSimulation};
 ghost use Rattle.sim_air.specs.Due.{AreDue};
 ghost use Rattle.sim_air.specs.AirRun.{events_in};
 ghost use Rattle.sim_air.specs.AirTimed.{rules_of};
+ghost use Rattle.sim_air.specs.Contenders.{NoneContends};
+ghost use Rattle.sim_air.specs.Going.{GoesOn};
 ghost use Rattle.sim_queue.specs.Keeps.{Keeps};
 ghost use Rattle.sim_air.specs.Keeps.{IsAnswered, IsTimed, GoesBy, follow_own};
 ghost use Rattle.sim_air.specs.Outside.{IsDelivery};
@@ -32,7 +35,7 @@ ghost use Rattle.sim_air_model.specs.Timetable.{comes};
 ghost use Rattle.sim_air_model.specs.Timetable.{present_after, is_passed_over};
 ghost use Rattle.sim_air_model.specs.Timetable.{Rules, AirModel, spread, air_opening};
 ghost use Rattle.sim_air_model.specs.Timetable.Filed.{Happens};
-ghost use Rattle.sim_air.specs.Runs.{AreIndexed, SameWorld, SaysAsBefore};
+ghost use Rattle.sim_air.specs.Runs.{AreIndexed, SameRadio, SameWorld, SaysAsBefore};
 ghost use Rattle.sim_queue.specs.PlaceIndexes.{AreStandingsOf};
 ghost use Rattle.sim_air.specs.FileEvents.{filed_of, IsFiledInRange};
 ghost use Rattle.sim_queue.specs.Waiting.{happening_of, own_of};
@@ -40,6 +43,7 @@ ghost use Rattle.sim_queue.specs.Waiting.{delivery_of};
 ghost use Rattle.sim_queue.specs.Traffics.{all_traffic};
 ghost use Rattle.sim_queue.specs.Waits.{pending_of, planned_of};
 
+use crate::contentions::{Contentions, add_contender};
 use crate::fault::AirFault;
 use its_gnvalue::Place;
 use its_model::laws::every_schedule;
@@ -52,7 +56,7 @@ use sim_queue::{
 };
 use sim_scenario::events::FileEvent;
 use sim_settings::{Air, Traffic};
-use sim_simulation::{EventSink, Note, do_event};
+use sim_simulation::{EventSink, Note, SimulationFault, do_event, do_event_holding};
 use std::alloc::Global;
 
 /// A run that is under way.
@@ -75,6 +79,17 @@ pub(crate) struct Run<'a> {
     done: usize,
     /// How many of the next deliveries were announced.
     announced: usize,
+    /// The frames that stations hold. `None` if no station contends.
+    pub(crate) contentions: Option<Contentions>,
+}
+
+/// Which stations of a run contend.
+#[derive(Clone, Copy, Debug)]
+pub(crate) struct Contenders<'a> {
+    /// Whether each station of the scenario does, by its number.
+    pub(crate) contend: &'a [bool],
+    /// Whether those that rows make do.
+    pub(crate) rows_contend: bool,
 }
 
 impl<'a> Run<'a> {
@@ -85,6 +100,7 @@ impl<'a> Run<'a> {
         present: &[bool],
         air: &Air,
         every: &'a [Traffic],
+        contenders: Contenders<'_>,
     ) -> Result<Run<'a>, AirFault>
         requires configs { All IsConfig configs.now }
         requires count { length configs.now ≤ 65535 }
@@ -99,6 +115,9 @@ impl<'a> Run<'a> {
             (rules_of air.now (all_traffic every.now) (end_of air.now.until []) present.now)
             (map config_of configs.now) []).timetable) }
         ensures standings { IfOk result AreIndexed }
+        ensures steady { contenders.entry.rows_contend ≡ false →
+            NoneContends contenders.entry.contend.now →
+            IfOk result (λ run. run.contentions ≡ None) }
     {
         let (queue, draws) = Run::begin_queue(alloc, configs, present, air, every)?;
         let world = World::of_apart(alloc, configs)?;
@@ -115,6 +134,12 @@ impl<'a> Run<'a> {
             hearers: Vec::new(alloc),
             done: 0,
             announced: 0,
+            contentions: Contentions::new(
+                alloc,
+                air.rule,
+                contenders.contend,
+                contenders.rows_contend,
+            )?,
         })
     }
 
@@ -138,8 +163,9 @@ impl<'a> Run<'a> {
         Ok((queue, draws))
     }
 
-    /// Adds a station of this config with the next number. It is absent.
-    pub(crate) fn add_station(&mut self, config: &Config) -> Result<(), AirFault>
+    /// Adds a station of this config with the next number. It is absent. It may contend in a run in
+    /// which any station does.
+    pub(crate) fn add_station(&mut self, config: &Config, contends: bool) -> Result<(), AirFault>
         requires config { IsConfig config.now }
         requires standings { AreIndexed self.old }
         ensures standings { OnOk result (AreIndexed self.new) }
@@ -153,6 +179,7 @@ impl<'a> Run<'a> {
             (self.new.present.items ≡ self.old.present.items ++ false ∷ []) }
         ensures frames { OnOk result ((self.new.world.released ≡ self.old.world.released)
             × (length self.new.world.frames ≡ length self.old.world.frames)) }
+        ensures none { self.old.contentions ≡ None → self.new.contentions ≡ None }
         ensures late { (configs : List Beginning) (events : List Happening) →
             IsSimulation configs events self.old.world →
             All (λ event. event.station < length configs) events → OnOk result
@@ -169,6 +196,7 @@ impl<'a> Run<'a> {
         let place = station.vector().place();
         self.standings.add_station(number, place)?;
         self.present.push(false)?;
+        add_contender(&mut self.contentions, contends)?;
         Ok(())
     }
 
@@ -227,6 +255,10 @@ impl<'a> Run<'a> {
         requires standings { AreIndexed self.old }
         ensures released { self.new.world.released ≡ self.old.world.released }
         ensures standings { OnOk result (AreIndexed self.new) }
+        ensures run { (configs : List Beginning) (events : List Happening) →
+            IsSimulated configs events self.old.world (S.Took sink.old) → OnOk result
+            (IsSimulated configs (events ++ events_in (filed_of filed.now ∷ [])) self.new.world
+            (S.Took sink.new)) }
         ensures timed { (rules : Rules) (configs : List Beginning) (a : AirModel) →
             IsTimed rules configs a self.old (S.Took sink.old) → OnOk result
             (IsTimed rules configs (take_one rules configs a (of_file (filed_of filed.now))
@@ -257,6 +289,10 @@ impl<'a> Run<'a> {
         ensures released { self.new.world.released ≡ self.old.world.released }
         ensures count { length self.new.world.stations ≡ length self.old.world.stations }
         ensures standings { OnOk result (AreIndexed self.new) }
+        ensures run { (configs : List Beginning) (events : List Happening) →
+            IsSimulated configs events self.old.world (S.Took sink.old) → OnOk result
+            (IsSimulated configs (events ++ event_of event.now ∷ []) self.new.world
+            (S.Took sink.new)) }
         ensures timed { (rules : Rules) (configs : List Beginning) (a : AirModel) →
             IsTimed rules configs a self.old (S.Took sink.old) → OnOk result
             (IsTimed rules configs (take_one rules configs a
@@ -300,6 +336,10 @@ impl<'a> Run<'a> {
         requires standings { AreIndexed self.old }
         ensures released { self.new.world.released ≡ self.old.world.released }
         ensures standings { OnOk result (AreIndexed self.new) }
+        ensures run { (configs : List Beginning) (events : List Happening) →
+            IsSimulated configs events self.old.world (S.Took sink.old) → OnOk result
+            (IsSimulated configs (events ++ happening_of (delivery_of delivery.now) ∷ [])
+            self.new.world (S.Took sink.new)) }
         ensures timed { (rules : Rules) (configs : List Beginning) (a : AirModel) →
             IsTimed rules configs a self.old (S.Took sink.old) → OnOk result
             (IsTimed rules configs
@@ -355,6 +395,9 @@ impl<'a> Run<'a> {
         requires standings { AreIndexed self.old }
         ensures released { self.new.world.released ≡ self.old.world.released }
         ensures standings { OnOk result (AreIndexed self.new) }
+        ensures going { (grows : Bool) →
+            waiting.now.station < length self.old.world.stations → OnOk result
+            (GoesOn grows self.old.world (S.Took sink.old) self.new.world (S.Took sink.new)) }
         ensures timed { (rules : Rules) (configs : List Beginning) (a : AirModel) →
             IsTimed rules configs a self.old (S.Took sink.old) → OnOk result
             (IsTimed rules configs (take_one rules configs a (pending_of waiting.now) a.timetable)
@@ -398,12 +441,13 @@ impl<'a> Run<'a> {
         ensures air { self.new.air ≡ self.old.air }
         ensures every { self.new.every ≡ self.old.every }
         ensures present { self.new.present ≡ self.old.present }
+        ensures none { self.old.contentions ≡ None → self.new.contentions ≡ None }
         ensures answered { (configs : List Beginning) (events : List Happening) →
             IsSimulated configs events self.old.world (S.Took sink.old) → IfOk result (λ entry.
             IsAnswered entry
             (world_run (opening configs) (events ++ event_of event.now ∷ []))) }
         ensures spread { (rules : Rules) (configs : List Beginning) (events : List Happening)
-            (t : Timetable) → GoesBy rules self.old →
+            (t : Timetable) → self.old.contentions ≡ None → GoesBy rules self.old →
             IsSimulated configs events self.old.world (S.Took sink.old) →
             Keeps self.old.queue self.old.draws t → OnOk result
             (Keeps self.new.queue self.new.draws
@@ -414,13 +458,85 @@ impl<'a> Run<'a> {
             return Err(AirFault::TooManyEvents);
         };
         let stood = place_of(&self.world, event.station);
-        let entry = do_event(&mut self.world, self.done, event, sink)?;
+        let entry = self.step(event, sink)?;
         self.done = next;
         self.update_place(event.station, stood);
-        if let Some(frame) = frame_of(&entry) {
-            self.schedule_frame(event, frame, sink)?;
+        if let Some(frame) = self.sent_frame(&entry) {
+            self.schedule_frame(event.station, event.moment, frame, sink)?;
         }
         Ok(entry)
+    }
+
+    /// Does an event in the world. In a run in which stations contend, its station may hold the frame
+    /// that it would send. If it restarted, the sink gets a note of each frame that it dropped.
+    #[inline(always)]
+    fn step<S: EventSink>(&mut self, event: &Event, sink: &mut S) -> Result<Entry, SimulationFault>
+        requires range { IsInRange event.now.what }
+        requires kept { IsKept self.old.world.released (what_of event.now.what) }
+        ensures radio { SameRadio self.old self.new }
+        ensures none { self.old.contentions ≡ None → self.new.contentions ≡ None }
+        ensures run { (configs : List Beginning) (events : List Happening) →
+            IsSimulated configs events self.old.world (S.Took sink.old) → OnOk result
+            (IsSimulated configs (events ++ event_of event.now ∷ []) self.new.world
+            (S.Took sink.new)) }
+        ensures entry { (configs : List Beginning) (events : List Happening) →
+            IsSimulated configs events self.old.world (S.Took sink.old) → IfOk result (λ entry.
+            IsEntryOf configs events (event_of event.now) entry) }
+        ensures others { AreSameBut event.now.station self.old.world.stations
+            self.new.world.stations }
+        ensures released { self.new.world.released ≡ self.old.world.released }
+    {
+        match &mut self.contentions {
+            None => do_event(&mut self.world, self.done, event, sink),
+            Some(held) => step_holding(&mut self.world, self.done, event, held, sink),
+        }
+    }
+
+    /// The frame that goes out with the last event, if one does. One that is held goes out later.
+    #[inline(always)]
+    fn sent_frame(&self, entry: &Entry) -> Option<usize>
+        ensures none { self.now.contentions ≡ None → (answer : Answer ℕ) →
+            TellsEntry entry.now answer → result ≡ model_frame_of answer }
+    {
+        match &self.contentions {
+            Some(contentions) if contentions.holds_last() => None,
+            _ => frame_of(entry),
+        }
+    }
+
+    /// When a frame that a station holds is due next, if that is before a limit, in milliseconds.
+    #[inline(always)]
+    pub(crate) fn due_before(&self, limit: u64) -> Option<u64>
+        ensures before { IfSome result (λ due. due < limit) }
+        ensures none { self.now.contentions ≡ None → result ≡ None }
+    {
+        match &self.contentions {
+            None => None,
+            Some(contentions) => match contentions.next_due() {
+                Some(due) if due < limit => Some(due),
+                _ => None,
+            },
+        }
+    }
+
+    /// Sends the frame that is due first, and passes a sink a note of it. Its receivers are those in
+    /// range of the position of its station now. It is not an event of the world.
+    pub(crate) fn release_due<S: EventSink>(&mut self, sink: &mut S) -> Result<(), AirFault>
+        requires standings { AreIndexed self.old }
+        ensures world { self.new.world ≡ self.old.world }
+        ensures standings { self.new.standings ≡ self.old.standings }
+        ensures told { OnOk result (SaysAsBefore (S.Took sink.old) (S.Took sink.new)) }
+    {
+        let delay = self.delay();
+        let Some(contentions) = &mut self.contentions else {
+            return Ok(());
+        };
+        let Some(due) = contentions.take_due(delay) else {
+            return Ok(());
+        };
+        let (station, frame) = (due.station, due.frame);
+        sink.note(&self.world, due.moment, &Note::Released { station, frame })?;
+        self.schedule_frame(station, due.moment, frame, sink)
     }
 
     /// Brings the position of a station, which may have moved, into the index.
@@ -432,6 +548,7 @@ impl<'a> Run<'a> {
         ensures world { self.new.world ≡ self.old.world }
         ensures queue { self.new.queue ≡ self.old.queue }
         ensures draws { self.new.draws ≡ self.old.draws }
+        ensures contentions { self.new.contentions ≡ self.old.contentions }
         ensures standings { (before : List StationState) →
             AreStandingsOf before self.old.standings.order.items →
             AreSameBut number before self.old.world.stations →
@@ -451,25 +568,27 @@ impl<'a> Run<'a> {
     /// receivers.
     fn schedule_frame<S: EventSink>(
         &mut self,
-        event: &Event,
+        giver: usize,
+        moment: u64,
         frame: usize,
         sink: &mut S,
     ) -> Result<(), AirFault>
-        requires moment { event.now.moment ≤ 2 ^ 63 + 10000 }
+        requires moment { moment ≤ 2 ^ 63 + 10000 }
         requires standings { AreIndexed self.old }
         ensures world { SameWorld self.old self.new }
         ensures present { self.new.present ≡ self.old.present }
         ensures told { OnOk result (SaysAsBefore (S.Took sink.old) (S.Took sink.new)) }
-        ensures spread { (rules : Rules) (w : WorldModel) (t : Timetable) → GoesBy rules self.old →
+        ensures spread { (rules : Rules) (event : Happening) (w : WorldModel) (t : Timetable) →
+            event.station ≡ giver → event.moment ≡ moment → GoesBy rules self.old →
             RepresentsWorld self.old.world w → Keeps self.old.queue self.old.draws t → OnOk result
             (Keeps self.new.queue self.new.draws
-            (spread_frame rules self.old.present.items (event_of event.now) w (Some frame) t)) }
+            (spread_frame rules self.old.present.items event w (Some frame) t)) }
     {
-        self.find_hearers(event.station)?;
+        self.find_hearers(giver)?;
         let given = GivenFrame {
             frame,
-            moment: event.moment,
-            heard_at: event.moment + u64::from(self.air.delay),
+            moment,
+            heard_at: moment + u64::from(self.air.delay),
         };
         let hearers = self.hearers.as_slice();
         let (queue, draws) = (&mut self.queue, &mut self.draws);
@@ -652,6 +771,48 @@ impl<'a> Run<'a> {
         )?;
         Ok(())
     }
+}
+
+/// Does an event, which is the one of this number, in a world in which stations hold these frames.
+/// If its station restarted, the sink gets a note of each frame that it dropped.
+fn step_holding<S: EventSink>(
+    world: &mut World,
+    number: usize,
+    event: &Event,
+    held: &mut Contentions,
+    sink: &mut S,
+) -> Result<Entry, SimulationFault>
+    requires range { IsInRange event.now.what }
+    requires kept { IsKept world.old.released (what_of event.now.what) }
+    ensures run { (configs : List Beginning) (events : List Happening) →
+        IsSimulated configs events world.old (S.Took sink.old) → OnOk result
+        (IsSimulated configs (events ++ event_of event.now ∷ []) world.new (S.Took sink.new)) }
+    ensures entry { (configs : List Beginning) (events : List Happening) →
+        IsSimulated configs events world.old (S.Took sink.old) → IfOk result (λ entry.
+        IsEntryOf configs events (event_of event.now) entry) }
+    ensures others { AreSameBut event.now.station world.old.stations world.new.stations }
+    ensures released { world.new.released ≡ world.old.released }
+{
+    let entry = do_event_holding(world, number, event, held, sink)?;
+    note_dropped(world, event, held.dropped(), sink)?;
+    Ok(entry)
+}
+
+/// Passes a sink a note of each of these frames, which the station of an event dropped.
+fn note_dropped<S: EventSink>(
+    world: &World,
+    event: &Event,
+    dropped: &[usize],
+    sink: &mut S,
+) -> Result<(), SimulationFault>
+    ensures told { OnOk result (SaysAsBefore (S.Took sink.old) (S.Took sink.new)) }
+{
+    let station = event.station;
+    for frame in dropped {
+        let frame = *frame;
+        sink.note(world, event.moment, &Note::Dropped { station, frame })?;
+    }
+    Ok(())
 }
 
 /// Returns the position of a station, by its number.

@@ -41,6 +41,7 @@ pub fn run_scenario<S: EventSink>(
             timeline.events.as_slice(),
             &timeline.air,
             timeline.every.as_slice(),
+            scenario.contend.as_slice(),
             sink,
         ),
         Timeline::Moves(_) => Err(AirFault::NoRows),

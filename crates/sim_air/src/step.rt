@@ -1,12 +1,13 @@
 //! How a run does what comes from outside, and what the radio model planned.
 
 ghost use Rattle.std.specs.Prelude.{[], ℕ, IsTrue, ◌≡◌, ◌≤◌, ◌<◌, ◌+◌, ◌^◌, ◌∷◌, All, length};
-ghost use Rattle.std.specs.Prelude.{IfOk, OnOk, ◌⊎◌, true, false, map};
+ghost use Rattle.std.specs.Prelude.{IfOk, OnOk, ◌⊎◌, Bool, true, false, map};
 ghost use Rattle.sim_scenario.specs.Airs.{moment_of};
 ghost use Rattle.sim_scenario.specs.Events.{FitsAddressed, station_in};
 ghost use Rattle.its_world.specs.Events.{IsInRange, event_of, what_of};
 ghost use Rattle.its_world.specs.Steps.{IsKept};
 ghost use Rattle.sim_air.specs.AirRun.{events_in};
+ghost use Rattle.sim_air.specs.Going.{GoesOn};
 ghost use Rattle.sim_air.specs.Moving.{DoesAsked, DoesFiled, DoesTaken, DoesThere};
 ghost use Rattle.sim_air.specs.Moving.{LeavesOwn, TakesOwn};
 ghost use Rattle.sim_air.specs.Outside.{Delivers, opening_at, station_of_filed};
@@ -37,6 +38,8 @@ pub(crate) fn do_at<S: EventSink>(
     requires fits { FitsAddressed event.now }
     requires standings { AreIndexed run.old }
     ensures standings { OnOk result (AreIndexed run.new) }
+    ensures going { OnOk result (GoesOn true run.old.world (S.Took sink.old) run.new.world
+        (S.Took sink.new)) }
     ensures moving { OnOk result (DoesAsked event.now station run.old (S.Took sink.old) run.new
         (S.Took sink.new)) }
 {
@@ -57,6 +60,8 @@ pub(crate) fn do_filed<S: EventSink>(
     requires moment { moment_of filed.now ≤ 2 ^ 63 + 10000 }
     requires standings { AreIndexed run.old }
     ensures standings { OnOk result (AreIndexed run.new) }
+    ensures going { OnOk result (GoesOn true run.old.world (S.Took sink.old) run.new.world
+        (S.Took sink.new)) }
     ensures moving { OnOk result (DoesFiled (moment_of filed.now) (filed_of filed.now) run.old
         (S.Took sink.old) run.new (S.Took sink.new)) }
 {
@@ -98,6 +103,8 @@ pub(crate) fn take_own<S: EventSink>(
     ensures standings { OnOk result (AreIndexed run.new) }
     ensures kept { OnOk result (run.old.world.released ≤ lowest →
         run.new.world.released ≤ lowest) }
+    ensures going { (grows : Bool) → OnOk result (GoesOn grows run.old.world (S.Took sink.old)
+        run.new.world (S.Took sink.new)) }
     ensures taken { IfOk result (λ taken. taken ≡ true →
         TakesOwn limit count.old run.old (S.Took sink.old) count.new run.new
         (S.Took sink.new)) }
@@ -114,6 +121,62 @@ pub(crate) fn take_own<S: EventSink>(
     take_planned(run, count, lowest, limit, sink)
 }
 
+/// Takes the first of the radio model's own, as `take_own` does, or releases a frame that a station
+/// holds. Returns whether it did. A frame is released when it is due, after all that is done up to
+/// that time.
+#[inline(always)]
+pub(crate) fn take_turn<S: EventSink>(
+    run: &mut Run<'_>,
+    count: &mut FrameCount,
+    lowest: usize,
+    limit: u64,
+    sink: &mut S,
+) -> Result<bool, AirFault>
+    requires limit { limit ≤ 2 ^ 63 + 10001 }
+    requires standings { AreIndexed run.old }
+    ensures standings { OnOk result (AreIndexed run.new) }
+    ensures kept { OnOk result (run.old.world.released ≤ lowest →
+        run.new.world.released ≤ lowest) }
+    ensures going { (grows : Bool) → OnOk result (GoesOn grows run.old.world (S.Took sink.old)
+        run.new.world (S.Took sink.new)) }
+    ensures taken { IfOk result (λ taken. taken ≡ true →
+        TakesOwn limit count.old run.old (S.Took sink.old) count.new run.new
+        (S.Took sink.new)) }
+    ensures left { IfOk result (λ taken. taken ≡ false →
+        LeavesOwn limit count.old run.old (S.Took sink.old) count.new run.new
+        (S.Took sink.new)) }
+{
+    let Some(due) = run.due_before(limit) else {
+        return take_own(run, count, lowest, limit, sink);
+    };
+    take_until_due(run, count, lowest, due, sink)?;
+    Ok(true)
+}
+
+/// Takes the first of the radio model's own, as `take_own` does, if its time is at most this one.
+/// Otherwise releases the frame that is due at this time.
+fn take_until_due<S: EventSink>(
+    run: &mut Run<'_>,
+    count: &mut FrameCount,
+    lowest: usize,
+    due: u64,
+    sink: &mut S,
+) -> Result<(), AirFault>
+    requires due { due ≤ 2 ^ 63 + 10000 }
+    requires standings { AreIndexed run.old }
+    ensures standings { OnOk result (AreIndexed run.new) }
+    ensures kept { OnOk result (run.old.world.released ≤ lowest →
+        run.new.world.released ≤ lowest) }
+    ensures going { (grows : Bool) → OnOk result (GoesOn grows run.old.world (S.Took sink.old)
+        run.new.world (S.Took sink.new)) }
+{
+    if take_own(run, count, lowest, due + 1, sink)? {
+        return Ok(());
+    }
+    run.release_due(sink)?;
+    Ok(())
+}
+
 /// Takes the first of the radio model's own and does it, as `take_own` does.
 #[inline(never)]
 fn take_planned<S: EventSink>(
@@ -128,6 +191,8 @@ fn take_planned<S: EventSink>(
     ensures standings { OnOk result (AreIndexed run.new) }
     ensures kept { OnOk result (run.old.world.released ≤ lowest →
         run.new.world.released ≤ lowest) }
+    ensures going { (grows : Bool) → OnOk result (GoesOn grows run.old.world (S.Took sink.old)
+        run.new.world (S.Took sink.new)) }
     ensures taken { IfOk result (λ taken. taken ≡ true →
         TakesOwn limit count.old run.old (S.Took sink.old) count.new run.new
         (S.Took sink.new)) }
@@ -156,6 +221,8 @@ fn deliver<S: EventSink>(
     requires standings { AreIndexed run.old }
     ensures standings { OnOk result (AreIndexed run.new) }
     ensures released { run.new.world.released ≡ run.old.world.released }
+    ensures going { (grows : Bool) → OnOk result (GoesOn grows run.old.world (S.Took sink.old)
+        run.new.world (S.Took sink.new)) }
     ensures moving { OnOk result (DoesTaken (delivery_of delivery.now) run.old (S.Took sink.old)
         run.new (S.Took sink.new)) }
 {
@@ -169,6 +236,7 @@ fn deliver<S: EventSink>(
 /// Whether the station of a delivery exists, and its frame is kept.
 #[inline(always)]
 fn can_deliver(run: &Run<'_>, delivery: &Delivery) -> bool
+    ensures there { IsTrue result → delivery.now.station < length run.now.world.stations }
     ensures kept { IsTrue result → run.now.world.released ≤ delivery.now.frame }
     ensures can { delivery.now.station < length run.now.world.stations →
         run.now.world.released ≤ delivery.now.frame → IsTrue result }
@@ -187,6 +255,8 @@ fn do_own<S: EventSink>(
     requires standings { AreIndexed run.old }
     ensures standings { OnOk result (AreIndexed run.new) }
     ensures released { run.new.world.released ≡ run.old.world.released }
+    ensures going { (grows : Bool) → OnOk result (GoesOn grows run.old.world (S.Took sink.old)
+        run.new.world (S.Took sink.new)) }
     ensures moving { OnOk result (DoesTaken waiting.now run.old (S.Took sink.old) run.new
         (S.Took sink.new)) }
 {
@@ -219,6 +289,8 @@ pub(crate) fn move_in<S: EventSink>(
     requires kept { (released : ℕ) → IsKept released (what_of event.now.what) }
     requires standings { AreIndexed run.old }
     ensures standings { OnOk result (AreIndexed run.new) }
+    ensures going { OnOk result (event.now.station < length run.old.world.stations →
+        GoesOn true run.old.world (S.Took sink.old) run.new.world (S.Took sink.new)) }
     ensures moving { OnOk result (DoesThere event.now.station event.now.moment
         (Happens (event_of event.now)
         ∷ map (opening_at event.now.station event.now.moment) ports.now) run.old
@@ -242,6 +314,8 @@ fn open_ports<S: EventSink>(
     requires moment { event.now.moment ≤ 2 ^ 63 + 10000 }
     requires standings { AreIndexed run.old }
     ensures standings { OnOk result (AreIndexed run.new) }
+    ensures going { OnOk result (event.now.station < length run.old.world.stations →
+        GoesOn true run.old.world (S.Took sink.old) run.new.world (S.Took sink.new)) }
     ensures moving { OnOk result (DoesThere event.now.station event.now.moment
         (map (opening_at event.now.station event.now.moment) ports.now) run.old
         (S.Took sink.old) run.new (S.Took sink.new)) }

@@ -6,7 +6,7 @@ use Rattle.its_station.specs.declared.answer.Answer.TheVariants as entries
 use Rattle.its_station.specs.declared.call.OwnCall.TheVariants as own_calls
 use Rattle.its_world.specs.declared.event.What.{What}
 use Rattle.its_world.specs.declared.event.What.TheVariants as whats
-use Rattle.sim_results.specs.declared.audience.Target.{Target}
+use Rattle.sim_results.specs.declared.audience.IntendedStation.{IntendedStation}
 use Rattle.sim_results.specs.declared.reach.Reach.{Reach}
 use Rattle.sim_results.specs.declared.reach.Reach.TheVariants as reaches
 
@@ -23,16 +23,16 @@ at_end is_cut reach = reach
 
 -- the packet was delivered there: where a limit is given, at most so many milliseconds after it was
 -- sent
-abbrev pub was_reached : Option ℕ → Target → Bool
+abbrev pub was_reached : Option ℕ → IntendedStation → Bool
 was_reached None target = is_delivered target.reach
 was_reached (Some limit) target = is_delivered target.reach && nat_le target.after limit
 
 -- the number of a station, and how far the packet came there
-abbrev pub told : Target → ℕ × Reach
+abbrev pub told : IntendedStation → ℕ × Reach
 told target = (target.station, target.reach)
 
 -- those to which it wasn't delivered, in order
-abbrev pub missed_of : List Target → List (ℕ × Reach)
+abbrev pub missed_of : List IntendedStation → List (ℕ × Reach)
 missed_of targets = map told (filter (λ target. not (was_reached None target)) targets)
 
 -- a frame was given

@@ -9,7 +9,7 @@ use crate::waiting_frames::WaitingFrames;
 use its_geometry::{Area, contains};
 use its_gnvalue::NoMemory;
 use its_station::{OwnCall, OwnedGbcRequest};
-use its_world::{Entry, What, World, frame_of};
+use its_world::{Entry, What, World};
 use sim_scenario::Scenario;
 use sim_simulation::tally::{CarriedPacket, Presence};
 use sim_simulation::{EventRecord, Note};
@@ -17,14 +17,14 @@ use std::alloc::Global;
 
 /// A station that a packet is for.
 #[derive(Clone, Copy)]
-struct Target {
+struct IntendedStation {
     station: usize,
     reach: Reach,
     /// The milliseconds from the send to the first delivery, where there was one.
     after: u64,
 }
 
-impl Target {
+impl IntendedStation {
     /// Whether the packet was delivered to its port: where a limit is given, at most so many
     /// milliseconds after it was sent.
     fn was_reached(&self, limit: Option<u64>) -> bool
@@ -43,7 +43,7 @@ impl Target {
 pub struct Audience {
     moment: u64,
     area: Area,
-    targets: Vec<Target>,
+    targets: Vec<IntendedStation>,
 }
 
 impl Audience {
@@ -105,7 +105,7 @@ impl Audience {
     }
 
     /// The station of this number, where the packet is for it.
-    fn target(&mut self, station: usize) -> Option<&mut Target> {
+    fn target(&mut self, station: usize) -> Option<&mut IntendedStation> {
         let place = self
             .targets
             .as_slice()
@@ -195,10 +195,7 @@ impl Audiences {
             What::Deliver(frame) => self.take_delivery(world, done, *frame),
             What::Call(_) => None,
         };
-        if let (Some(frame), Some(carried)) = (frame_of(done.entry), carried) {
-            self.frames.note_given(frame, carried)?;
-        }
-        Ok(())
+        self.frames.take(done, carried)
     }
 
     /// Takes a note of the run, of this moment in milliseconds: who comes and leaves, and whether a
@@ -214,6 +211,12 @@ impl Audiences {
         match *note {
             Note::Heard { frame, .. } => self.frames.wait(frame),
             Note::Lost { station, frame } => self.note_lost(station, moment, frame),
+            Note::Released { frame, .. } => {
+                self.frames.release(frame);
+            }
+            Note::Dropped { frame, .. } => {
+                self.frames.let_go(frame);
+            }
             _ => {}
         }
         self.presence.take(note)
@@ -286,11 +289,11 @@ fn targets_of(
     presence: &Presence,
     sender: usize,
     request: &OwnedGbcRequest,
-) -> Result<Vec<Target>, NoMemory> {
+) -> Result<Vec<IntendedStation>, NoMemory> {
     let mut targets = Vec::new(alloc);
     for (number, station) in world.stations().iter().enumerate() {
         if presence.is_for(request, sender, number, station) {
-            targets.push(Target {
+            targets.push(IntendedStation {
                 station: number,
                 reach: Reach::Unheard,
                 after: 0,

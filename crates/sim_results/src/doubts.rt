@@ -143,8 +143,14 @@ impl Doubts {
             .take_send(world, present, done, request, event)
     }
 
-    /// Takes a note of the run. `NoMemory` if an allocation failed.
-    pub fn take_note(&mut self, note: &Note<'_>) -> Result<(), NoMemory> {
+    /// Takes a note of the run, of this time in milliseconds, with the world as it stands then.
+    /// `NoMemory` if an allocation failed.
+    pub fn take_note(
+        &mut self,
+        world: &World,
+        moment: u64,
+        note: &Note<'_>,
+    ) -> Result<(), NoMemory> {
         match *note {
             Note::Made { id, .. } => self.take_made(id),
             Note::Came { station } => {
@@ -159,7 +165,11 @@ impl Doubts {
                 self.warnings.take_delivery();
                 Ok(())
             }
-            Note::Lost { .. } | Note::Absent { .. } => Ok(()),
+            Note::Released { frame, .. } => {
+                self.warnings.take_release(world.kept_frame(frame), moment);
+                Ok(())
+            }
+            Note::Lost { .. } | Note::Dropped { .. } | Note::Absent { .. } => Ok(()),
         }
     }
 

@@ -26,7 +26,7 @@ const MOST_LINES: usize = 20;
 
 /// What is known of a vehicle that isn't there.
 #[derive(Clone, Copy)]
-enum Vehicle {
+enum MissingVehicle {
     /// It was there before, and has left.
     HasLeft,
     /// It comes first at this moment, in milliseconds.
@@ -35,12 +35,12 @@ enum Vehicle {
     NeverComes,
 }
 
-impl fmt::Display for Vehicle {
+impl fmt::Display for MissingVehicle {
     fn fmt<W: fmt::Write>(&self, f: &mut fmt::Formatter<W>) -> fmt::Result {
         match self {
-            Vehicle::HasLeft => f.write_str("it has left"),
-            Vehicle::Comes(moment) => write!(f, "it comes at {moment} ms"),
-            Vehicle::NeverComes => f.write_str("it never comes"),
+            MissingVehicle::HasLeft => f.write_str("it has left"),
+            MissingVehicle::Comes(moment) => write!(f, "it comes at {moment} ms"),
+            MissingVehicle::NeverComes => f.write_str("it never comes"),
         }
     }
 }
@@ -49,7 +49,7 @@ impl fmt::Display for Vehicle {
 #[derive(Drop)]
 enum Failure {
     /// The vehicle of its id isn't there.
-    NoVehicle(String, Vehicle),
+    NoVehicle(String, MissingVehicle),
     /// The run doesn't come to it.
     Late(WhyLate),
     /// The station refused to send.
@@ -114,8 +114,8 @@ impl FailedEvent {
     /// A vehicle comes first at this moment.
     fn note_coming(&mut self, id: &str, moment: u64) {
         if let Failure::NoVehicle(name, vehicle) = &mut self.why {
-            if matches!(vehicle, Vehicle::NeverComes) && name.as_str() == id {
-                *vehicle = Vehicle::Comes(moment);
+            if matches!(vehicle, MissingVehicle::NeverComes) && name.as_str() == id {
+                *vehicle = MissingVehicle::Comes(moment);
             }
         }
     }
@@ -340,9 +340,9 @@ impl FailedEvents {
             self.came = self.came.saturating_add(1);
         }
         let vehicle = if has_left {
-            Vehicle::HasLeft
+            MissingVehicle::HasLeft
         } else {
-            Vehicle::NeverComes
+            MissingVehicle::NeverComes
         };
         let id = String::from_str(self.alloc, id)?;
         self.add(FailedEvent {

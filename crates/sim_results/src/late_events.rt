@@ -2,7 +2,7 @@
 
 ghost use Rattle.std.specs.Prelude.{◌≡◌, ◌≤◌, ◌<◌, IfNone, IfSome, None, Some};
 
-use crate::unsent::AreaPacket;
+use crate::unsent::AreaSend;
 use its_gnvalue::NoMemory;
 use sim_scenario::events::{AddressedEvent, FileEvent};
 use sim_scenario::{Scenario, Timeline};
@@ -49,7 +49,7 @@ pub(crate) struct LateEvent {
     /// Its station, if the event names one by its number.
     pub(crate) station: Option<usize>,
     /// The packet for an area that it sends, if it sends one.
-    pub(crate) packet: Option<AreaPacket>,
+    pub(crate) packet: Option<AreaSend>,
     pub(crate) why: WhyLate,
 }
 
@@ -60,7 +60,7 @@ impl LateEvent {
             number,
             moment: filed.moment(),
             station: Some(filed.station()),
-            packet: filed.event().and_then(|event| AreaPacket::of(&event.what)),
+            packet: filed.event().and_then(|event| AreaSend::of(&event.what)),
             why,
         }
     }
@@ -71,7 +71,7 @@ impl LateEvent {
             number: event.number,
             moment: event.moment,
             station: event.station(),
-            packet: AreaPacket::of_action(&event.action),
+            packet: AreaSend::of_action(&event.action),
             why,
         }
     }

@@ -4,7 +4,7 @@ ghost use Rattle.std.specs.Prelude.{◌≡◌, ◌+◌, ◌-◌, ◌^◌, min};
 
 use crate::busy::{frame_time, octets_time};
 use crate::quantile::Quantiles;
-use crate::rows::Rows;
+use crate::rows::NumberRows;
 use its_gnvalue::NoMemory;
 use its_world::World;
 use sim_simulation::{EventRecord, Note, SimulationFault};
@@ -128,6 +128,13 @@ impl LoadRows {
         }
     }
 
+    /// Adds a frame that goes out of a station at this moment.
+    fn send(&mut self, station: usize, moment: u64, octets: &[u8]) {
+        self.frames = self.frames.saturating_add(1);
+        self.octets = self.octets.saturating_add(octets.len() as u64);
+        self.add(station, moment, octets_time(octets));
+    }
+
     /// A station comes or leaves.
     fn set_present(&mut self, station: usize, is_present: bool) {
         if let Some(load) = self.stations.as_mut_slice().get_mut(station) {
@@ -136,7 +143,7 @@ impl LoadRows {
     }
 }
 
-impl Rows for LoadRows {
+impl NumberRows for LoadRows {
     fn begin<W: Write>(&self, out: &mut W) -> io::Result<()> {
         writeln!(out, "{HEAD}")
     }
@@ -148,10 +155,8 @@ impl Rows for LoadRows {
         out: &mut W,
     ) -> Result<(), SimulationFault> {
         self.reach(done.moment, out)?;
-        if let Some(octets) = done.octets {
-            self.frames = self.frames.saturating_add(1);
-            self.octets = self.octets.saturating_add(octets.len() as u64);
-            self.add(done.station, done.moment, octets_time(octets));
+        if let Some(octets) = done.sent_octets() {
+            self.send(done.station, done.moment, octets);
         }
         Ok(())
     }
@@ -171,7 +176,12 @@ impl Rows for LoadRows {
             Note::Heard { station, frame } | Note::Lost { station, frame } => {
                 self.add(station, moment, frame_time(world, frame));
             }
-            Note::Absent { .. } => {}
+            Note::Released { station, frame } => {
+                if let Some(octets) = world.kept_frame(frame) {
+                    self.send(station, moment, octets);
+                }
+            }
+            Note::Dropped { .. } | Note::Absent { .. } => {}
         }
         Ok(())
     }

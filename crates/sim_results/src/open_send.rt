@@ -40,8 +40,11 @@ pub(crate) struct OpenSend {
     duplicates: usize,
     /// Deliveries that a full location table refused.
     full: usize,
-    /// How many deliveries of its frames are still to come.
+    /// How many deliveries of its frames are still to come, and how many of its frames are held.
     waiting: usize,
+    /// Its frames that a station held, and those of them that others' copies cancelled.
+    held: usize,
+    cancelled: usize,
 }
 
 impl OpenSend {
@@ -70,10 +73,12 @@ impl OpenSend {
             duplicates: 0,
             full: 0,
             waiting: 0,
+            held: 0,
+            cancelled: 0,
         })
     }
 
-    /// Whether a delivery of one of its frames is still to come.
+    /// Whether a delivery of one of its frames is still to come, or a station holds one.
     pub(crate) fn is_open(&self) -> bool {
         self.waiting > 0
     }
@@ -86,6 +91,27 @@ impl OpenSend {
     /// A delivery that was to come was done.
     pub(crate) fn wait_no_more(&mut self) {
         self.waiting = self.waiting.saturating_sub(1);
+    }
+
+    /// A station holds a frame of it.
+    pub(crate) fn hold(&mut self) {
+        add_one(&mut self.held);
+        self.wait(1);
+    }
+
+    /// A frame of it that a station held goes out.
+    pub(crate) fn release(&mut self) {
+        self.wait_no_more();
+        self.relay();
+    }
+
+    /// A frame of it that a station held goes to nobody, since others have sent it if it is
+    /// cancelled.
+    pub(crate) fn let_go(&mut self, is_cancelled: bool) {
+        self.wait_no_more();
+        if is_cancelled {
+            add_one(&mut self.cancelled);
+        }
     }
 
     /// A station gave a frame of it on.
@@ -133,7 +159,12 @@ impl OpenSend {
     }
 
     /// Writes its row. `times` are those of its first deliveries.
-    fn write_row<W: Write>(&self, times: Quantiles, out: &mut W) -> io::Result<()> {
+    fn write_row<W: Write>(
+        &self,
+        times: Quantiles,
+        has_contention: bool,
+        out: &mut W,
+    ) -> io::Result<()> {
         self.write_send(out)?;
         self.write_audience(out)?;
         self.write_deliveries(out)?;
@@ -143,7 +174,11 @@ impl OpenSend {
             p95,
             most,
         } = times;
-        writeln!(out, "{},{least},{p50},{p95},{most}", self.hops)
+        write!(out, "{},{least},{p50},{p95},{most}", self.hops)?;
+        if has_contention {
+            write!(out, ",{},{}", self.held, self.cancelled)?;
+        }
+        writeln!(out)
     }
 
     /// Writes when it was sent, by which station, and as what.
@@ -169,10 +204,14 @@ impl OpenSend {
         write!(out, "{heard},{lost},{duplicates},{full},")
     }
 
-    /// Writes its row, when nothing more comes of it.
-    pub(crate) fn write<W: Write>(mut self, out: &mut W) -> Result<(), SimulationFault> {
+    /// Writes its row, when nothing more comes of it, with what was held if any station contends.
+    pub(crate) fn write<W: Write>(
+        mut self,
+        has_contention: bool,
+        out: &mut W,
+    ) -> Result<(), SimulationFault> {
         let times = self.times()?;
-        Ok(self.write_row(times, out)?)
+        Ok(self.write_row(times, has_contention, out)?)
     }
 }
 

@@ -5,7 +5,7 @@ ghost use Rattle.cmd_reporting.specs.Statuses.{IsCommandStatus};
 ghost use Rattle.sim_results.specs.Results.{IsNoFile};
 
 use crate::load_rows::LoadRows;
-use crate::rows::Rows;
+use crate::rows::NumberRows;
 use crate::send_rows::SendRows;
 use crate::station_rows::StationRows;
 use cmd_reporting::{Fault, Status};
@@ -46,7 +46,7 @@ struct ResultFile<'a, R: Drop, W: Write + Drop> {
     failed: bool,
 }
 
-impl<'a, R: Rows + Drop, W: Write + Drop> ResultFile<'a, R, W> {
+impl<'a, R: NumberRows + Drop, W: Write + Drop> ResultFile<'a, R, W> {
     /// Begins the file of this name with the names of its columns.
     fn begin(name: &'a str, rows: R, writer: W) -> Result<ResultFile<'a, R, W>, Fault<'a>> {
         let mut writer = writer;
@@ -108,7 +108,7 @@ impl<'a, R: Rows + Drop, W: Write + Drop> ResultFile<'a, R, W> {
 }
 
 /// Begins the file of this name, where there is one.
-fn begin_file<'a, R: Rows + Drop, W: Write + Drop>(
+fn begin_file<'a, R: NumberRows + Drop, W: Write + Drop>(
     name: Option<&'a str>,
     rows: R,
     writer: Option<W>,
@@ -142,9 +142,7 @@ fn begin_stations<'a, W: Write + Drop>(
 ) -> Result<Option<ResultFile<'a, StationRows, W>>, Fault<'a>>
     ensures { name.entry ≡ None → IfOk result (λ file. file ≡ None) }
 {
-    let configs = scenario.stations.as_slice();
-    let rows = StationRows::new(alloc, configs, scenario.present.as_slice())?;
-    begin_file(name, rows, writer)
+    begin_file(name, StationRows::new(alloc, scenario)?, writer)
 }
 
 /// The same of the load.
@@ -162,7 +160,7 @@ fn begin_load<'a, W: Write + Drop>(
 
 /// The file, where there is one, takes an event that was done.
 #[inline(always)]
-fn take_in<'a, R: Rows + Drop, W: Write + Drop>(
+fn take_in<'a, R: NumberRows + Drop, W: Write + Drop>(
     file: &mut Option<ResultFile<'a, R, W>>,
     world: &World,
     done: &EventRecord<'_>,
@@ -176,7 +174,7 @@ fn take_in<'a, R: Rows + Drop, W: Write + Drop>(
 }
 
 /// The same of a note of the run.
-fn take_note_in<'a, R: Rows + Drop, W: Write + Drop>(
+fn take_note_in<'a, R: NumberRows + Drop, W: Write + Drop>(
     file: &mut Option<ResultFile<'a, R, W>>,
     world: &World,
     moment: u64,
@@ -191,7 +189,7 @@ fn take_note_in<'a, R: Rows + Drop, W: Write + Drop>(
 }
 
 /// Ends the file, where there is one, after a run that ended so.
-fn end_file<'a, R: Rows + Drop, W: Write + Drop>(
+fn end_file<'a, R: NumberRows + Drop, W: Write + Drop>(
     file: Option<ResultFile<'a, R, W>>,
     ran: Result<Status, Fault<'a>>,
 ) -> Result<Status, Fault<'a>>

@@ -6,7 +6,7 @@ use std::io;
 use std::io::Write;
 
 /// The rows of a file of numbers, which a run makes.
-pub(crate) trait Rows {
+pub(crate) trait NumberRows {
     /// Writes the names of the columns.
     fn begin<W: Write>(&self, out: &mut W) -> io::Result<()>;
 

@@ -3,7 +3,7 @@
 
 use crate::late_events::late_events;
 use crate::open_send::OpenSend;
-use crate::rows::Rows;
+use crate::rows::NumberRows;
 use crate::unsent::UnsentPacket;
 use crate::waiting_frames::WaitingFrames;
 use its_gnvalue::NoMemory;
@@ -21,6 +21,9 @@ use std::io::Write;
 /// The names of the columns.
 const HEAD: &str = "send,moment,station,kind,port,inside,reached,delivered,frames,heard,lost,\
     duplicates,full,hops,first,p50,p95,last";
+
+/// The names of two more columns, of a run in which any station contends.
+const CONTENTION_HEAD: &str = ",held,cancelled";
 
 /// A row that isn't written yet.
 #[derive(Drop)]
@@ -41,12 +44,24 @@ impl WaitingRow {
     }
 
     /// Writes it, when nothing more comes of its packet.
-    fn write<W: Write>(self, out: &mut W) -> Result<(), SimulationFault> {
+    fn write<W: Write>(self, has_contention: bool, out: &mut W) -> Result<(), SimulationFault> {
         match self {
-            WaitingRow::Sent(packet) => packet.write(out),
-            WaitingRow::Unsent(packet) => Ok(packet.write(out)?),
+            WaitingRow::Sent(packet) => packet.write(has_contention, out),
+            WaitingRow::Unsent(packet) => write_unsent(&packet, has_contention, out),
         }
     }
+}
+
+/// Writes the row of a packet that wasn't sent.
+fn write_unsent<W: Write>(
+    packet: &UnsentPacket,
+    has_contention: bool,
+    out: &mut W,
+) -> Result<(), SimulationFault> {
+    packet.write(out)?;
+    // What was held of it is left empty.
+    writeln!(out, "{}", if has_contention { ",," } else { "" })?;
+    Ok(())
 }
 
 /// The packets for an area whose rows aren't written yet, in the order in which they were sent.
@@ -60,6 +75,8 @@ pub(crate) struct SendRows {
     open: VecDeque<WaitingRow>,
     /// The packets of events that the run doesn't come to, once its end is known.
     late: Vec<UnsentPacket>,
+    /// Whether any station contends.
+    has_contention: bool,
 }
 
 impl SendRows {
@@ -72,6 +89,7 @@ impl SendRows {
             written: 0,
             open: VecDeque::new(alloc),
             late: Vec::new(alloc),
+            has_contention: scenario.has_contention(),
         })
     }
 
@@ -124,7 +142,7 @@ impl SendRows {
             return Ok(());
         };
         self.written = self.written.saturating_add(1);
-        first.write(out)
+        first.write(self.has_contention, out)
     }
 
     /// Takes the event. Returns what the frame that it gave carries, if it gave one that carries a
@@ -185,8 +203,38 @@ impl SendRows {
         if !is_relayed {
             return Ok(None);
         }
-        packet.relay();
+        if !done.is_held() {
+            packet.relay();
+        }
         Ok(Some(carried.relayed()))
+    }
+
+    /// A station holds a frame of the packet of this place.
+    fn note_held(&mut self, frame: usize, send: usize) {
+        self.frames.hold(frame);
+        if let Some(packet) = self.packet(send) {
+            packet.hold();
+        }
+    }
+
+    /// A frame that a station held goes out.
+    fn release(&mut self, frame: usize) {
+        let Some(carried) = self.frames.release(frame) else {
+            return;
+        };
+        if let Some(packet) = self.packet(carried.send) {
+            packet.release();
+        }
+    }
+
+    /// A frame that a station held goes to nobody, since others have sent it if it is cancelled.
+    fn let_go(&mut self, frame: usize, is_cancelled: bool) {
+        let Some(carried) = self.frames.let_go(frame) else {
+            return;
+        };
+        if let Some(packet) = self.packet(carried.send) {
+            packet.let_go(is_cancelled);
+        }
     }
 
     /// Takes a frame that was given, with what it carries.
@@ -199,9 +247,14 @@ impl SendRows {
     }
 }
 
-impl Rows for SendRows {
+impl NumberRows for SendRows {
     fn begin<W: Write>(&self, out: &mut W) -> io::Result<()> {
-        writeln!(out, "{HEAD}")
+        let more = if self.has_contention {
+            CONTENTION_HEAD
+        } else {
+            ""
+        };
+        writeln!(out, "{HEAD}{more}")
     }
 
     fn take<W: Write>(
@@ -214,6 +267,12 @@ impl Rows for SendRows {
         let carried = self.count(world, done)?;
         if let (Some(frame), Some(carried)) = (frame_of(done.entry), carried) {
             self.note_given(frame, carried)?;
+            if done.is_held() {
+                self.note_held(frame, carried.send);
+            }
+        }
+        for frame in done.cancelled_frames().unwrap_or(&[]) {
+            self.let_go(*frame, true);
         }
         Ok(())
     }
@@ -229,6 +288,8 @@ impl Rows for SendRows {
         let (frame, is_heard) = match *note {
             Note::Heard { frame, .. } => (frame, true),
             Note::Lost { frame, .. } => (frame, false),
+            Note::Released { frame, .. } => return Ok(self.release(frame)),
+            Note::Dropped { frame, .. } => return Ok(self.let_go(frame, false)),
             Note::Absent { event, .. } => return Ok(self.add_unsent(UnsentPacket::absent(event))?),
             _ => return Ok(()),
         };
@@ -251,7 +312,7 @@ impl Rows for SendRows {
             self.write_first(out)?;
         }
         for packet in &self.late {
-            packet.write(out)?;
+            write_unsent(packet, self.has_contention, out)?;
         }
         Ok(())
     }

@@ -1,10 +1,11 @@
 //! The file of the stations of a run: a row each.
 
 use crate::busy::{frame_time, octets_time};
-use crate::rows::Rows;
+use crate::rows::NumberRows;
 use its_gnvalue::{GnAddress, NoMemory};
 use its_station::{Refused, Why};
-use its_world::{Config, Entry, EntryFault, What, World};
+use its_world::{Entry, EntryFault, What, World};
+use sim_scenario::Scenario;
 use sim_simulation::{EventRecord, Note, SimulationFault};
 use std::alloc::Global;
 use std::io;
@@ -13,6 +14,9 @@ use std::io::Write;
 /// The names of the columns.
 const HEAD: &str = "station,id,address,from,to,away,sent,relayed,octets,heard,delivered,duplicates,\
     ignored,refused,full,lost,busy,busiest";
+
+/// The names of two more columns, of a run in which any station contends.
+const CONTENTION_HEAD: &str = ",held,cancelled";
 
 /// The milliseconds of an interval of which the busiest is told.
 const INTERVAL: u64 = 100;
@@ -84,7 +88,7 @@ impl BusyTime {
 
 /// What a station did, in numbers.
 #[derive(Clone, Copy, Default)]
-struct Counts {
+struct StationNumbers {
     sent: u64,
     relayed: u64,
     octets: u64,
@@ -95,16 +99,19 @@ struct Counts {
     refused: u64,
     full: u64,
     lost: u64,
+    held: u64,
+    cancelled: u64,
 }
 
-impl Counts {
+impl StationNumbers {
     /// Counts an event of the station.
     fn count(&mut self, done: &EventRecord<'_>) {
         match done.entry {
             Entry::Sent(_) => add_one(&mut self.sent),
             Entry::Accepted { handed, sent } => {
+                let is_relayed = sent.is_some() && !done.is_held();
                 self.delivered = self.delivered.saturating_add(u64::from(handed.is_some()));
-                self.relayed = self.relayed.saturating_add(u64::from(sent.is_some()));
+                self.relayed = self.relayed.saturating_add(u64::from(is_relayed));
             }
             Entry::Ignored(Why::Duplicate) => add_one(&mut self.duplicates),
             Entry::Ignored(_) => add_one(&mut self.ignored),
@@ -115,9 +122,22 @@ impl Counts {
         if matches!(done.what, What::Deliver(_)) && !is_missing {
             add_one(&mut self.heard);
         }
-        if let Some(octets) = done.octets {
-            self.octets = self.octets.saturating_add(octets.len() as u64);
+        if let Some(octets) = done.sent_octets() {
+            self.add_octets(octets.len());
         }
+        self.held = self.held.saturating_add(u64::from(done.is_held()));
+        self.cancelled = self.cancelled.saturating_add(done.cancelled() as u64);
+    }
+
+    /// Counts a frame of this many octets that the station held and that goes out.
+    fn release(&mut self, octets: usize) {
+        add_one(&mut self.relayed);
+        self.add_octets(octets);
+    }
+
+    /// Adds the octets of a frame that goes out.
+    fn add_octets(&mut self, octets: usize) {
+        self.octets = self.octets.saturating_add(octets as u64);
     }
 
     /// Counts an event that was refused.
@@ -136,23 +156,23 @@ fn add_one(count: &mut u64) {
 
 /// A station of a run.
 #[derive(Drop)]
-struct Row {
+struct StationRow {
     /// Its id in a file of moves; empty for one of the scenario's own.
     id: String,
     address: GnAddress,
     times: PresenceTimes,
-    counts: Counts,
+    counts: StationNumbers,
     busy: BusyTime,
 }
 
-impl Row {
+impl StationRow {
     /// Of a station that has done nothing yet, and is there from the start or not yet.
-    fn new(id: String, address: GnAddress, is_present: bool) -> Row {
-        Row {
+    fn new(id: String, address: GnAddress, is_present: bool) -> StationRow {
+        StationRow {
             id,
             address,
             times: PresenceTimes::new(is_present),
-            counts: Counts::default(),
+            counts: StationNumbers::default(),
             busy: BusyTime::default(),
         }
     }
@@ -162,26 +182,26 @@ impl Row {
 #[derive(Drop)]
 pub(crate) struct StationRows {
     alloc: Global,
-    rows: Vec<Row>,
+    rows: Vec<StationRow>,
     /// The moment of the last event or note.
     last: u64,
+    /// Whether any station contends.
+    has_contention: bool,
 }
 
 impl StationRows {
-    /// Those of a run of these stations that has not begun, of which some are present then.
-    pub(crate) fn new(
-        alloc: Global,
-        configs: &[Config],
-        present: &[bool],
-    ) -> Result<StationRows, NoMemory> {
+    /// Those of a run of a scenario that has not begun.
+    pub(crate) fn new(alloc: Global, scenario: &Scenario) -> Result<StationRows, NoMemory> {
+        let (configs, present) = (scenario.stations.as_slice(), scenario.present.as_slice());
         let mut rows = Vec::with_capacity(alloc, configs.len())?;
         for (config, is_present) in configs.iter().zip(present.iter()) {
-            rows.push(Row::new(String::new(alloc), config.address, *is_present))?;
+            rows.push(StationRow::new(String::new(alloc), config.address, *is_present))?;
         }
         Ok(StationRows {
             alloc,
             rows,
             last: 0,
+            has_contention: scenario.has_contention(),
         })
     }
 
@@ -192,7 +212,7 @@ impl StationRows {
         };
         let id = String::from_str(self.alloc, id)?;
         self.rows
-            .push(Row::new(id, made.vector().address(), false))?;
+            .push(StationRow::new(id, made.vector().address(), false))?;
         Ok(())
     }
 
@@ -225,15 +245,31 @@ impl StationRows {
         }
     }
 
+    /// A frame goes out that a station held.
+    fn release(&mut self, world: &World, moment: u64, station: usize, frame: usize) {
+        let Some(octets) = world.kept_frame(frame) else {
+            return;
+        };
+        if let Some(row) = self.row(station) {
+            row.counts.release(octets.len());
+            row.busy.add(moment, octets_time(octets));
+        }
+    }
+
     /// The row of a station.
-    fn row(&mut self, station: usize) -> Option<&mut Row> {
+    fn row(&mut self, station: usize) -> Option<&mut StationRow> {
         self.rows.as_mut_slice().get_mut(station)
     }
 }
 
-impl Rows for StationRows {
+impl NumberRows for StationRows {
     fn begin<W: Write>(&self, out: &mut W) -> io::Result<()> {
-        writeln!(out, "{HEAD}")
+        let more = if self.has_contention {
+            CONTENTION_HEAD
+        } else {
+            ""
+        };
+        writeln!(out, "{HEAD}{more}")
     }
 
     fn take<W: Write>(
@@ -245,7 +281,7 @@ impl Rows for StationRows {
         self.last = done.moment;
         if let Some(row) = self.row(done.station) {
             row.counts.count(done);
-            if let Some(octets) = done.octets {
+            if let Some(octets) = done.sent_octets() {
                 row.busy.add(done.moment, octets_time(octets));
             }
         }
@@ -269,7 +305,8 @@ impl Rows for StationRows {
                 self.hear(world, moment, station, frame);
                 self.lose(station);
             }
-            Note::Absent { .. } => {}
+            Note::Released { station, frame } => self.release(world, moment, station, frame),
+            Note::Dropped { .. } | Note::Absent { .. } => {}
         }
         Ok(())
     }
@@ -280,6 +317,10 @@ impl Rows for StationRows {
             write_id(row.id.as_str(), out)?;
             write!(out, ",{:016x},", row.address.as_u64())?;
             write_row(row, self.last, out)?;
+            if self.has_contention {
+                write!(out, ",{},{}", row.counts.held, row.counts.cancelled)?;
+            }
+            writeln!(out)?;
         }
         Ok(())
     }
@@ -299,7 +340,7 @@ fn write_id<W: Write>(id: &str, out: &mut W) -> io::Result<()> {
 }
 
 /// Writes the row of a station from its presence on. `last` is the end of the run.
-fn write_row<W: Write>(row: &Row, last: u64, out: &mut W) -> io::Result<()> {
+fn write_row<W: Write>(row: &StationRow, last: u64, out: &mut W) -> io::Result<()> {
     let times = &row.times;
     match times.from {
         Some(from) => {
@@ -315,5 +356,5 @@ fn write_row<W: Write>(row: &Row, last: u64, out: &mut W) -> io::Result<()> {
     write!(out, "{heard},{delivered},{duplicates},")?;
     let (ignored, refused, full, lost) = (counts.ignored, counts.refused, counts.full, counts.lost);
     write!(out, "{ignored},{refused},{full},{lost},")?;
-    writeln!(out, "{},{}", row.busy.whole, row.busy.most)
+    write!(out, "{},{}", row.busy.whole, row.busy.most)
 }

@@ -11,7 +11,7 @@ use std::{fmt, io};
 
 /// Why a packet for an area isn't sent. It prints as what follows its kind in the file of sends.
 #[derive(Clone, Copy)]
-enum Unsent {
+enum WhyUnsent {
     /// The station of its id is absent.
     Absent,
     /// The run doesn't come to it.
@@ -20,44 +20,44 @@ enum Unsent {
     Refused(EntryFault),
 }
 
-impl fmt::Display for Unsent {
+impl fmt::Display for WhyUnsent {
     fn fmt<W: fmt::Write>(&self, f: &mut fmt::Formatter<W>) -> fmt::Result {
         match self {
-            Unsent::Absent => f.write_str("absent"),
-            Unsent::Late(WhyLate::AfterUntil(_)) => f.write_str("after until"),
-            Unsent::Late(WhyLate::CutShort) => f.write_str("cut short"),
-            Unsent::Refused(fault) => write!(f, "refused {}", fault.code()),
+            WhyUnsent::Absent => f.write_str("absent"),
+            WhyUnsent::Late(WhyLate::AfterUntil(_)) => f.write_str("after until"),
+            WhyUnsent::Late(WhyLate::CutShort) => f.write_str("cut short"),
+            WhyUnsent::Refused(fault) => write!(f, "refused {}", fault.code()),
         }
     }
 }
 
 /// The kind and the port of a packet for an area.
 #[derive(Clone, Copy)]
-pub(crate) struct AreaPacket {
+pub(crate) struct AreaSend {
     kind: Kind,
     port: u16,
 }
 
-impl AreaPacket {
+impl AreaSend {
     /// The packet that a call asks for, if it asks for one.
-    pub(crate) fn of(what: &What) -> Option<AreaPacket> {
+    pub(crate) fn of(what: &What) -> Option<AreaSend> {
         let (kind, port) = match what {
             What::Call(OwnCall::SendGeobroadcast(request)) => (Kind::Gbc, request.port),
             What::Call(OwnCall::SendGeoanycast(request)) => (Kind::Gac, request.port),
             _ => return None,
         };
-        Some(AreaPacket { kind, port })
+        Some(AreaSend { kind, port })
     }
 
     /// The packet that an action of a scenario sends, if it sends one.
-    pub(crate) fn of_action(action: &Action) -> Option<AreaPacket> {
+    pub(crate) fn of_action(action: &Action) -> Option<AreaSend> {
         let (kind, port) = match action {
-            Action::Happens(what) => return AreaPacket::of(what),
+            Action::Happens(what) => return AreaSend::of(what),
             Action::GeobroadcastAround(request) => (Kind::Gbc, request.port),
             Action::GeoanycastAround(request) => (Kind::Gac, request.port),
             Action::Leaves => return None,
         };
-        Some(AreaPacket { kind, port })
+        Some(AreaSend { kind, port })
     }
 }
 
@@ -67,8 +67,8 @@ pub(crate) struct UnsentPacket {
     moment: u64,
     /// Its station, if the event names one by its number.
     station: Option<usize>,
-    packet: AreaPacket,
-    why: Unsent,
+    packet: AreaSend,
+    why: WhyUnsent,
 }
 
 impl UnsentPacket {
@@ -77,8 +77,8 @@ impl UnsentPacket {
         Some(UnsentPacket {
             moment: done.moment,
             station: Some(done.station),
-            packet: AreaPacket::of(done.what)?,
-            why: Unsent::Refused(fault),
+            packet: AreaSend::of(done.what)?,
+            why: WhyUnsent::Refused(fault),
         })
     }
 
@@ -87,8 +87,8 @@ impl UnsentPacket {
         Some(UnsentPacket {
             moment: event.moment,
             station: None,
-            packet: AreaPacket::of_action(&event.action)?,
-            why: Unsent::Absent,
+            packet: AreaSend::of_action(&event.action)?,
+            why: WhyUnsent::Absent,
         })
     }
 
@@ -98,17 +98,18 @@ impl UnsentPacket {
             moment: event.moment,
             station: event.station,
             packet: event.packet?,
-            why: Unsent::Late(event.why),
+            why: WhyUnsent::Late(event.why),
         })
     }
 
-    /// Writes its row: the reason follows the kind, and what was counted of others is empty.
+    /// Writes its row without an end of line: the reason follows the kind, and what was counted of
+    /// others is empty.
     pub(crate) fn write<W: Write>(&self, out: &mut W) -> io::Result<()> {
         write!(out, ",{},", self.moment)?;
         if let Some(station) = self.station {
             write!(out, "{station}")?;
         }
-        writeln!(
+        write!(
             out,
             ",{} {},{},,,,,,,,,,,,,",
             self.packet.kind, self.why, self.packet.port

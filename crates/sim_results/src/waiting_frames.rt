@@ -1,9 +1,10 @@
 //! The frames of packets for an area that still have deliveries to come.
 
 use its_gnvalue::NoMemory;
-use its_world::{Event, What};
+use its_world::{Event, What, frame_of};
 use sim_scenario::events::FileEvent;
 use sim_scenario::{Scenario, Timeline};
+use sim_simulation::EventRecord;
 use sim_simulation::tally::CarriedPacket;
 use std::alloc::Global;
 use std::collections::HashMap;
@@ -26,6 +27,8 @@ pub(crate) struct WaitingFrames {
     /// The frames that the last event gave and delivered: they may have no deliveries to come.
     given: Option<usize>,
     delivered: Option<usize>,
+    /// The frame that was released last: the same holds of it.
+    released: Option<usize>,
 }
 
 impl WaitingFrames {
@@ -36,6 +39,7 @@ impl WaitingFrames {
             own: HashMap::new(alloc),
             given: None,
             delivered: None,
+            released: None,
         };
         match &scenario.timeline {
             Timeline::Plain(timeline) => waiting.expect_events(timeline.events.as_slice())?,
@@ -82,6 +86,25 @@ impl WaitingFrames {
         }
     }
 
+    /// Takes an event that was done, with what the frame carries that it gave, if that is a packet for
+    /// an area.
+    pub(crate) fn take(
+        &mut self,
+        done: &EventRecord<'_>,
+        carried: Option<CarriedPacket>,
+    ) -> Result<(), NoMemory> {
+        if let (Some(frame), Some(carried)) = (frame_of(done.entry), carried) {
+            self.note_given(frame, carried)?;
+            if done.is_held() {
+                self.hold(frame);
+            }
+        }
+        for frame in done.cancelled_frames().unwrap_or(&[]) {
+            self.let_go(*frame);
+        }
+        Ok(())
+    }
+
     /// Takes a frame that was given, with what it carries. Returns how many of the scenario's own
     /// deliveries of it are still to come.
     pub(crate) fn note_given(
@@ -101,6 +124,31 @@ impl WaitingFrames {
         if let Some(found) = self.frames.get_mut(&frame) {
             found.waiting = found.waiting.saturating_add(1);
         }
+    }
+
+    /// A station holds a frame that was just given. It waits as one with a delivery to come.
+    pub(crate) fn hold(&mut self, frame: usize) {
+        self.wait(frame);
+    }
+
+    /// A frame that a station held goes out, and may have deliveries to come. Returns what it carries.
+    pub(crate) fn release(&mut self, frame: usize) -> Option<CarriedPacket> {
+        if let Some(before) = self.released.take() {
+            self.forget(before);
+        }
+        let found = self.frames.get_mut(&frame)?;
+        found.waiting = found.waiting.saturating_sub(1);
+        self.released = Some(frame);
+        Some(found.carried)
+    }
+
+    /// A frame that a station held goes to nobody. Returns what it carries.
+    pub(crate) fn let_go(&mut self, frame: usize) -> Option<CarriedPacket> {
+        let found = self.frames.get_mut(&frame)?;
+        found.waiting = found.waiting.saturating_sub(1);
+        let carried = found.carried;
+        self.forget(frame);
+        Some(carried)
     }
 
     /// Takes the delivery of a frame. Returns what the frame carries.
@@ -123,7 +171,11 @@ impl WaitingFrames {
 
     /// Forgets the frames of the last event that have no more deliveries to come.
     pub(crate) fn forget_finished(&mut self) {
-        for frame in [self.given.take(), self.delivered.take()] {
+        for frame in [
+            self.given.take(),
+            self.delivered.take(),
+            self.released.take(),
+        ] {
             if let Some(frame) = frame {
                 self.forget(frame);
             }

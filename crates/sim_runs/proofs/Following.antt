@@ -9,12 +9,55 @@ use Rattle.sim_settings.specs.declared.moves.Moves.{Moves as MovesSettings}
 use Rattle.sim_scenario.specs.declared.scenario.Scenario.{Scenario}
 use Rattle.sim_scenario.specs.declared.timeline.Timeline.{Timeline}
 use Rattle.sim_scenario.specs.declared.timeline.Timeline.TheVariants.{Plain, Air, Moves}
+use Rattle.sim_air.specs.AirRun.{IsAirRun}
 use Rattle.sim_air.specs.AirTimed.{IsTimedRun}
+use Rattle.sim_air.specs.Contenders.{IsMadeRun}
 use Rattle.sim_air.specs.Moving.{IsMovedRun}
 use Rattle.sim_air.specs.Scenarios.{IsRunIn}
 use Rattle.sim_air_model.specs.Timetable.{Filed, Rules}
+use Rattle.sim_simulation.specs.Simulated.{IsSimulated}
 
 -- what follows of all that was taken may be said in its place
+simulated_follows : (configs : List Config) (events : List Event) (world : WorldState)
+    (Before After : List Event → List Entry → Type 0)
+    → ((events : List Event) (log : List Entry) → Before events log → After events log)
+    → IsSimulated configs events world Before → IsSimulated configs events world After
+simulated_follows configs events world Before After follows run =
+    record {
+      stands = run.stands;
+      laws = run.laws;
+      log = run.log;
+      told = run.told;
+      took = follows events run.log run.took;
+    }
+
+-- so of a run in an air
+air_follows : (configs : List Config) (file : List Filed) (until : ℕ) (world : WorldState)
+    (Before After : List Event → List Entry → Type 0)
+    → ((events : List Event) (log : List Entry) → Before events log → After events log)
+    → IsAirRun configs file until world Before → IsAirRun configs file until world After
+air_follows configs file until world Before After follows run =
+    record {
+      events = run.events;
+      run = simulated_follows configs run.events world Before After follows run.run;
+      due = run.due;
+      is_due = run.is_due;
+      among = run.among;
+    }
+
+-- of one with stations that rows made
+made_follows : (configs : List Config) (world : WorldState)
+    (Before After : List Event → List Entry → Type 0)
+    → ((events : List Event) (log : List Entry) → Before events log → After events log)
+    → IsMadeRun configs world Before → IsMadeRun configs world After
+made_follows configs world Before After follows run =
+    record {
+      made = run.made;
+      events = run.events;
+      run = simulated_follows _ run.events world Before After follows run.run;
+    }
+
+-- of one by a timetable
 timed_follows : (rules : Rules) (configs : List Config) (file : List Filed) (world : WorldState)
     (Before After : List Event → List Entry → Type 0)
     → ((events : List Event) (log : List Entry) → Before events log → After events log)
@@ -23,13 +66,7 @@ timed_follows rules configs file world Before After follows run =
     record {
       steps = run.steps;
       over = run.over;
-      run = record {
-        stands = run.run.stands;
-        laws = run.run.laws;
-        log = run.run.log;
-        told = run.run.told;
-        took = follows _ run.run.log run.run.took;
-      };
+      run = simulated_follows _ _ world Before After follows run.run;
     }
 
 -- so of one with moves
@@ -56,14 +93,12 @@ pub run_follows : (t : Timeline) (s : Scenario) (world : WorldState)
     → ((events : List Event) (log : List Entry) → Before events log → After events log)
     → IsRunIn t s world Before → IsRunIn t s world After
 run_follows (Plain t) s world Before After follows run =
-    record {
-      stands = run.stands;
-      laws = run.laws;
-      log = run.log;
-      told = run.told;
-      took = follows _ run.log run.took;
-    }
-run_follows (Air t) s world Before After follows run =
-    timed_follows _ _ _ world Before After follows run
-run_follows (Moves t) s world Before After follows run =
-    moved_follows _ _ _ _ _ world Before After follows run
+    simulated_follows _ _ world Before After follows run
+run_follows (Air t) s world Before After follows run = (
+  air_follows _ _ _ world Before After follows run.0,
+  λ none. timed_follows _ _ _ world Before After follows (run.1 none),
+)
+run_follows (Moves t) s world Before After follows run = (
+  made_follows _ world Before After follows run.0,
+  λ none. moved_follows _ _ _ _ _ world Before After follows (run.1 none),
+)

@@ -2,11 +2,14 @@
 
 use crate::course::Course;
 use crate::report::Report;
-use crate::summary::print_summary;
+use crate::summary::{RunCounts, print_summary};
 use cmd_reporting::OutputFormat;
 use its_world::World;
-use sim_simulation::tally::Tally;
-use sim_simulation::{EventRecord, EventSink, JsonLines, Note, SimulationFault, TextLines};
+use sim_scenario::Scenario;
+use sim_simulation::tally::{HeldTally, Tally};
+use sim_simulation::{
+    EventRecord, EventSink, JsonLines, Note, SimulationFault, TextLines, WhoContends,
+};
 use std::alloc::Global;
 use std::io::{BufRead, Write};
 
@@ -55,16 +58,29 @@ impl<W: Write> RunLines for JsonLines<'_, W> {
     ) -> Result<(), SimulationFault> {
         let stations = course.scenario.stations.as_slice();
         match course.scenario.timeline.air() {
-            Some(air) => self.stations_in_air(stations, air, course.end()),
+            Some(air) => {
+                let contention = who_contends(course.scenario);
+                self.stations_in_air(stations, air, course.end(), contention)
+            }
             None => self.stations(stations),
         }
     }
+}
+
+/// Which stations contend, in a run in which any does.
+fn who_contends(scenario: &Scenario) -> Option<WhoContends<'_>> {
+    scenario.has_contention().then(|| WhoContends {
+        stations: scenario.contend.as_slice(),
+        rows: scenario.timeline.rows_contend(),
+    })
 }
 
 /// Counts the events of a run, and prints a summary at its end.
 #[derive(Drop)]
 pub(crate) struct Summary<'o, W> {
     pub(crate) tally: Tally,
+    /// What was held, in a run in which any station contends.
+    pub(crate) held: Option<HeldTally>,
     pub(crate) out: &'o mut W,
 }
 
@@ -76,7 +92,11 @@ impl<W: Write> RunLines for Summary<'_, W> {
         format: OutputFormat,
         is_whole: bool,
     ) -> Result<(), SimulationFault> {
-        print_summary(alloc, &self.tally, report, format, is_whole, self.out)
+        let counts = RunCounts {
+            tally: &self.tally,
+            held: self.held.as_ref(),
+        };
+        print_summary(alloc, counts, report, format, is_whole, self.out)
     }
 }
 
@@ -86,10 +106,18 @@ impl<W: Write> EventSink for Summary<'_, W> {
 
     #[inline(always)]
     fn put(&mut self, world: &World, done: &EventRecord<'_>) -> Result<(), SimulationFault> {
-        self.tally.put(world, done)
+        self.tally.put(world, done)?;
+        match &mut self.held {
+            Some(held) => Ok(held.take(&self.tally, done)?),
+            None => Ok(()),
+        }
     }
 
     fn note(&mut self, world: &World, moment: u64, note: &Note<'_>) -> Result<(), SimulationFault> {
-        self.tally.note(world, moment, note)
+        self.tally.note(world, moment, note)?;
+        match &mut self.held {
+            Some(held) => Ok(held.take_note(&self.tally, note)?),
+            None => Ok(()),
+        }
     }
 }

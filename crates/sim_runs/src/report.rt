@@ -118,10 +118,15 @@ impl<'s> Report<'s> {
     }
 
     /// Takes a note of the run. `NoMemory` if an allocation failed.
-    pub(crate) fn take_note(&mut self, moment: u64, note: &Note<'_>) -> Result<(), NoMemory> {
+    pub(crate) fn take_note(
+        &mut self,
+        world: &World,
+        moment: u64,
+        note: &Note<'_>,
+    ) -> Result<(), NoMemory> {
         self.last = moment;
         self.failed.take_note(moment, note)?;
-        self.doubts.take_note(note)?;
+        self.doubts.take_note(world, moment, note)?;
         self.audiences.take_note(moment, note)
     }
 

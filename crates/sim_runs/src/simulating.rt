@@ -18,7 +18,7 @@ use its_words::frames::Explanation;
 use its_world::World;
 use sim_air::{AirFault, run_moves, run_scenario};
 use sim_scenario::{MOST_STATIONS, Reading, Scenario, Timeline};
-use sim_simulation::tally::Tally;
+use sim_simulation::tally::{HeldTally, Tally};
 use sim_simulation::{EventSink, JsonLines, TextLines};
 use std::alloc::Global;
 use std::io;
@@ -104,11 +104,13 @@ pub(crate) fn run_into<'a, M: BufRead + Drop, F: Write + Drop, W: Write, E: Prog
     let (options, format) = (course.options, io.format);
     if options.summary {
         let tally = Tally::new(alloc, course.scenario.present.as_slice())?;
+        let has_contention = course.scenario.has_contention();
+        let held = has_contention.then(|| HeldTally::new(alloc));
         let out = &mut io.out;
         return run_printed(
             alloc,
             course,
-            Summary { tally, out },
+            Summary { tally, held, out },
             outputs,
             format,
             &mut io.err,

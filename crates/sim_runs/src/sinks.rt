@@ -160,10 +160,22 @@ impl<L, F: Write + Drop, E: Write> RunSinks<'_, '_, '_, L, F, E> {
     fn write_frame(&mut self, done: &EventRecord<'_>) -> Result<(), SimulationFault>
         ensures { self.new.all_done ≡ self.old.all_done }
     {
-        let (Some(file), Some(frame)) = (&mut self.frames, done.octets) else {
+        self.put_frame(done.station, done.moment, done.sent_octets())
+    }
+
+    /// Writes a frame that goes out of a station at this time to the file of frames, if there is one.
+    fn put_frame(
+        &mut self,
+        station: usize,
+        moment: u64,
+        octets: Option<&[u8]>,
+    ) -> Result<(), SimulationFault>
+        ensures { self.new.all_done ≡ self.old.all_done }
+    {
+        let (Some(file), Some(frame)) = (&mut self.frames, octets) else {
             return Ok(());
         };
-        let put = file.put(done.station, done.moment, frame, self.format, self.err);
+        let put = file.put(station, moment, frame, self.format, self.err);
         // The file remembers that it failed.
         put.map_err(|_| SimulationFault::Output)
     }
@@ -205,10 +217,13 @@ impl<L: EventSink, F: Write + Drop, E: ProgressWriter> EventSink for RunSinks<'_
 
     fn note(&mut self, world: &World, moment: u64, note: &Note<'_>) -> Result<(), SimulationFault> {
         self.lines.note(world, moment, note)?;
-        self.report.take_note(moment, note)?;
+        self.report.take_note(world, moment, note)?;
         self.tables.take_note(world, moment, note)?;
         match *note {
             Note::Made { station, .. } => self.add_station(station),
+            Note::Released { station, frame } => {
+                self.put_frame(station, moment, world.kept_frame(frame))
+            }
             _ => Ok(()),
         }
     }

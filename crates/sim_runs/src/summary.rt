@@ -7,32 +7,59 @@ use its_words::json_lines::{JsonLine, Printed};
 use serde::Serialize;
 use sim_results::{Doubt, Reach};
 use sim_simulation::SimulationFault;
-use sim_simulation::tally::{SendSummary, Tally, Totals};
+use sim_simulation::tally::{HeldTally, SendSummary, Tally, Totals};
 use std::alloc::Global;
 use std::fmt;
 use std::io::Write;
+
+/// What was counted of a run: of its events and, if any station contends, of what was held.
+#[derive(Clone, Copy)]
+pub(crate) struct RunCounts<'a> {
+    pub(crate) tally: &'a Tally,
+    pub(crate) held: Option<&'a HeldTally>,
+}
+
+impl RunCounts<'_> {
+    /// The summary of the packet for an area of this place, with the frames that went out.
+    fn sent(&self, place: usize, send: SendSummary) -> SendSummary {
+        match self.held {
+            Some(held) => send.without_frames(held.unsent_of(place)),
+            None => send,
+        }
+    }
+
+    /// The counts of all events, with the frames that went out.
+    fn totals(&self) -> Totals {
+        let totals = self.tally.totals();
+        match self.held {
+            Some(held) => totals.without_frames(held.unsent()),
+            None => totals,
+        }
+    }
+}
 
 /// Prints a line for each packet for an area that was sent, in order, and one of the counts of all
 /// events, unless the run was cut short. With `explain` each of the first goes on with the stations
 /// that it didn't reach.
 pub(crate) fn print_summary<W: Write>(
     alloc: Global,
-    tally: &Tally,
+    counts: RunCounts<'_>,
     report: &Report<'_>,
     lines: OutputFormat,
     is_whole: bool,
     out: &mut W,
 ) -> Result<(), SimulationFault> {
     if lines.json {
-        print_objects(alloc, tally, report, lines.explain, out)?;
+        print_objects(alloc, counts, report, lines.explain, out)?;
         return if is_whole {
-            print_total_object(alloc, tally, report, out)
+            print_total_object(alloc, counts, report, out)
         } else {
             Ok(())
         };
     }
-    for (place, send) in tally.sends().iter().enumerate() {
+    for (place, send) in counts.tally.sends().iter().enumerate() {
         let missed = missed_of(report, place, lines.explain)?;
+        let send = counts.sent(place, *send);
         writeln!(out, "{send}{}", MissedText(&missed))?;
     }
     if is_whole {
@@ -40,7 +67,8 @@ pub(crate) fn print_summary<W: Write>(
             FullText(report.table_full()),
             DoubtsText(report.doubts().len()),
         );
-        writeln!(out, "{}{full}{doubts}", tally.totals())?;
+        let (totals, held) = (counts.totals(), HeldText(counts.held));
+        writeln!(out, "{totals}{held}{full}{doubts}")?;
     }
     Ok(())
 }
@@ -48,14 +76,15 @@ pub(crate) fn print_summary<W: Write>(
 /// The same of the packets, as objects.
 fn print_objects<W: Write>(
     alloc: Global,
-    tally: &Tally,
+    counts: RunCounts<'_>,
     report: &Report<'_>,
     explain: bool,
     out: &mut W,
 ) -> Result<(), SimulationFault> {
     let mut line = JsonLine::new(alloc)?;
-    for (place, send) in tally.sends().iter().enumerate() {
+    for (place, send) in counts.tally.sends().iter().enumerate() {
         let missed = missed_of(report, place, explain)?;
+        let send = counts.sent(place, *send);
         out.write_all(line.of(&SendLine { send, missed })?)?;
     }
     Ok(())
@@ -64,13 +93,15 @@ fn print_objects<W: Write>(
 /// The same of the counts.
 fn print_total_object<W: Write>(
     alloc: Global,
-    tally: &Tally,
+    counts: RunCounts<'_>,
     report: &Report<'_>,
     out: &mut W,
 ) -> Result<(), SimulationFault> {
     let mut line = JsonLine::new(alloc)?;
-    let total = CountsLine {
-        counts: tally.totals(),
+    let total = RunCountsLine {
+        counts: counts.totals(),
+        held: counts.held.map(|held| held.held()),
+        cancelled: counts.held.map(|held| held.cancelled()),
         table_full: report.table_full(),
         doubts: doubts_of(alloc, report)?,
     };
@@ -135,6 +166,20 @@ impl fmt::Display for MissedText<'_> {
     }
 }
 
+/// How many frames were held and how many of them were cancelled, as ` held 3 cancelled 1`, or
+/// nothing.
+#[derive(Clone, Copy)]
+struct HeldText<'a>(Option<&'a HeldTally>);
+
+impl fmt::Display for HeldText<'_> {
+    fn fmt<W: fmt::Write>(&self, f: &mut fmt::Formatter<W>) -> fmt::Result {
+        match self.0 {
+            Some(held) => write!(f, " held {} cancelled {}", held.held(), held.cancelled()),
+            None => Ok(()),
+        }
+    }
+}
+
 /// How many receptions met a full location table, as ` full 3`, or nothing.
 #[derive(Clone, Copy)]
 struct FullText(Option<usize>);
@@ -163,9 +208,9 @@ impl fmt::Display for DoubtsText {
 
 /// What the JSON of a packet for an area tells.
 #[derive(Drop, Serialize)]
-struct SendLine<'a> {
+struct SendLine {
     #[serde(flatten)]
-    send: &'a SendSummary,
+    send: SendSummary,
     #[serde(skip_serializing_if = "Option::is_none")]
     missed: Option<Vec<Miss>>,
 }
@@ -182,9 +227,13 @@ struct DoubtKeys<'a> {
 /// The counts of a run, how many receptions met a full location table, if any did, and what is
 /// doubtful, if anything is.
 #[derive(Drop, Serialize)]
-struct CountsLine<'a> {
+struct RunCountsLine<'a> {
     #[serde(flatten)]
     counts: Totals,
+    #[serde(skip_serializing_if = "Option::is_none")]
+    held: Option<usize>,
+    #[serde(skip_serializing_if = "Option::is_none")]
+    cancelled: Option<usize>,
     #[serde(skip_serializing_if = "Option::is_none")]
     table_full: Option<usize>,
     #[serde(skip_serializing_if = "Option::is_none")]
@@ -194,5 +243,5 @@ struct CountsLine<'a> {
 /// The same, under their key.
 #[derive(Drop, Serialize)]
 struct TotalLine<'a> {
-    total: CountsLine<'a>,
+    total: RunCountsLine<'a>,
 }

@@ -1,2 +1,3 @@
+pub mod Contending
 pub mod Said
 pub mod Timelines

@@ -1,9 +1,11 @@
 -- What the tables of a scenario say of its stations and its events.
-use Rattle.std.specs.Prelude.{◌≡◌, ℕ, Bool, false, not, List, length, string_bytes}
+use Rattle.std.specs.Prelude.{◌≡◌, ℕ, Bool, true, false, not, List, length, string_bytes}
+use Rattle.std.specs.Prelude.{Option, Some, None}
 use Rattle.std.specs.Int.{w64, from_be_bytes}
 use Rattle.its_words.specs.Fields.{FieldValues, AreOctets, IsMissing, IsNumber}
-use Rattle.its_words.specs.Fields.{IsNumberOr, IsPlace, IsText, IsTruthOr}
+use Rattle.its_words.specs.Fields.{IsNumberOr, IsPlace, IsText, IsTruth, IsTruthOr}
 use Rattle.its_gnvalue.specs.Values.{Position}
+use Rattle.its_words.specs.Keys.{word_of}
 use Rattle.its_words.specs.Verbs.{verb_word}
 use Rattle.its_words.specs.declared.keys.key.Key.TheVariants as keys
 use Rattle.its_words.specs.declared.keys.verb.Verb.TheVariants as verbs
@@ -41,6 +43,12 @@ SaysStation values config =
 -- whether a station is present at the start: it is, where nothing is said
 abbrev pub SaysPresent : FieldValues → Bool → Type 0
 SaysPresent values present = IsTruthOr values keys.Absent false (not present)
+
+-- whether a station contends, where its keys say so; else nothing stands there
+abbrev pub SaysContends : FieldValues → Option Bool → Type 0
+SaysContends values None = IsMissing values keys.Contention
+SaysContends values (Some contends) =
+    (values.has (word_of keys.Contention) ≡ true) × IsTruth values keys.Contention contends
 
 -- the keys say this event of a scenario without an air
 abbrev pub SaysEvent : FieldValues → Event → Type 0

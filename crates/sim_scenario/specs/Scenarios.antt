@@ -1,9 +1,10 @@
 -- Which scenario a document is.
 use Rattle.std.specs.Prelude.{◌≡◌, ℕ, Bool, true, false, List, [], Option, Some, None, cond}
-use Rattle.std.specs.Prelude.{String, is_some}
+use Rattle.std.specs.Prelude.{◌||◌, String, is_some}
 use Rattle.std.specs.Option.{option_map}
+use Rattle.std.specs.List.{list_any}
 use Rattle.std.specs.declared.alloc.Global.{Global}
-use Rattle.its_words.specs.Fields.{FieldValues}
+use Rattle.its_words.specs.Fields.{FieldValues, IsTruthOr}
 use Rattle.its_words.specs.Keys.{word_of}
 use Rattle.sim_settings.specs.Settings.{set_values}
 use Rattle.sim_settings.specs.Tables.{table_values}
@@ -14,7 +15,7 @@ use Rattle.its_world.specs.declared.event.Event.{Event}
 use Rattle.sim_settings.specs.Items.{SayItems, items_if, items_under, members_if}
 use Rattle.sim_settings.specs.Moves.{SaysMoves}
 use Rattle.sim_scenario.specs.Saying.{SaysAddressed, SaysEvent, SaysFileEvent}
-use Rattle.sim_scenario.specs.Saying.{SaysPresent, SaysStation}
+use Rattle.sim_scenario.specs.Saying.{SaysContends, SaysPresent, SaysStation}
 use Rattle.sim_settings.specs.Saying.{SaysAir, SaysExpectation, SaysTraffic}
 use Rattle.sim_settings.specs.declared.moves.Moves.{Moves as MovesSettings}
 use Rattle.sim_scenario.specs.declared.tables.Tables.{Tables}
@@ -81,13 +82,42 @@ abbrev pub SaysPresence : Bool → FieldValues → Bool → Type 0
 SaysPresence true values present = SaysPresent values present
 SaysPresence false values present = present ≡ true
 
+-- whether a station contends, where it says so in an air
+abbrev pub SaysOwnContention : Bool → FieldValues → Option Bool → Type 0
+SaysOwnContention true values own = SaysContends values own
+SaysOwnContention false values own = own ≡ None
+
+-- whether stations contend that don't say it themselves: as their air says. There is no such value
+-- without an air
+abbrev pub usual_contention : Timeline → Option Bool
+usual_contention (Plain timeline) = None
+usual_contention (Air timeline) = Some timeline.air.contends
+usual_contention (Moves timeline) = Some timeline.air.contends
+
+-- whether a station contends by its keys, in an air of this usual value; without an air it doesn't
+abbrev pub SaysContention : Option Bool → FieldValues → Bool → Type 0
+SaysContention None values contends = contends ≡ false
+SaysContention (Some usual) values contends = IsTruthOr values keys.Contention usual contends
+
+-- the same of one that says this itself, or doesn't say it
+abbrev pub contends : Option Bool → Option Bool → Bool
+contends None own = false
+contends (Some usual) None = usual
+contends (Some usual) (Some own) = own
+
+-- whether stations contend that rows make
+abbrev pub rows_contend : Timeline → Bool
+rows_contend (Plain timeline) = false
+rows_contend (Air timeline) = false
+rows_contend (Moves timeline) = timeline.moves.contends
+
 -- The parts of a document say the events of an air, and what they are run by. How moves are read is
 -- said too, as it would be with the moves of a file.
 pub record SayAirTimeline (values : FieldValues) (parts : Parts) (timeline : AirTimeline) : Type 0
   where
     pub air : SaysAir values timeline.air
     pub every : SayItems SaysTraffic parts.every timeline.every.items
-    pub moves : (moves : MovesSettings) × SaysMoves parts.moves moves
+    pub moves : (moves : MovesSettings) × SaysMoves timeline.air.contends parts.moves moves
     pub events : SayItems SaysFileEvent parts.events timeline.events.items
 
 -- the same in an air with the moves of a file
@@ -95,7 +125,7 @@ pub record SayMovesTimeline (values : FieldValues) (parts : Parts) (timeline : M
     : Type 0 where
   pub air : SaysAir values timeline.air
   pub every : SayItems SaysTraffic parts.every timeline.every.items
-  pub moves : SaysMoves parts.moves timeline.moves
+  pub moves : SaysMoves timeline.air.contends parts.moves timeline.moves
   pub events : SayItems SaysAddressed parts.events timeline.events.items
 
 -- the parts of a document say what its events are run by: the air, if there is one, with the moves of
@@ -120,8 +150,16 @@ pub record SayScenario (parts : Parts) (scenario : Scenario) : Type 0 where
   pub stations : SayItems SaysStation parts.stations scenario.stations.items
   pub present :
       SayItems (SaysPresence (is_some parts.air)) parts.stations scenario.present.items
+  pub contend :
+      SayItems (SaysContention (usual_contention scenario.timeline)) parts.stations
+      scenario.contend.items
   pub timeline : SayTimeline parts scenario.timeline
   pub expectations : SayItems SaysExpectation parts.expectations scenario.expectations.items
+
+-- whether any station of a scenario contends, or one that a row would make
+abbrev pub has_contention : Scenario → Bool
+has_contention scenario =
+    rows_contend scenario.timeline || list_any (λ contends. contends) scenario.contend.items
 
 -- the events are run without an air
 abbrev pub IsPlain : Timeline → Type 0
@@ -177,6 +215,11 @@ usual_reading =
             seed = None;
             beacons = None;
             until = None;
+            contention = None;
+            contention_max = None;
+            contention_min = None;
+            contention_range = None;
+            contention_copies = None;
           };
     }
 

@@ -15,6 +15,6 @@ pub use around::AroundRequest;
 pub use end::{AFTER_EVENTS, end_of};
 pub use event::{AddressedEvent, Addressee, FileEvent, read_addressed, read_event};
 pub(crate) use event::{StationEvent, read_station_event};
-pub use station::{read_present, read_station};
+pub use station::{read_own_contention, read_present, read_station};
 pub use verb::verb_of;
 pub use what::read_what;

@@ -22,6 +22,7 @@
 //! Linear time in the number of stations.
 #![tactic(auto)]
 
+mod contention;
 mod document;
 mod event_tables;
 pub mod events;

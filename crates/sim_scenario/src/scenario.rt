@@ -19,6 +19,8 @@ pub struct Scenario {
     pub stations: Vec<Config>,
     /// Whether each of them is present at the start. Without a radio model all are.
     pub present: Vec<bool>,
+    /// Whether each of them contends. Without a radio model none does.
+    pub contend: Vec<bool>,
     /// The events, and what they are run by.
     pub timeline: Timeline,
     /// What is expected of the run.

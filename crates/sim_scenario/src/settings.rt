@@ -65,13 +65,17 @@ fn read_known_traffic(alloc: Global, table: &Table, number: usize) -> Result<Tra
     Ok(traffic)
 }
 
-/// Reads how moves are read, in which each key is known.
-pub(crate) fn read_known_moves(alloc: Global, table: &Table) -> Result<Moves, ScenarioFault>
-    ensures says { IfOk result (SaysMoves (table_view table.now)) }
+/// Reads how moves are read, in which each key is known. `contends` is the value of the air.
+pub(crate) fn read_known_moves(
+    alloc: Global,
+    table: &Table,
+    contends: bool,
+) -> Result<Moves, ScenarioFault>
+    ensures says { IfOk result (SaysMoves contends (table_view table.now)) }
     ensures refused { IfErr result IsPastToml }
 {
     let part = Part::Moves;
-    let moves = read_moves(alloc, table).map_err(|fault| {
+    let moves = read_moves(alloc, table, contends).map_err(|fault| {
         ScenarioFault::of_key(alloc, fault, part, table)
     })?;
     refuse_unknown(alloc, table, part)?;

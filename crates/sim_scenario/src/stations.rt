@@ -4,12 +4,12 @@ ghost use Rattle.std.specs.Prelude.{◌≡◌, All, IfOk, IfErr, length, vec_len
 ghost use Rattle.sim_scenario.specs.Saying.{SaysStation};
 ghost use Rattle.sim_settings.specs.Tables.{table_values};
 ghost use Rattle.sim_scenario.specs.Documents.{IsPastToml};
-ghost use Rattle.sim_scenario.specs.Scenarios.{SaysPresence};
+ghost use Rattle.sim_scenario.specs.Scenarios.{SaysOwnContention, SaysPresence};
 ghost use Rattle.sim_settings.specs.Items.{SayItems};
 ghost use Rattle.its_world.specs.Events.{IsConfig};
 ghost use Rattle.toml.specs.View.{items_view, table_view};
 
-use crate::events::{read_present, read_station};
+use crate::events::{read_own_contention, read_present, read_station};
 use crate::fault::ScenarioFault;
 use crate::part::Part;
 use its_words::keys::Key;
@@ -18,24 +18,37 @@ use sim_settings::TomlFields;
 use std::alloc::Global;
 use toml::{Table, Value};
 
-/// Reads stations and, with an air, whether each is present at the start. Without one all are, and
-/// `absent` is passed over.
+/// The stations of a document, as they are read.
+#[derive(Drop)]
+pub(crate) struct ReadStations {
+    pub(crate) stations: Vec<Config>,
+    /// Whether each is present at the start.
+    pub(crate) present: Vec<bool>,
+    /// Whether each contends, where it says so itself.
+    pub(crate) contend: Vec<Option<bool>>,
+}
+
+/// Reads stations and, with an air, whether each is present at the start and whether it contends.
+/// Without one all are present and none contends, and `absent` and `contention` are passed over.
 pub(crate) fn read_stations(
     alloc: Global,
     items: &[Value],
     has_air: bool,
-) -> Result<(Vec<Config>, Vec<bool>), ScenarioFault>
-    ensures all { IfOk result (λ read. vec_len read.0 ≡ length items.now) }
-    ensures present { IfOk result (λ read. vec_len read.1 ≡ length items.now) }
+) -> Result<ReadStations, ScenarioFault>
+    ensures all { IfOk result (λ read. vec_len read.stations ≡ length items.now) }
+    ensures present { IfOk result (λ read. vec_len read.present ≡ length items.now) }
     ensures says { IfOk result (λ read.
-        SayItems SaysStation (items_view items.now) read.0.items) }
+        SayItems SaysStation (items_view items.now) read.stations.items) }
     ensures presence { IfOk result (λ read.
-        SayItems (SaysPresence has_air) (items_view items.now) read.1.items) }
-    ensures configs { IfOk result (λ read. All IsConfig read.0.items) }
+        SayItems (SaysPresence has_air) (items_view items.now) read.present.items) }
+    ensures contention { IfOk result (λ read.
+        SayItems (SaysOwnContention has_air) (items_view items.now) read.contend.items) }
+    ensures configs { IfOk result (λ read. All IsConfig read.stations.items) }
     ensures refused { IfErr result IsPastToml }
 {
     let mut stations = Vec::with_capacity(alloc, items.len())?;
     let mut present = Vec::with_capacity(alloc, items.len())?;
+    let mut contend = Vec::with_capacity(alloc, items.len())?;
     for (number, item) in items.iter().enumerate() {
         // `array_of_tables` has seen that each item is one.
         let Some(table) = item.as_table() else {
@@ -43,8 +56,13 @@ pub(crate) fn read_stations(
         };
         stations.push(read_numbered_station(alloc, table, number)?)?;
         present.push(read_presence(alloc, table, number, has_air)?)?;
+        contend.push(read_contention(alloc, table, number, has_air)?)?;
     }
-    Ok((stations, present))
+    Ok(ReadStations {
+        stations,
+        present,
+        contend,
+    })
 }
 
 /// Reads the station of this number.
@@ -76,6 +94,24 @@ fn read_presence(
         return Ok(true);
     }
     read_present(&TomlFields(table)).map_err(|fault| {
+        ScenarioFault::of_key(alloc, fault, Part::Station(number), table)
+    })
+}
+
+/// Whether the station of this number contends, where it says so itself.
+fn read_contention(
+    alloc: Global,
+    table: &Table,
+    number: usize,
+    has_air: bool,
+) -> Result<Option<bool>, ScenarioFault>
+    ensures says { IfOk result (SaysOwnContention has_air (table_values (table_view table.now))) }
+    ensures refused { IfErr result IsPastToml }
+{
+    if !has_air {
+        return Ok(None);
+    }
+    read_own_contention(&TomlFields(table)).map_err(|fault| {
         ScenarioFault::of_key(alloc, fault, Part::Station(number), table)
     })
 }

@@ -28,13 +28,14 @@ const SCENARIO_KEYS: [Key; 6] = [
 ];
 
 /// The keys of a station, in the order in which they are checked.
-const STATION_KEYS: [Key; 6] = [
+const STATION_KEYS: [Key; 7] = [
     Key::Address,
     Key::Lat,
     Key::Lon,
     Key::Capacity,
     Key::Remember,
     Key::Absent,
+    Key::Contention,
 ];
 
 /// The keys of traffic, in the order in which they are checked.
@@ -69,13 +70,14 @@ const EVENT_KEYS: [Key; 24] = [
 ];
 
 /// The keys of how moves are read, in the order in which they are checked.
-const MOVES_KEYS: [Key; 6] = [
+const MOVES_KEYS: [Key; 7] = [
     Key::Begin,
     Key::Gone,
     Key::Mid,
     Key::Capacity,
     Key::Remember,
     Key::Ports,
+    Key::Contention,
 ];
 
 /// The keys of what is expected, in the order in which they are checked.

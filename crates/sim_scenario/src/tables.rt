@@ -12,12 +12,13 @@ ghost use Rattle.sim_settings.specs.Moves.{SaysMoves};
 ghost use Rattle.toml.specs.Data.{get_member};
 ghost use Rattle.toml.specs.View.{items_view, table_view};
 
+use crate::contention::contending;
 use crate::event_tables::{read_events, read_file};
 use crate::fault::ScenarioFault;
 use crate::reading::{AirTable, Reading};
 use crate::scenario::Scenario;
 use crate::settings::{read_every, read_expectations, read_known_air, read_known_moves};
-use crate::stations::read_stations;
+use crate::stations::{ReadStations, read_stations};
 use crate::timeline::{AirTimeline, MovesTimeline, PlainTimeline, Timeline};
 use crate::unknown::{refuse_all_unknown, unknown_keys};
 use its_words::keys::Key;
@@ -78,14 +79,20 @@ impl<'a> Tables<'a> {
         if self.stations.len() > most_stations {
             return Err(ScenarioFault::TooManyStations);
         }
-        let (stations, present) = read_stations(alloc, self.stations, self.air.is_some())?;
+        let ReadStations {
+            stations,
+            present,
+            contend,
+        } = read_stations(alloc, self.stations, self.air.is_some())?;
         let timeline = self.read_timeline(alloc, stations.as_slice())?;
+        let contend = contending(alloc, timeline.usual_contention(), contend.as_slice())?;
         let expectations = read_expectations(alloc, self.expectations)?;
         refuse_shared(alloc, stations.as_slice())?;
         let unknown = unknown_keys(alloc, self.document, self.stations, self.events)?;
         Ok(Scenario {
             stations,
             present,
+            contend,
             timeline,
             expectations,
             unknown,
@@ -103,7 +110,7 @@ impl<'a> Tables<'a> {
         };
         let air = read_known_air(alloc, fields)?;
         let every = read_every(alloc, self.every)?;
-        let moves = self.read_moves(alloc)?;
+        let moves = self.read_moves(alloc, air.contends)?;
         if self.has_moves {
             let addressed = read_events(alloc, self.events, stations.len())?;
             return Ok(Timeline::Moves(MovesTimeline {
@@ -117,14 +124,14 @@ impl<'a> Tables<'a> {
         Ok(Timeline::Air(AirTimeline { air, every, events }))
     }
 
-    /// How moves are read.
-    fn read_moves(self, alloc: Global) -> Result<Moves, ScenarioFault>
+    /// How moves are read. `contends` is the value of the air.
+    fn read_moves(self, alloc: Global, contends: bool) -> Result<Moves, ScenarioFault>
         ensures refused { IfErr result IsPastToml }
-        ensures says { IfOk result (SaysMoves (members_in self.entry.moves)) }
+        ensures says { IfOk result (SaysMoves contends (members_in self.entry.moves)) }
     {
         match self.moves {
-            Some(table) => read_known_moves(alloc, table),
-            None => Ok(Moves::usual(alloc)),
+            Some(table) => read_known_moves(alloc, table, contends),
+            None => Ok(Moves::usual(alloc, contends)),
         }
     }
 

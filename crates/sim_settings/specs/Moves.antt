@@ -1,7 +1,7 @@
 -- What the table of moves says.
-use Rattle.std.specs.Prelude.{◌≡◌, ◌⊎◌, ℕ, pos, List, [], ◌∷◌, Some}
+use Rattle.std.specs.Prelude.{◌≡◌, ◌⊎◌, ℕ, pos, List, [], ◌∷◌, Some, Bool}
 use Rattle.std.specs.Int.{bytes_high_first}
-use Rattle.its_words.specs.Fields.{FieldValues, AreOctets, IsMissing, IsNumberOr}
+use Rattle.its_words.specs.Fields.{FieldValues, AreOctets, IsMissing, IsNumberOr, IsTruthOr}
 use Rattle.sim_settings.specs.Tables.{table_values}
 use Rattle.its_words.specs.declared.keys.key.Key.TheVariants as keys
 use Rattle.sim_settings.specs.Items.{EachItem, items_under}
@@ -33,12 +33,14 @@ SaysPorts members ports =
     (items : Items) × (items_under keys.Ports members ≡ Some items) × ArePorts items ports
 
 -- a table says how moves are read: where nothing is said, the run begins at 0, a station leaves
--- after 1000 ms, and there is room for 1024 sources, of each of which 8 numbers are remembered
-abbrev pub SaysMoves : Members → Moves → Type 0
-SaysMoves members moves =
+-- after 1000 ms, there is room for 1024 sources, of each of which 8 numbers are remembered, and
+-- its stations contend as those of the air do
+abbrev pub SaysMoves : Bool → Members → Moves → Type 0
+SaysMoves contends members moves =
     IsNumberOr (table_values members) keys.Begin 0 moves.begin
     × IsNumberOr (table_values members) keys.Gone 1000 moves.gone
     × IsMid (table_values members) moves.mid
     × IsNumberOr (table_values members) keys.Capacity 1024 moves.capacity
     × IsNumberOr (table_values members) keys.Remember 8 moves.remember
     × SaysPorts members moves.ports.items
+    × IsTruthOr (table_values members) keys.Contention contends moves.contends

@@ -2,14 +2,24 @@
 use Rattle.std.specs.Prelude.{false, codes}
 use Rattle.its_words.specs.Fields.{FieldValues, IsNumber, IsNumberIf, IsNumberOr, IsText, IsTruthOr}
 use Rattle.its_words.specs.declared.keys.key.Key.TheVariants as keys
+use Rattle.its_model.specs.Contention.{ContentionRule as Rule}
 use Rattle.sim_settings.specs.declared.air.Air.{Air}
 use Rattle.sim_settings.specs.declared.expectation.Expectation.{Expectation}
 use Rattle.sim_settings.specs.declared.expectation.Reached.{Reached}
 use Rattle.sim_settings.specs.declared.expectation.Reached.TheVariants as reaches
 use Rattle.sim_settings.specs.declared.traffic.Traffic.{Traffic}
 
+-- the keys say this rule of contention: where nothing is said, waits of 1 to 100 ms, a range of
+-- 1000 m, and two copies
+abbrev pub SaysRule : FieldValues → Rule → Type 0
+SaysRule values rule =
+    IsNumberOr values keys.ContentionMax 100 rule.max_wait
+    × IsNumberOr values keys.ContentionMin 1 rule.min_wait
+    × IsNumberOr values keys.ContentionRange 1000 rule.range
+    × IsNumberOr values keys.ContentionCopies 2 rule.copies
+
 -- the keys say this air: where nothing is said, frames take 1 ms, none is lost, the draws begin
--- with 0, no station ticks by itself, and it isn't said how long it runs
+-- with 0, no station ticks by itself, it isn't said how long it runs, and no station contends
 abbrev pub SaysAir : FieldValues → Air → Type 0
 SaysAir values air =
     IsNumber values keys.Range air.range
@@ -18,6 +28,8 @@ SaysAir values air =
     × IsNumberOr values keys.Seed 0 air.seed
     × IsTruthOr values keys.Beacons false air.beacons
     × IsNumberIf values keys.Until air.until
+    × IsTruthOr values keys.Contention false air.contends
+    × SaysRule values air.rule
 
 -- the keys say this traffic
 abbrev pub SaysTraffic : FieldValues → Traffic → Type 0

@@ -13,7 +13,8 @@ use Rattle.sim_settings.specs.declared.air_settings.SettingReason.TheVariants.{M
 -- the keys of the air
 abbrev pub air_keys : List Key
 air_keys =
-    keys.Range ∷ keys.Delay ∷ keys.Loss ∷ keys.Seed ∷ keys.Beacons ∷ keys.Until ∷ []
+    keys.Range ∷ keys.Delay ∷ keys.Loss ∷ keys.Seed ∷ keys.Beacons ∷ keys.Until ∷ keys.Contention
+    ∷ keys.ContentionMax ∷ keys.ContentionMin ∷ keys.ContentionRange ∷ keys.ContentionCopies ∷ []
 
 -- a key of the air is told that may be meant by a word that is none
 abbrev pub IsTip : List ℕ → SettingReason → Type 0
@@ -27,11 +28,17 @@ set_number settings word =
     (cond (is_word keys.Delay word) settings.delay
     (cond (is_word keys.Loss word) settings.loss
     (cond (is_word keys.Seed word) settings.seed
-    (cond (is_word keys.Until word) settings.until None))))
+    (cond (is_word keys.Until word) settings.until
+    (cond (is_word keys.ContentionMax word) settings.contention_max
+    (cond (is_word keys.ContentionMin word) settings.contention_min
+    (cond (is_word keys.ContentionRange word) settings.contention_range
+    (cond (is_word keys.ContentionCopies word) settings.contention_copies None))))))))
 
 -- the truth that is set of one
 abbrev pub set_truth : AirSettings → List ℕ → Option Bool
-set_truth settings word = cond (is_word keys.Beacons word) settings.beacons None
+set_truth settings word =
+    cond (is_word keys.Beacons word) settings.beacons
+    (cond (is_word keys.Contention word) settings.contention None)
 
 -- what stands under the words of the table of an air, with values in place of its own
 abbrev pub set_values : AirSettings → FieldValues → FieldValues

@@ -3,6 +3,8 @@
 ghost use Rattle.std.specs.Prelude.{◌≤◌, ◌<◌, ◌^◌, IfSome};
 ghost use Rattle.std.proofs.Props.{props};
 
+use its_contention::ContentionRule;
+
 /// How frames go from station to station by themselves.
 #[derive(Clone, Copy, Debug, PartialEq, Eq)]
 pub struct Air {
@@ -18,6 +20,10 @@ pub struct Air {
     pub beacons: bool,
     /// The last moment that is run, in milliseconds: 0 to 2^62. Where none is given, the events tell.
     pub until: Option<u64>,
+    /// Whether stations contend, where they have no value of their own.
+    pub contends: bool,
+    /// The rule of the stations that contend.
+    pub rule: ContentionRule,
     ghost heard: { 1 ≤ range },
     ghost percent: { loss ≤ 100 },
     ghost signed: { seed < 2 ^ 63 },

@@ -3,13 +3,24 @@
 ghost use Rattle.std.specs.Prelude.{◌≤◌, ◌<◌, ◌^◌, IfOk, IfSome, false};
 ghost use Rattle.its_words.specs.Fields.{IsNumberIf, IsNumberOr, IsTruthOr};
 ghost use Rattle.its_words.specs.declared.keys.key.Key.TheVariants as keys;
-ghost use Rattle.sim_settings.specs.Saying.{SaysAir};
+ghost use Rattle.sim_settings.specs.Saying.{SaysAir, SaysRule};
 
 use crate::air::Air;
-use its_words::keys::{Fields, Key, KeyFault, number, truth, whole, whole_or};
+use its_contention::ContentionRule;
+use its_words::keys::{Fields, Key, KeyFault, Wrong, number, truth, whole, whole_or};
 
-/// Reads an air: `range`, `delay`, `loss`, `seed`, `beacons`, `until`, checked in this order. All
-/// but `range` may be missing.
+/// The rule where nothing is given: `ContentionRule::DEFAULT`.
+const USUAL_MAX_WAIT: i64 = 100;
+
+const USUAL_MIN_WAIT: i64 = 1;
+
+const USUAL_RANGE: i64 = 1000;
+
+const USUAL_COPIES: i64 = 2;
+
+/// Reads an air: `range`, `delay`, `loss`, `seed`, `beacons`, `until`, `contention`,
+/// `contention_max`, `contention_min`, `contention_range`, `contention_copies`, checked in this
+/// order. All but `range` may be missing. `contention_min` is at most `contention_max`.
 pub fn read_air<F: Fields>(fields: &F) -> Result<Air, KeyFault>
     ensures { IfOk result (SaysAir (F.values fields.now)) }
 {
@@ -19,6 +30,8 @@ pub fn read_air<F: Fields>(fields: &F) -> Result<Air, KeyFault>
     let seed = read_seed(fields)?;
     let beacons = read_beacons(fields)?;
     let until = read_until(fields)?;
+    let contends = read_contends(fields, false)?;
+    let rule = read_rule(fields)?;
     Ok(Air {
         range,
         delay,
@@ -26,6 +39,8 @@ pub fn read_air<F: Fields>(fields: &F) -> Result<Air, KeyFault>
         seed,
         beacons,
         until,
+        contends,
+        rule,
     })
 }
 
@@ -65,4 +80,63 @@ fn read_until<F: Fields>(fields: &F) -> Result<Option<u64>, KeyFault>
         return Ok(None);
     }
     Ok(Some(whole(fields, Key::Until)? as u64))
+}
+
+/// Whether stations contend, or `other` where nothing is given.
+pub fn read_contends<F: Fields>(fields: &F, other: bool) -> Result<bool, KeyFault>
+    ensures { IfOk result (IsTruthOr (F.values fields.now) keys.Contention other) }
+{
+    if fields.has(Key::Contention.word()) {
+        truth(fields, Key::Contention)
+    } else {
+        Ok(other)
+    }
+}
+
+/// The rule of the stations that contend: waits of 1 to 100 ms, a range of 1000 m and two copies,
+/// where nothing is given.
+fn read_rule<F: Fields>(fields: &F) -> Result<ContentionRule, KeyFault>
+    ensures { IfOk result (SaysRule (F.values fields.now)) }
+{
+    let max_wait = read_max_wait(fields)?;
+    let min_wait = read_min_wait(fields)?;
+    if min_wait > max_wait {
+        let wrong = Wrong::Over(i64::from(min_wait), max_wait);
+        return Err(KeyFault::Refused(Key::ContentionMin, wrong));
+    }
+    let range = read_contention_range(fields)?;
+    let copies = read_copies(fields)?;
+    match ContentionRule::new(min_wait, max_wait, range, copies) {
+        Some(rule) => Ok(rule),
+        // Each value is in the range of its key.
+        None => Err(KeyFault::Refused(Key::ContentionCopies, Wrong::Value)),
+    }
+}
+
+/// The greatest wait.
+fn read_max_wait<F: Fields>(fields: &F) -> Result<u16, KeyFault>
+    ensures { IfOk result (IsNumberOr (F.values fields.now) keys.ContentionMax 100) }
+{
+    Ok(whole_or(fields, Key::ContentionMax, USUAL_MAX_WAIT)? as u16)
+}
+
+/// The least wait.
+fn read_min_wait<F: Fields>(fields: &F) -> Result<u16, KeyFault>
+    ensures { IfOk result (IsNumberOr (F.values fields.now) keys.ContentionMin 1) }
+{
+    Ok(whole_or(fields, Key::ContentionMin, USUAL_MIN_WAIT)? as u16)
+}
+
+/// The distance of the sender from which on the wait is the least.
+fn read_contention_range<F: Fields>(fields: &F) -> Result<u16, KeyFault>
+    ensures { IfOk result (IsNumberOr (F.values fields.now) keys.ContentionRange 1000) }
+{
+    Ok(whole_or(fields, Key::ContentionRange, USUAL_RANGE)? as u16)
+}
+
+/// How many other stations cancel a frame.
+fn read_copies<F: Fields>(fields: &F) -> Result<u8, KeyFault>
+    ensures { IfOk result (IsNumberOr (F.values fields.now) keys.ContentionCopies 2) }
+{
+    Ok(whole_or(fields, Key::ContentionCopies, USUAL_COPIES)? as u8)
 }

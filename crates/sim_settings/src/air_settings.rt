@@ -14,13 +14,18 @@ use thiserror::Error;
 use toml::Table;
 
 /// The keys of the air, in the order in which they are checked.
-pub const AIR_KEYS: [Key; 6] = [
+pub const AIR_KEYS: [Key; 11] = [
     Key::Range,
     Key::Delay,
     Key::Loss,
     Key::Seed,
     Key::Beacons,
     Key::Until,
+    Key::Contention,
+    Key::ContentionMax,
+    Key::ContentionMin,
+    Key::ContentionRange,
+    Key::ContentionCopies,
 ];
 
 /// Values of keys of the air, each of which stands in place of the scenario's own. `default` has
@@ -33,6 +38,11 @@ pub struct AirSettings {
     seed: Option<i64>,
     beacons: Option<bool>,
     until: Option<i64>,
+    contention: Option<bool>,
+    contention_max: Option<i64>,
+    contention_min: Option<i64>,
+    contention_range: Option<i64>,
+    contention_copies: Option<i64>,
 }
 
 /// A key that is not one of the air, or whose value the air doesn't take. Its text is what follows
@@ -88,25 +98,48 @@ impl<'a> SettingFault<'a> {
 
 impl AirSettings {
     /// Takes the value of `KEY=VALUE`, in place of one that was given before: decimal digits or,
-    /// for `beacons`, `true` or `false`. The key ends at the first `=`, or at the end if there is
+    /// for `beacons` and `contention`, `true` or `false`. The key ends at the first `=`, or at the end if there is
     /// no `=`.
     ///
     /// Refuses a key that is not one of the air, that has no value, or one out of its range.
     pub fn set<'a>(&mut self, text: &'a str) -> Result<(), SettingFault<'a>> {
         let setting = Setting::of(text);
         let word = setting.word;
-        let set = match word {
-            "range" => set_whole(&mut self.range, &setting, Key::Range),
-            "delay" => set_whole(&mut self.delay, &setting, Key::Delay),
-            "loss" => set_whole(&mut self.loss, &setting, Key::Loss),
-            "seed" => set_whole(&mut self.seed, &setting, Key::Seed),
-            "beacons" => set_truth(&mut self.beacons, &setting),
-            "until" => set_whole(&mut self.until, &setting, Key::Until),
-            _ => return Err(SettingFault { word, wrong: None }),
+        let Some(set) = self.set_key(&setting) else {
+            return Err(SettingFault { word, wrong: None });
         };
         set.map_err(|fault| SettingFault {
             word,
             wrong: setting.wrong(fault),
+        })
+    }
+
+    /// Keeps the value of the key of a setting. `None` if the key is not one of the air.
+    fn set_key(&mut self, setting: &Setting<'_>) -> Option<Result<(), KeyFault>> {
+        Some(match setting.word {
+            "range" => set_whole(&mut self.range, setting, Key::Range),
+            "delay" => set_whole(&mut self.delay, setting, Key::Delay),
+            "loss" => set_whole(&mut self.loss, setting, Key::Loss),
+            "seed" => set_whole(&mut self.seed, setting, Key::Seed),
+            "beacons" => set_truth(&mut self.beacons, setting, Key::Beacons),
+            "until" => set_whole(&mut self.until, setting, Key::Until),
+            "contention" => set_truth(&mut self.contention, setting, Key::Contention),
+            _ => return self.set_of_rule(setting),
+        })
+    }
+
+    /// Keeps the value of a key of the rule of stations that contend. `None` if the key is not one.
+    fn set_of_rule(&mut self, setting: &Setting<'_>) -> Option<Result<(), KeyFault>> {
+        Some(match setting.word {
+            "contention_max" => set_whole(&mut self.contention_max, setting, Key::ContentionMax),
+            "contention_min" => set_whole(&mut self.contention_min, setting, Key::ContentionMin),
+            "contention_range" => {
+                set_whole(&mut self.contention_range, setting, Key::ContentionRange)
+            }
+            "contention_copies" => {
+                set_whole(&mut self.contention_copies, setting, Key::ContentionCopies)
+            }
+            _ => return None,
         })
     }
 
@@ -125,6 +158,10 @@ impl AirSettings {
             "loss" => self.loss,
             "seed" => self.seed,
             "until" => self.until,
+            "contention_max" => self.contention_max,
+            "contention_min" => self.contention_min,
+            "contention_range" => self.contention_range,
+            "contention_copies" => self.contention_copies,
             _ => None,
         }
     }
@@ -135,6 +172,7 @@ impl AirSettings {
     {
         match word {
             "beacons" => self.beacons,
+            "contention" => self.contention,
             _ => None,
         }
     }
@@ -146,9 +184,9 @@ fn set_whole(kept: &mut Option<i64>, setting: &Setting<'_>, key: Key) -> Result<
     Ok(())
 }
 
-/// Keeps whether stations tick by themselves.
-fn set_truth(kept: &mut Option<bool>, setting: &Setting<'_>) -> Result<(), KeyFault> {
-    *kept = Some(truth(setting, Key::Beacons)?);
+/// Keeps the truth of a key.
+fn set_truth(kept: &mut Option<bool>, setting: &Setting<'_>, key: Key) -> Result<(), KeyFault> {
+    *kept = Some(truth(setting, key)?);
     Ok(())
 }
 

@@ -28,7 +28,7 @@ mod traffic;
 mod traffic_keys;
 
 pub use air::Air;
-pub use air_keys::read_air;
+pub use air_keys::{read_air, read_contends};
 pub use air_settings::{AIR_KEYS, AirSettings, SetAir, SettingFault, SettingReason};
 pub use expectation::{Expectation, Reached, read_expectation};
 pub use moves::Moves;

@@ -20,6 +20,8 @@ pub struct Moves {
     pub remember: u8,
     /// The ports that it opens: at most 64, each once.
     pub ports: Vec<u16>,
+    /// Whether such a station contends.
+    pub contends: bool,
     ghost begins: { begin ≤ 2 ^ 62 },
     ghost lasts: { 1 ≤ gone },
     ghost room: { 1 ≤ capacity },

@@ -8,6 +8,7 @@ ghost use Rattle.sim_settings.specs.Moves.{SaysPorts};
 ghost use Rattle.toml.specs.Data.{no_members};
 ghost use Rattle.toml.specs.View.{items_view, table_view, view};
 
+use crate::air_keys::read_contends;
 use crate::moves::Moves;
 use crate::toml_fields::{TomlFields, items_of};
 use its_gnvalue::Mac;
@@ -31,9 +32,9 @@ const USUAL_MID: [u8; 6] = [0x02, 0x01, 0x00, 0x00, 0x00, 0x01];
 const MOST_PORTS: usize = 64;
 
 impl Moves {
-    /// Those of which nothing is given.
-    pub fn usual(alloc: Global) -> Moves
-        ensures { SaysMoves no_members result }
+    /// Those of which nothing is given. `contends` is the value of the air.
+    pub fn usual(alloc: Global, contends: bool) -> Moves
+        ensures { SaysMoves contends no_members result }
     {
         Moves {
             begin: 0,
@@ -42,14 +43,16 @@ impl Moves {
             capacity: USUAL_ENTRIES as u16,
             remember: USUAL_NUMBERS as u8,
             ports: Vec::new(alloc),
+            contends,
         }
     }
 }
 
-/// Reads `begin`, `gone`, `mid`, `capacity`, `remember`, `ports`, checked in this order. Each may be
-/// missing: 0, 1000, 020100000001, 1024, 8 and no port stand for them then.
-pub fn read_moves(alloc: Global, table: &Table) -> Result<Moves, KeyFault>
-    ensures { IfOk result (SaysMoves (table_view table.now)) }
+/// Reads `begin`, `gone`, `mid`, `capacity`, `remember`, `ports`, `contention`, checked in this
+/// order. Each may be missing: 0, 1000, 020100000001, 1024, 8, no port and `contends`, which is the
+/// value of the air, stand for them then.
+pub fn read_moves(alloc: Global, table: &Table, contends: bool) -> Result<Moves, KeyFault>
+    ensures { IfOk result (SaysMoves contends (table_view table.now)) }
 {
     let fields = TomlFields(table);
     Ok(Moves {
@@ -59,6 +62,7 @@ pub fn read_moves(alloc: Global, table: &Table) -> Result<Moves, KeyFault>
         capacity: read_capacity(&fields)?,
         remember: read_remember(&fields)?,
         ports: read_ports(alloc, table)?,
+        contends: read_contends(&fields, contends)?,
     })
 }
 

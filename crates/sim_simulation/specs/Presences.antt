@@ -16,4 +16,6 @@ absent_after (notes.Came came) station was = cond (nat_eq came station) false wa
 absent_after (notes.Left left) station was = cond (nat_eq left station) true was
 absent_after (notes.Heard hearer frame) station was = was
 absent_after (notes.Lost hearer frame) station was = was
+absent_after (notes.Released holder frame) station was = was
+absent_after (notes.Dropped holder frame) station was = was
 absent_after (notes.Absent id event has_left) station was = was

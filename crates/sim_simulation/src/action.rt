@@ -7,9 +7,9 @@ use std::fmt;
 /// What an event does. It prints as the word that a scenario has for it, `deliver` with the frame's
 /// number after it.
 #[derive(Clone, Copy, Debug)]
-pub(crate) struct Action<'a>(pub(crate) &'a What);
+pub(crate) struct ActionWord<'a>(pub(crate) &'a What);
 
-impl fmt::Display for Action<'_> {
+impl fmt::Display for ActionWord<'_> {
     fn fmt<W: fmt::Write>(&self, f: &mut fmt::Formatter<W>) -> fmt::Result {
         let verb = verb_of(self.0);
         match self.0 {

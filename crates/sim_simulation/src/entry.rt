@@ -26,6 +26,14 @@ pub(crate) fn entry_keys(entry: &Entry) -> EntryKeys<'_> {
     }
 }
 
+/// The keys of an entry whose frame is held: all but that frame.
+pub(crate) fn held_entry_keys(entry: &Entry) -> EntryKeys<'_> {
+    match entry {
+        Entry::Accepted { handed, .. } => AnswerKeys::accepted(handed, None),
+        entry => entry_keys(entry),
+    }
+}
+
 /// What is told of an event, as the program's lines show it: `opened`, `sent 0`,
 /// `accepted port 2002 info 0 6869 sent 1`, `refused S8 B2`.
 #[derive(Clone, Copy, Debug, PartialEq, Eq)]

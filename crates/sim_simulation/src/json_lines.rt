@@ -24,6 +24,8 @@ pub struct JsonLines<'a, W> {
     line: JsonLine,
     out: &'a mut W,
     notes: bool,
+    /// Whether stations that rows make contend, in a run in which any station does.
+    rows_contend: Option<bool>,
 }
 
 impl<'a, W: Write> JsonLines<'a, W> {
@@ -35,6 +37,7 @@ impl<'a, W: Write> JsonLines<'a, W> {
             line: JsonLine::new(alloc)?,
             out,
             notes: false,
+            rows_contend: None,
         })
     }
 
@@ -51,14 +54,19 @@ impl<'a, W: Write> JsonLines<'a, W> {
     ///
     /// `OutOfMemory` where an allocation failed, `Output` where a write did.
     pub fn stations(&mut self, configs: &[Config]) -> Result<(), SimulationFault> {
-        let stations = StationList(configs);
+        let stations = StationList {
+            configs,
+            contend: None,
+        };
         self.write(&StationsLine { stations })
     }
 
     /// Writes the line of a run with a radio model: its stations, the model and the version of the
     /// program, as `{"stations":[..],"air":{..},"version":".."}`. The model has `range`, `delay`,
     /// `loss`, `seed`, `beacons` and `until`, the last millisecond of the run, which is null if it
-    /// isn't known yet.
+    /// isn't known yet. If any station contends, it goes on with `contention` and the rule, and each
+    /// station has `contention`: `contention` says then which ones contend, and whether those of rows
+    /// do.
     ///
     /// `OutOfMemory` where an allocation failed, `Output` where a write did.
     pub fn stations_in_air(
@@ -66,9 +74,12 @@ impl<'a, W: Write> JsonLines<'a, W> {
         configs: &[Config],
         air: &Air,
         until: Option<u64>,
+        contention: Option<WhoContends<'_>>,
     ) -> Result<(), SimulationFault> {
-        let stations = StationList(configs);
-        let air = AirText::of(air, until);
+        self.rows_contend = contention.map(|who| who.rows);
+        let contend = contention.map(|who| who.stations);
+        let stations = StationList { configs, contend };
+        let air = AirText::of(air, until, contention.is_some());
         self.write(&AirLine {
             stations,
             air,
@@ -101,7 +112,7 @@ impl<'a, W: Write> JsonLines<'a, W> {
             return Ok(());
         };
         let vector = made.vector();
-        let at = StationText::new(vector.address(), vector.place());
+        let at = StationText::new(vector.address(), vector.place(), self.rows_contend);
         self.write(&MadeLine { station, id, at })
     }
 
@@ -154,10 +165,34 @@ struct AirText {
     seed: u64,
     beacons: bool,
     until: Option<u64>,
+    #[serde(flatten)]
+    contention: Option<ContentionKeys>,
+}
+
+/// The keys of contention, if any station contends.
+#[derive(Clone, Copy, Serialize)]
+struct ContentionKeys {
+    contention: bool,
+    contention_max: u16,
+    contention_min: u16,
+    contention_range: u16,
+    contention_copies: u8,
+}
+
+impl ContentionKeys {
+    fn of(air: &Air) -> ContentionKeys {
+        ContentionKeys {
+            contention: air.contends,
+            contention_max: air.rule.max_wait(),
+            contention_min: air.rule.min_wait(),
+            contention_range: air.rule.range(),
+            contention_copies: air.rule.copies(),
+        }
+    }
 }
 
 impl AirText {
-    fn of(air: &Air, until: Option<u64>) -> AirText {
+    fn of(air: &Air, until: Option<u64>, has_contention: bool) -> AirText {
         AirText {
             range: air.range,
             delay: air.delay,
@@ -165,6 +200,7 @@ impl AirText {
             seed: air.seed,
             beacons: air.beacons,
             until,
+            contention: has_contention.then(|| ContentionKeys::of(air)),
         }
     }
 }
@@ -189,19 +225,38 @@ struct MadeLine<'a> {
     at: StationText,
 }
 
-/// The stations, as an array.
+/// Which stations contend, of a run in which any does.
+#[derive(Clone, Copy, Debug)]
+pub struct WhoContends<'a> {
+    /// Whether each station of the scenario contends, in order.
+    pub stations: &'a [bool],
+    /// Whether those that rows make do.
+    pub rows: bool,
+}
+
+/// The stations, as an array, each with whether it contends, in a run in which any does.
 #[derive(Clone, Copy)]
-struct StationList<'a>(&'a [Config]);
+struct StationList<'a> {
+    configs: &'a [Config],
+    contend: Option<&'a [bool]>,
+}
 
 impl Described for StationList<'_> {}
 
 impl Serialize for StationList<'_> {
     fn serialize<S: Serializer>(&self, out: &mut S) -> Result<(), S::Error> {
-        out.begin_seq(Some(self.0.len()))?;
-        for config in self.0 {
-            StationText::of(config).serialize(out)?;
+        out.begin_seq(Some(self.configs.len()))?;
+        for (number, config) in self.configs.iter().enumerate() {
+            StationText::of(config, self.contends(number)).serialize(out)?;
         }
         out.end_seq()
+    }
+}
+
+impl StationList<'_> {
+    /// Whether the station of this number contends, in a run in which any does.
+    fn contends(&self, number: usize) -> Option<bool> {
+        self.contend?.get(number).copied()
     }
 }
 
@@ -211,18 +266,21 @@ struct StationText {
     address: Digits<8>,
     lat: i32,
     lon: i32,
+    #[serde(skip_serializing_if = "Option::is_none")]
+    contention: Option<bool>,
 }
 
 impl StationText {
-    fn of(config: &Config) -> StationText {
-        StationText::new(config.address, config.place)
+    fn of(config: &Config, contention: Option<bool>) -> StationText {
+        StationText::new(config.address, config.place, contention)
     }
 
-    fn new(address: GnAddress, place: Place) -> StationText {
+    fn new(address: GnAddress, place: Place, contention: Option<bool>) -> StationText {
         StationText {
             address: Digits(address.as_u64().to_be_bytes()),
             lat: place.lat(),
             lon: place.lon(),
+            contention,
         }
     }
 }

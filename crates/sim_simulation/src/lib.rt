@@ -20,14 +20,15 @@
 //!   send's; 0 without one.
 //!
 //! Counts and depths stay at 2^64 - 1. If no frame was released, `late` is false; a run with a
-//! radio model releases frames. With `run_air` (`timed`) the totals and summaries are those of the
-//! events that the radio model's timetable gives.
+//! radio model releases frames. With `run_air` the totals and summaries are those of the events of
+//! its run (`file`), which the radio model's timetable gives if no station contends (`timed`).
 //!
 //! # Only tested
 //!
 //! - `cases/sim.md`: the lines and objects, and the sentences of refusals.
 //! - `checks/failures`: failed reads and allocations, full files.
-//! - `cases/`, `checks/air`: `inside` of a packet; that no entry of a run accepts a released frame.
+//! - `cases/`, `checks/air`: `inside` of a packet; that no entry of a run accepts a released frame;
+//!   what stations hold, and how it is counted (`HeldTally`).
 #![tactic(auto)]
 
 mod action;
@@ -45,14 +46,14 @@ mod text_lines;
 
 pub use entry::EntryText;
 pub use fault::SimulationFault;
-pub use json_lines::JsonLines;
+pub use json_lines::{JsonLines, WhoContends};
 pub use note::Note;
 pub use reason::EntryReason;
-pub use record::EventRecord;
+pub use record::{ContentionStep, EventRecord};
 pub use simulation::simulate_into;
 pub use sink::EventSink;
-pub use step::do_event;
+pub use step::{Contending, do_event, do_event_holding};
 pub use text_lines::TextLines;
 
 /// The version of the program, which is the newest of the change log.
-pub const VERSION: &str = "0.2.0";
+pub const VERSION: &str = "0.3.0";

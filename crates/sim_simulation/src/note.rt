@@ -35,6 +35,16 @@ pub enum Note<'a> {
         station: usize,
         frame: usize,
     },
+    /// A frame that a station held goes out, and is received by whom it is in the range of now.
+    Released {
+        station: usize,
+        frame: usize,
+    },
+    /// A frame that a station held goes to nobody, since the station restarted.
+    Dropped {
+        station: usize,
+        frame: usize,
+    },
     /// An event of this id wasn't run. The station of the id is absent, or no row has made one yet.
     Absent {
         id: &'a str,
@@ -59,6 +69,8 @@ impl fmt::Display for NoteText<'_> {
             Note::Came { station } => write!(f, "- {moment} {station} came"),
             Note::Left { station } => write!(f, "- {moment} {station} left"),
             Note::Lost { station, frame } => write!(f, "- {moment} {station} lost {frame}"),
+            Note::Released { station, frame } => write!(f, "- {moment} {station} released {frame}"),
+            Note::Dropped { station, frame } => write!(f, "- {moment} {station} dropped {frame}"),
             Note::Absent { id, .. } => write!(f, "- {moment} - absent {}", OneLine(id)),
             Note::Made { .. } | Note::Heard { .. } => Ok(()),
         }
@@ -85,6 +97,8 @@ impl<'a> NoteLine<'a> {
             Note::Came { station } => ("came", Some(station), None, None),
             Note::Left { station } => ("left", Some(station), None, None),
             Note::Lost { station, frame } => ("lost", Some(station), Some(frame), None),
+            Note::Released { station, frame } => ("released", Some(station), Some(frame), None),
+            Note::Dropped { station, frame } => ("dropped", Some(station), Some(frame), None),
             Note::Absent { id, .. } => ("absent", None, None, Some(id)),
             Note::Made { .. } | Note::Heard { .. } => return None,
         };

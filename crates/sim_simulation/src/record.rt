@@ -4,12 +4,21 @@ ghost use Rattle.std.specs.Prelude.{◌≡◌};
 ghost use Rattle.its_world.specs.Events.{event_of};
 ghost use Rattle.sim_simulation.specs.Records.{happening_in, IsRecordOf};
 
-use crate::entry::{EntryKeys, entry_keys};
+use crate::entry::{EntryKeys, entry_keys, held_entry_keys};
 use its_station::OwnCall;
 use its_words::json_lines::Octets;
 use its_world::{Entry, Event, What, World, frame_of};
-use serde::Serialize;
+use serde::{Described, Serialize, Serializer};
 use sim_scenario::events::verb_of;
+
+/// What a station that contends did with a frame when it received one.
+#[derive(Clone, Copy, Debug)]
+pub enum ContentionStep<'a> {
+    /// It holds the frame that its entry names until this time, in milliseconds.
+    Waits(u64),
+    /// It holds the frames of these numbers no more, since enough others have sent them.
+    Cancels(&'a [usize]),
+}
 
 /// An event that was done, and what came of it.
 #[derive(Clone, Copy, Debug)]
@@ -26,21 +35,26 @@ pub struct EventRecord<'a> {
     pub entry: &'a Entry,
     /// The octets of the frame that was given, if one was. Its number is in the entry.
     pub octets: Option<&'a [u8]>,
+    /// What a station that contends did with a frame. `None` if nothing was held or cancelled.
+    pub contention: Option<ContentionStep<'a>>,
 }
 
 impl<'a> EventRecord<'a> {
-    /// The record of an event of this number that was done in a world, and of what came of it.
+    /// The record of an event of this number that was done in a world, of its entry, and of what its
+    /// station did with a frame, if it contends.
     #[inline]
     pub fn of(
         world: &'a World,
         number: usize,
         event: &'a Event,
         entry: &'a Entry,
+        contention: Option<ContentionStep<'a>>,
     ) -> EventRecord<'a>
         ensures number { result.number ≡ number }
         ensures event { happening_in result ≡ event_of event.now }
         ensures entry { result.entry.now ≡ entry.now }
         ensures octets { IsRecordOf world.now result }
+        ensures contention { result.contention ≡ contention.entry }
     {
         EventRecord {
             number,
@@ -52,7 +66,87 @@ impl<'a> EventRecord<'a> {
                 Some(frame) => world.kept_frame(frame),
                 None => None,
             },
+            contention,
         }
+    }
+
+    /// The octets of the frame that goes out with this event, if one does. One that is held doesn't.
+    #[inline(always)]
+    pub fn sent_octets(&self) -> Option<&'a [u8]> {
+        if self.is_held() { None } else { self.octets }
+    }
+
+    /// Whether the frame that the entry names is held.
+    #[inline(always)]
+    pub fn is_held(&self) -> bool {
+        matches!(self.contention, Some(ContentionStep::Waits(_)))
+    }
+
+    /// The number of frames that are held no more, since enough others have sent them.
+    #[inline(always)]
+    pub fn cancelled(&self) -> usize {
+        match self.contention {
+            Some(ContentionStep::Cancels(frames)) => frames.len(),
+            _ => 0,
+        }
+    }
+}
+
+impl<'a> EventRecord<'a> {
+    /// Its entry as it is printed: without the frame as sent, if that is held.
+    pub(crate) fn keys(&self) -> EntryKeys<'a> {
+        if self.is_held() {
+            held_entry_keys(self.entry)
+        } else {
+            entry_keys(self.entry)
+        }
+    }
+
+    /// The frames that it cancels, if it cancels any.
+    pub fn cancelled_frames(&self) -> Option<&'a [usize]> {
+        match self.contention {
+            Some(ContentionStep::Cancels(frames)) => Some(frames),
+            _ => None,
+        }
+    }
+}
+
+/// A frame that a station holds, and until when.
+#[derive(Clone, Copy)]
+pub(crate) struct HeldFrame {
+    pub(crate) frame: Option<usize>,
+    pub(crate) until: Option<u64>,
+}
+
+impl HeldFrame {
+    /// That of an event, if a frame is held with it.
+    pub(crate) fn of(done: &EventRecord<'_>) -> HeldFrame {
+        match done.contention {
+            Some(ContentionStep::Waits(until)) => HeldFrame {
+                frame: frame_of(done.entry),
+                until: Some(until),
+            },
+            _ => HeldFrame {
+                frame: None,
+                until: None,
+            },
+        }
+    }
+}
+
+/// The numbers of frames, as an array.
+#[derive(Clone, Copy)]
+pub(crate) struct FrameNumbers<'a>(&'a [usize]);
+
+impl Described for FrameNumbers<'_> {}
+
+impl Serialize for FrameNumbers<'_> {
+    fn serialize<S: Serializer>(&self, out: &mut S) -> Result<(), S::Error> {
+        out.begin_seq(Some(self.0.len()))?;
+        for frame in self.0 {
+            frame.serialize(out)?;
+        }
+        out.end_seq()
     }
 }
 
@@ -73,7 +167,13 @@ pub(crate) struct EventLine<'a> {
     #[serde(flatten)]
     told: EntryKeys<'a>,
     #[serde(skip_serializing_if = "Option::is_none")]
+    waits: Option<usize>,
+    #[serde(skip_serializing_if = "Option::is_none")]
+    until: Option<u64>,
+    #[serde(skip_serializing_if = "Option::is_none")]
     octets: Option<Octets<'a>>,
+    #[serde(skip_serializing_if = "Option::is_none")]
+    cancels: Option<FrameNumbers<'a>>,
 }
 
 impl<'a> EventLine<'a> {
@@ -87,6 +187,7 @@ impl<'a> EventLine<'a> {
             ),
             What::Call(_) => (None, None, None),
         };
+        let held = HeldFrame::of(done);
         EventLine {
             event: done.number,
             moment: done.moment,
@@ -95,8 +196,11 @@ impl<'a> EventLine<'a> {
             frame,
             lat,
             lon,
-            told: entry_keys(done.entry),
+            told: done.keys(),
+            waits: held.frame,
+            until: held.until,
             octets: done.octets.map(Octets),
+            cancels: done.cancelled_frames().map(FrameNumbers),
         }
     }
 }

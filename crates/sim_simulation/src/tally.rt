@@ -1,10 +1,12 @@
 //! What came of a run: the packets for an area, each with where it was delivered, and the counts of
 //! all events.
 
+mod held_tally;
 mod presence;
 mod summary;
 mod tally;
 
+pub use held_tally::HeldTally;
 pub use presence::Presence;
 pub use summary::{SendSummary, Totals};
 pub use tally::{CarriedPacket, Tally};

@@ -2,13 +2,13 @@
 
 ghost use Rattle.std.specs.Prelude.{◌≡◌, false, true};
 
-use crate::action::Action;
-use crate::entry::EntryText;
+use crate::action::ActionWord;
 use crate::fault::SimulationFault;
 use crate::note::{Note, NoteText};
-use crate::record::EventRecord;
+use crate::record::{EventRecord, HeldFrame};
 use crate::sink::EventSink;
 use its_world::World;
+use std::fmt;
 use std::io::Write;
 
 /// Writes a line for each entry, as `2 1010 1 accepted port 2002 info 0 6869 sent 1`: the event's
@@ -84,15 +84,14 @@ impl<W: Write> EventSink for TextLines<'_, W> {
             moment,
             station,
             what,
-            entry,
             ..
         } = *done;
         write!(self.out, "{number} {moment} {station} ")?;
         if self.actions {
-            write!(self.out, "{} ", Action(what))?;
+            write!(self.out, "{} ", ActionWord(what))?;
         }
-        let explain = self.explain;
-        writeln!(self.out, "{}", EntryText { entry, explain })?;
+        write!(self.out, "{}", done.keys().explaining(self.explain))?;
+        writeln!(self.out, "{}", ContentionText(done))?;
         Ok(())
     }
 
@@ -104,6 +103,26 @@ impl<W: Write> EventSink for TextLines<'_, W> {
     ) -> Result<(), SimulationFault> {
         if self.notes && note.is_told() {
             writeln!(self.out, "{}", NoteText { moment, note })?;
+        }
+        Ok(())
+    }
+}
+
+/// What a station that contends did with a frame, as ` waits 1 until 1072` or ` cancels 1,3`, or
+/// nothing.
+#[derive(Clone, Copy)]
+struct ContentionText<'a>(&'a EventRecord<'a>);
+
+impl fmt::Display for ContentionText<'_> {
+    fn fmt<W: fmt::Write>(&self, f: &mut fmt::Formatter<W>) -> fmt::Result {
+        let held = HeldFrame::of(self.0);
+        if let (Some(frame), Some(until)) = (held.frame, held.until) {
+            write!(f, " waits {frame} until {until}")?;
+        }
+        let mut before = " cancels ";
+        for frame in self.0.cancelled_frames().unwrap_or(&[]) {
+            write!(f, "{before}{frame}")?;
+            before = ",";
         }
         Ok(())
     }

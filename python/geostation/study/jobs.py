@@ -26,6 +26,8 @@ from .traces import Equipped, read_rows
 RECORD = "run.json"
 SENDS, LOAD, STATIONS = "sends.csv", "load.csv", "stations.csv"
 SUMMARY, MESSAGES = "summary.jsonl", "messages.txt"
+# Columns and counts of a run with contention.
+HELD = ("held", "cancelled")
 # Statuses that the same run has again. Any other may have been the machine's fault.
 LASTING = (0, 1, 2)
 _LONGEST_MESSAGE = 500
@@ -150,6 +152,7 @@ def _run_in(job: Job, scratch: Path, folder: Path, begun: float) -> Outcome:
         "warnings": warnings,
         "complete": complete,
         "total": total,
+        **_contention(total),
         "air": job.air,
         "command": job.command_line(),
         "program": job.program,
@@ -239,6 +242,14 @@ def _total(path: Path) -> Optional[Dict[str, int]]:
     except (IndexError, ValueError, KeyError, TypeError):
         return None
     return total if isinstance(total, dict) else None
+
+
+def _contention(total: Optional[Dict[str, int]]) -> Dict[str, Optional[int]]:
+    """Returns how many frames the stations held, and how many of them were cancelled: 0 if no
+    station contends, and `None` if the run did not go to its end."""
+    if total is None:
+        return dict.fromkeys(HELD)
+    return {name: total.get(name, 0) for name in HELD}
 
 
 def _said(path: Path) -> List[str]:

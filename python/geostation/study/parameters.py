@@ -16,7 +16,20 @@ Point = Dict[str, Value]
 Groups = List[Tuple[str, ...]]
 
 # The keys of [air] that a parameter may set. The seed has an argument of its own.
-AIR_KEYS = ("range", "delay", "loss", "beacons", "until")
+AIR_KEYS = (
+    "range",
+    "delay",
+    "loss",
+    "beacons",
+    "until",
+    "contention",
+    "contention_max",
+    "contention_min",
+    "contention_range",
+    "contention_copies",
+)
+# Those of them that are true or false.
+_SWITCHES = ("beacons", "contention")
 SEED = "seed"
 PENETRATION = "penetration"
 # Parameters that are files. A study has several of them, or names none as a parameter.
@@ -90,7 +103,7 @@ def check_percentage(name: str, value: Value) -> float:
 def _check_value(name: str, value: Value) -> Value:
     if name == PENETRATION:
         check_percentage(name, value)
-    elif name == "beacons":
+    elif name in _SWITCHES:
         if not isinstance(value, bool):
             raise StudyError(f"{name}: {value!r} is not true or false")
     elif name in AIR_KEYS and (type(value) is not int or value < 0):

@@ -11,7 +11,7 @@ from pathlib import Path
 from typing import Any, Dict, Iterable, Iterator, List, Mapping, Optional, Sequence, Tuple, Union
 
 from .errors import StudyError, StudyWarning, cannot
-from .jobs import LOAD, SENDS, STATIONS, read_record
+from .jobs import HELD, LOAD, SENDS, STATIONS, read_record
 from .parameters import SEED, Point, plain
 from .statistics import LEVEL, RESAMPLES, mean, summarise
 
@@ -95,6 +95,16 @@ def _completed(row: Row) -> Row:
     inside, reached = row["inside"], row.get("reached")
     row["reach"] = 100 * reached / inside if inside and reached is not None else None
     return row
+
+
+def _add_held(rows: List[Row]) -> None:
+    """Gives the rows of runs without contention the columns of those with it, if there are any.
+    Stations that do not contend hold no frame."""
+    if not any(HELD[0] in row for row in rows):
+        return
+    for row in rows:
+        if row and HELD[0] not in row:
+            row.update(dict.fromkeys(HELD, 0))
 
 
 def _names(given: Names) -> List[str]:
@@ -238,9 +248,9 @@ class Runs:
         if table not in TABLES:
             raise StudyError(f"{table}: there is no such table: use {' or '.join(TABLES)}")
         if table not in self._rows:
-            self._rows[table] = [
-                (run, row) for run in self._runs for row in self._read(run, TABLES[table])
-            ]
+            parsed = [(run, row) for run in self._runs for row in self._read(run, TABLES[table])]
+            _add_held([row for _, row in parsed])
+            self._rows[table] = parsed
         return self._rows[table]
 
     @staticmethod

@@ -112,13 +112,21 @@ impl WarningWatch {
     pub(crate) fn take_other(&mut self, done: &EventRecord<'_>) {
         self.late = None;
         if done.moment >= self.late_from {
-            self.take_late(done);
+            self.take_late(done.sent_octets());
         }
     }
 
-    /// Takes an event near the end of the run: it may forward a warning.
-    fn take_late(&mut self, done: &EventRecord<'_>) {
-        if let Some(packet) = done.octets.and_then(PacketName::of) {
+    /// Takes a frame that a station held and that goes out at this time.
+    pub(crate) fn take_release(&mut self, octets: Option<&[u8]>, moment: u64) {
+        self.late = None;
+        if moment >= self.late_from {
+            self.take_late(octets);
+        }
+    }
+
+    /// Takes what goes out near the end of the run: it may be a warning that is forwarded.
+    fn take_late(&mut self, octets: Option<&[u8]>) {
+        if let Some(packet) = octets.and_then(PacketName::of) {
             self.late = self.last_of(&packet);
         }
     }

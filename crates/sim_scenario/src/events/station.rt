@@ -3,7 +3,7 @@
 ghost use Rattle.std.specs.Prelude.{◌≡◌, IfOk, length};
 ghost use Rattle.its_words.specs.Fields.{AreOctets};
 ghost use Rattle.its_words.specs.declared.keys.key.Key.TheVariants as keys;
-ghost use Rattle.sim_scenario.specs.Saying.{IsAddress, SaysPresent, SaysStation};
+ghost use Rattle.sim_scenario.specs.Saying.{IsAddress, SaysContends, SaysPresent, SaysStation};
 ghost use Rattle.its_world.specs.Events.{IsConfig};
 
 use its_gnvalue::GnAddress;
@@ -41,6 +41,17 @@ pub fn read_present<F: Fields>(fields: &F) -> Result<bool, KeyFault>
     ensures { IfOk result (SaysPresent (F.values fields.now)) }
 {
     Ok(!fields.has(Key::Absent.word()) || !truth(fields, Key::Absent)?)
+}
+
+/// Whether a station contends: `contention` is checked where it is there. `None` where it isn't.
+pub fn read_own_contention<F: Fields>(fields: &F) -> Result<Option<bool>, KeyFault>
+    ensures { IfOk result (SaysContends (F.values fields.now)) }
+{
+    if fields.has(Key::Contention.word()) {
+        Ok(Some(truth(fields, Key::Contention)?))
+    } else {
+        Ok(None)
+    }
 }
 
 /// The address of 16 hexadecimal digits, whose MID is no group.

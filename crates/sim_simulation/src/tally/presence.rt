@@ -49,6 +49,7 @@ impl Presence {
                 self.absent.remove(&station);
             }
             Note::Heard { .. } | Note::Lost { .. } | Note::Absent { .. } => {}
+            Note::Released { .. } | Note::Dropped { .. } => {}
         }
         Ok(())
     }

@@ -35,6 +35,14 @@ pub struct SendSummary {
 }
 
 impl SendSummary {
+    /// With so many frames less: they didn't go out.
+    pub fn without_frames(self, unsent: usize) -> SendSummary {
+        SendSummary {
+            frames: self.frames.saturating_sub(unsent),
+            ..self
+        }
+    }
+
     /// With one frame more.
     pub(crate) fn with_frame(self) -> SendSummary
         ensures { result ≡ with_one_frame self }
@@ -91,6 +99,16 @@ pub struct Totals {
     pub ignored: usize,
     /// Events that were refused.
     pub refused: usize,
+}
+
+impl Totals {
+    /// With so many frames less: they didn't go out.
+    pub fn without_frames(self, unsent: usize) -> Totals {
+        Totals {
+            frames: self.frames.saturating_sub(unsent),
+            ..self
+        }
+    }
 }
 
 impl fmt::Display for Totals {

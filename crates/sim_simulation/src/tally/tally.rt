@@ -111,6 +111,14 @@ impl Tally {
         self.totals
     }
 
+    /// The packet for an area that a frame carries which the world keeps, if it carries one.
+    pub(crate) fn packet_in(&self, frame: usize) -> Option<CarriedPacket> {
+        match self.carried.get(frame.checked_sub(self.released)?) {
+            Some(carried) => *carried,
+            None => None,
+        }
+    }
+
     /// Forgets what the frames carried that the world has let go: none of them is delivered again.
     #[inline(always)]
     fn forget_released(&mut self, world: &World)

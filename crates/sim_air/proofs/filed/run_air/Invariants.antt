@@ -6,7 +6,9 @@ use Rattle.its_world.specs.Events.{config_of}
 use Rattle.sim_scenario.specs.Airs.{end_of}
 use Rattle.sim_air.specs.Due.{AreDue}
 use Rattle.sim_air.specs.AirTimed.{rules_of}
+use Rattle.sim_air.specs.Contenders.{NoneContends}
 use Rattle.sim_air.specs.Filing.{IsFiling}
+use Rattle.sim_air.specs.Going.{HasDone}
 use Rattle.sim_air.specs.FileEvents.{IsFiledInRange, filed_in, filed_of}
 use Rattle.sim_queue.specs.PlaceIndexes.{AreStandingsOf}
 use Rattle.sim_queue.specs.Traffics.{all_traffic}
@@ -22,7 +24,9 @@ invariant-loop g l =
       due : AreDue (map filed_of l.file) l.filed.end (filed_in l.filed.due.items);
       ranges : All (λ (e : Bor FileEvent). IsFiledInRange e.now) l.filed.due.items;
       deliveries : All (λ (e : Bor FileEvent). KeepsFrom l.filed.lowest e.now) l.filed.due.items;
-      filing : g.S.EventSink.Took l.fn.sink [] []
+      going : g.S.EventSink.Took l.fn.sink [] []
+          → HasDone (map config_of l.configs) l.filed (g.S.EventSink.Took l.sink);
+      filing : NoneContends l.contend → g.S.EventSink.Took l.fn.sink [] []
           → IsFiling (rules_of l.air (all_traffic l.every) (end_of l.air.until []) l.present)
           (map config_of l.configs) l.filed (g.S.EventSink.Took l.sink);
     }

@@ -5,6 +5,7 @@ use Rattle.its_model.specs.World.{Config}
 use Rattle.sim_scenario.specs.Airs.{end_of}
 use Rattle.its_world.specs.Events.{config_of}
 use Rattle.sim_air.specs.AirTimed.{rules_of}
+use Rattle.sim_air.specs.Going.{IsGoing}
 use Rattle.sim_air.specs.Moving.{IsMovedRun}
 use Rattle.sim_queue.specs.PlaceIndexes.{AreStandingsOf}
 use Rattle.sim_air_model.specs.Timetable.{Rules}
@@ -18,6 +19,7 @@ use Rattle.std.specs.Prelude.{Vec}
 use Rattle.std.specs.declared.alloc.Global.{Global}
 use denote.Ref.{Bor}
 use Rattle.sim_air.proofs.Outside.{none_came, turn_of_row}
+use Rattle.sim_air.proofs.Going.{going_begins, made_done}
 use Rattle.sim_air.proofs.Moved.{begun}
 use Rattle.sim_air.proofs.UnderRows.{begun_under, row_read}
 use Rattle.sim_air.proofs.moving.run_moves.Goals as goal
@@ -52,8 +54,12 @@ loop-init g c =
       asked =
           subst (λ (v : Vec (Bor AddressedEvent) Global). IsByMoment t.events.items
           (map (λ (e : Bor AddressedEvent). e.now) v.items)) (sym read.events.0) b.asked;
-      under = λ took.
-          let moving = begun true by configs (end_in m) m.run Took long b.rules b.present b.world
+      going = λ took.
+          subst (λ (r : Run). IsGoing true configs [] r.world Took) (sym read.run)
+          (going_begins true configs m.run.world Took b.world (c.every_schedule.ensures configs [])
+          took);
+      under = λ none took.
+          let moving = begun true by configs (end_in m) m.run Took long (b.steady none) b.rules b.present b.world
           (c.every_schedule.ensures configs []) b.keeps b.frames.0 took in
           subst (λ (n : ℕ). IsUnderSome by configs n c.read_row.new.rows.before next Took)
           (sym read.begin)
@@ -86,12 +92,19 @@ loop-preserved g c =
           c.args.timeline.now.events.items
           (map (λ (e : Bor AddressedEvent). e.now) v.items)) (sym c.go_on.ensures.asked)
           c.loop.invariant.asked;
-      under = λ took.
-          c.in_ok-go_on.ensures.moving c.if-not-branch.false _ _ (c.loop.invariant.under took);
+      going = λ took. c.in_ok-go_on.ensures.going _ _ (c.loop.invariant.going took);
+      under = λ none took.
+          c.in_ok-go_on.ensures.moving c.if-not-branch.false _ _ (c.loop.invariant.under none took);
     }
 
-pub returns-then-not-branch : goal.returns-then-not-branch
-returns-then-not-branch g c = λ took.
+pub returns-then-not-branch-clause-run : goal.returns-then-not-branch-clause-run
+returns-then-not-branch-clause-run g c = λ took.
+    made_done (map config_of c.args.scenario.now.stations.items) c.go_on.new.self.run.world
+    (g.S.EventSink.Took c.go_on.new.sink)
+    (c.in_ok-go_on.ensures.going _ _ (c.loop.invariant.going took))
+
+pub returns-then-not-branch-clause-moved : goal.returns-then-not-branch-clause-moved
+returns-then-not-branch-clause-moved g c = λ none took.
     let s = c.args.scenario.now in
     let t = c.args.timeline.now in
     let air = t.air in
@@ -106,4 +119,4 @@ returns-then-not-branch g c = λ took.
     (subst (λ (m : Moves). IsMovedRun by configs m asked c.loop.moving.until world Took)
     c.loop.invariant.moves
     (c.in_ok-go_on.ensures.ended c.if-not-branch.true by configs asked c.loop.invariant.asked
-    (c.loop.invariant.under took)))
+    (c.loop.invariant.under none took)))

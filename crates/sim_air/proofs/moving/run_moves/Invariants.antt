@@ -1,7 +1,9 @@
-use Rattle.std.specs.Prelude.{◌≡◌, [], map}
+use Rattle.std.specs.Prelude.{◌≡◌, [], ◌∷◌, map, true}
 use Rattle.sim_scenario.specs.Airs.{end_of}
 use Rattle.its_world.specs.Events.{config_of}
 use Rattle.sim_air.specs.AirTimed.{rules_of}
+use Rattle.sim_air.specs.Contenders.{NoneContends}
+use Rattle.sim_air.specs.Going.{IsGoing}
 use Rattle.sim_queue.specs.PlaceIndexes.{AreStandingsOf}
 use Rattle.sim_queue.specs.Traffics.{all_traffic}
 use Rattle.sim_air.specs.Outside.{IsByMoment}
@@ -16,7 +18,11 @@ invariant-loop g l =
       until : l.moving.until ≡ l.timeline.air.until;
       moves : l.moving.moves.now ≡ l.timeline.moves;
       asked : IsByMoment l.timeline.events.items (asked_in l.moving);
-      under : g.S.EventSink.Took l.fn.sink [] []
+      going : g.S.EventSink.Took l.fn.sink [] []
+          → IsGoing true (map config_of l.scenario.stations.items) [] l.moving.run.world
+          (g.S.EventSink.Took l.sink);
+      under : NoneContends (l.timeline.moves.contends ∷ l.scenario.contend.items)
+          → g.S.EventSink.Took l.fn.sink [] []
           → IsUnderSome (rules_of l.timeline.air (all_traffic l.timeline.every.items)
           (end_of l.timeline.air.until []) l.scenario.present.items)
           (map config_of l.scenario.stations.items) l.rows.begin l.rows.before l.moving

@@ -40,3 +40,6 @@ returns-in_default-clause-moving g c =
           c.args.station (sym c.place_of.ensures ∙ c.in_default.is));
       does = none_at true _ c.args.run.now (g.S.EventSink.Took c.args.sink.now);
     }
+
+pub returns-in_default-clause-going : goal.returns-in_default-clause-going
+returns-in_default-clause-going g c = λ configs past h. h

@@ -5,6 +5,7 @@ use Rattle.sim_air.specs.Moving.{DoesAt}
 use Rattle.sim_air.specs.FileEvents.{filed_of}
 use Rattle.sim_air.proofs.FileEvents.{same_moment}
 use Rattle.sim_queue.proofs.Keeping.{on_ok}
+use Rattle.sim_air.proofs.Going.{filed_well}
 use Rattle.sim_air.proofs.Moved.{comes_well, none_at, same_station, station_filed}
 use Rattle.sim_air.proofs.step.do_filed.Goals as goal
 
@@ -37,3 +38,12 @@ returns-else-is_there-clause-moving g c =
       may = inr (c.is_there.ensures.away c.if-is_there.false, refl);
       does = none_at true _ c.args.run.now (g.S.EventSink.Took c.args.sink.now);
     }
+
+pub returns-then-is_there-clause-going : goal.returns-then-is_there-clause-going
+returns-then-is_there-clause-going g c =
+    filed_well c.do_filed.result c.args.filed.now c.args.run.now.world c.do_filed.new.self.world
+    (g.S.EventSink.Took c.args.sink.now) (g.S.EventSink.Took c.do_filed.new.sink)
+    (c.is_there.ensures.there c.if-is_there.true) c.do_filed.ensures.run
+
+pub returns-else-is_there-clause-going : goal.returns-else-is_there-clause-going
+returns-else-is_there-clause-going g c = λ configs past h. h

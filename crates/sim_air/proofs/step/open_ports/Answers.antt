@@ -5,6 +5,7 @@ use Rattle.std.proofs.lemmas.List.{map_more}
 use Rattle.sim_air.specs.Moving.{DoesThere, IsMoving}
 use Rattle.sim_air.specs.Outside.{opening_at}
 use Rattle.sim_air_model.specs.Timetable.{Filed}
+use Rattle.sim_air.proofs.Going.{one_done}
 use Rattle.sim_air.proofs.Moved.{event_comes_at, none_at}
 use Rattle.sim_air.proofs.step.open_ports.Goals as goal
 
@@ -15,6 +16,7 @@ loop-port-init g c =
       count = refl;
       moving = λ there. none_at true c.args.event.now.moment c.args.run.now
           (g.S.EventSink.Took c.args.sink.now);
+      going = λ there configs past h. h;
     }
 
 pub loop-port-preserved : goal.loop-port-preserved
@@ -44,6 +46,11 @@ loop-port-preserved g c =
           c.do_outer.ensures.released c.in_ok-do_outer.ensures.timed rules configs made
           (past ++ came) end counted by within
           (c.loop-port.invariant.moving there rules configs made past end counted by within h));
+      going = λ there configs past h.
+          one_done true _ old.world new.world B C
+          (subst (λ (n : ℕ). e.station < n) (sym c.loop-port.invariant.count) there)
+          c.in_ok-do_outer.ensures.run configs past
+          (c.loop-port.invariant.going there configs past h);
     }
 
 pub returns-clause-moving : goal.returns-clause-moving

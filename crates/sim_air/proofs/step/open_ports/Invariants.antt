@@ -1,4 +1,5 @@
-use Rattle.std.specs.Prelude.{◌≡◌, length, map, take}
+use Rattle.std.specs.Prelude.{◌≡◌, ◌<◌, length, map, take, true}
+use Rattle.sim_air.specs.Going.{GoesOn}
 use Rattle.sim_air.specs.Moving.{DoesThere}
 use Rattle.sim_air.specs.Outside.{opening_at}
 use Rattle.sim_queue.specs.PlaceIndexes.{AreStandingsOf}
@@ -13,4 +14,7 @@ invariant-loop-port g l =
       moving : DoesThere l.event.station l.event.moment
           (map (opening_at l.event.station l.event.moment) (take l.port-index l.ports))
           l.fn.run (g.S.EventSink.Took l.fn.sink) l.run (g.S.EventSink.Took l.sink);
+      going : l.event.station < length l.fn.run.world.stations
+          → GoesOn true l.fn.run.world (g.S.EventSink.Took l.fn.sink) l.run.world
+          (g.S.EventSink.Took l.sink);
     }

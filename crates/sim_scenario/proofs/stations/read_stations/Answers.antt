@@ -5,7 +5,7 @@ use Rattle.sim_settings.specs.Tables.{table_values}
 use Rattle.sim_settings.proofs.Items.{say_more}
 use Rattle.sim_scenario.specs.Saying.{SaysStation}
 use Rattle.sim_settings.specs.Items.{SayItems}
-use Rattle.sim_scenario.specs.Scenarios.{SaysPresence}
+use Rattle.sim_scenario.specs.Scenarios.{SaysOwnContention, SaysPresence}
 use Rattle.sim_scenario.proofs.stations.read_stations.Goals as goal
 use Rattle.its_world.specs.Events.{IsConfig}
 use Rattle.its_world.specs.declared.config.Config.{Config}
@@ -40,6 +40,13 @@ loop-number-preserved c =
           c.in_ok-read_presence.field-0 lt c.index-items-number.is
           c.loop-number.invariant.presence
           (members, sym c.in-Some.ensures, c.in_ok-read_presence.ensures.says));
+      contention =
+          subst (λ l. SayItems (SaysOwnContention c.args.has_air) (items_view more) l)
+          (sym c.in_ok-push-3.ensures.items)
+          (say_more (SaysOwnContention c.args.has_air) items i item c.loop-number.contend.items
+          c.in_ok-read_contention.field-0 lt c.index-items-number.is
+          c.loop-number.invariant.contention
+          (members, sym c.in-Some.ensures, c.in_ok-read_contention.ensures.says));
       ranges =
           subst (All IsConfig) (sym c.in_ok-push.ensures.items)
           (All-push IsConfig c.loop-number.stations.items station

@@ -1,25 +1,17 @@
-use Rattle.std.proofs.Common.{List, [], ◌∷◌, ◌++◌, subst, ap, ◌∙◌}
-use Rattle.its_model.specs.World.{Event, WorldModel, opening, world_run, entries}
-use Rattle.its_world.specs.Entries.{Entry}
+use Rattle.std.proofs.Common.{[], ◌∷◌, ◌++◌, ap, ◌∙◌}
+use Rattle.its_model.specs.World.{WorldModel, opening, world_run, entries}
 use Rattle.its_world.specs.Events.{event_of}
-use Rattle.sim_simulation.specs.Records.{happening_in}
 use Rattle.sim_simulation.proofs.Told.{told_more}
 use Rattle.sim_simulation.proofs.step.do_event.Goals as goal
 
 pub returns-clause-run : goal.returns-clause-run
 returns-clause-run g c = λ configs events before.
     let e = event_of c.args.event.now in
-    let entry = c.in_ok-entry.entry in
-    told_more configs events e c.args.world.now c.step.new.self entry
-    (g.S.EventSink.Took c.args.sink.now) (g.S.EventSink.Took c.put.new.self)
+    told_more configs events e c.args.world.now c.step.new.self c.in_ok-entry.entry
+    (g.S.EventSink.Took c.args.sink.now) (g.S.EventSink.Took c.put_event.new.sink)
     (λ w h. c.in_ok-entry.ensures.step w h c.requires.kept) c.runs_go_on.ensures
     (c.every_schedule.ensures configs (events ++ e ∷ []))
-    (λ log took.
-    subst (λ (x : Event). g.S.EventSink.Took c.put.new.self (events ++ x ∷ []) (log ++ entry ∷ []))
-    c.of.ensures.event
-    (subst (λ (x : Entry). g.S.EventSink.Took c.put.new.self
-    (events ++ happening_in c.of.result ∷ []) (log ++ x ∷ []))
-    c.of.ensures.entry (c.in_ok-put.ensures events log took)))
+    (λ log took. c.in_ok-put_event.ensures events log took)
     before
 
 pub returns-clause-entry : goal.returns-clause-entry

@@ -42,3 +42,14 @@ returns-clause-moving g c =
     ∷ map (opening_at event.station event.moment) ports) one.run B c.move_in.new.run C) is.moment
     (moves there))))
     c.move_in.ensures.moving
+
+pub returns-clause-going : goal.returns-clause-going
+returns-clause-going g c =
+    let one = c.station_of.new.self in
+    let is = c.move_of-event.ensures in
+    let there =
+    subst (λ (n : ℕ). n < length one.run.world.stations) (sym is.station)
+    c.in_ok-found.ensures.there in
+    on_ok c.move_in.result _ _
+    (λ moves configs past h. moves there configs past (c.in_ok-found.ensures.going configs past h))
+    c.move_in.ensures.going

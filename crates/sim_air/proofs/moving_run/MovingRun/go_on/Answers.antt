@@ -12,7 +12,7 @@ use Rattle.sim_air.proofs.moving_run.MovingRun.go_on.Goals as goal
 pub returns-then-taken-clause-moving : goal.returns-then-taken-clause-moving
 returns-then-taken-clause-moving g c = λ is rules configs u.
     let old = c.args.self.now in
-    let B = g.S.EventSink.Took c.take_own.new.sink in
+    let B = g.S.EventSink.Took c.take_turn.new.sink in
     let next = c.next_until-coming.ensures in
     let end = c.end-end.ensures.end in
     let limit = c.limit_of-limit.result in
@@ -47,8 +47,8 @@ returns-in_ok-take_in-in-Some-clause-moving g c = λ is rules configs u.
     let n = is_next_of c.next_until-coming.result old c.limit_of-limit.result coming
     c.in-Some.is c.next_until-coming.ensures.next c.limit_of-limit.ensures.some in
     let left = c.in_ok-taken.ensures.left c.if-taken.false in
-    let B = g.S.EventSink.Took c.take_own.new.sink in
-    let run = c.take_own.new.run in
+    let B = g.S.EventSink.Took c.take_turn.new.sink in
+    let run = c.take_turn.new.run in
     let moving = subst (λ (f : FrameCount). IsMoving true rules configs u.made u.past m m
     (end_in old) f.before f.delivered_by run B) (sym left.count)
     (comes_to true rules configs u.made u.past u.last u.from (end_in old) old.count.before
@@ -91,12 +91,17 @@ returns-in-None-clause-ended g c = λ is rules configs asked by u.
     c.in-None.is c.limit_of-limit.ensures.none
     ∙ ap (λ n. n + 1) c.end-end.ensures.end in
     let left = c.in_ok-taken.ensures.left c.if-taken.false in
-    let run = c.take_own.new.run in
+    let run = c.take_turn.new.run in
     ended rules configs u.made u.past u.last u.from end old.count.before old.count.delivered_by
-    run (g.S.EventSink.Took c.take_own.new.sink) old.moves.now asked old.until
+    run (g.S.EventSink.Took c.take_turn.new.sink) old.moves.now asked old.until
     (end_given old.until old.greatest)
     (subst (λ (k : ℕ). All (λ (w : Scheduled). k ≤ w.moment) run.queue.own) last left.late)
     (left.stays true rules configs u.made u.past u.last u.from end old.count.before
     old.count.delivered_by u.under.moving)
     (is_outside (length configs) (length u.made) u.came u.past u.turn end old asked by comes
     u.outside)
+
+pub returns-in_ok-take_in-in-Some-clause-going : goal.returns-in_ok-take_in-in-Some-clause-going
+returns-in_ok-take_in-in-Some-clause-going g c = λ configs past h.
+    c.in_ok-take_in-in-Some.ensures.going configs past
+    (c.in_ok-taken.ensures.going true configs past h)

@@ -4,6 +4,7 @@ use Rattle.its_world.specs.Events.{config_of}
 use Rattle.sim_air.proofs.Moved.{one_made, says_moving}
 use Rattle.sim_air.proofs.UnderRows.{same_heap, under_moving}
 use Rattle.sim_air.specs.UnderRows.{end_in}
+use Rattle.sim_air.proofs.Going.{station_made}
 use Rattle.sim_air.proofs.moving_run.MovingRun.make_station.Goals as goal
 
 pub returns-clause-moving : goal.returns-clause-moving
@@ -27,5 +28,12 @@ returns-clause-moving g c = (
       c.add_station.ensures.every
       c.add_station.ensures.queue c.add_station.ensures.draws
       c.in_ok-add_station.ensures.present c.in_ok-add_station.ensures.frames.0
+      c.add_station.ensures.none
       c.in_ok-add_station.ensures.late h.moving)) h,
 )
+
+pub returns-clause-going : goal.returns-clause-going
+returns-clause-going g c =
+    station_made (config_of c.in-Some.config) c.args.self.now.run.world
+    c.add_station.new.self.world (g.S.EventSink.Took c.args.sink.now)
+    (g.S.EventSink.Took c.note.new.self) c.in_ok-add_station.ensures.late c.in_ok-note.ensures

@@ -6,6 +6,9 @@ use Rattle.sim_queue.proofs.Keeping.{on_ok}
 use Rattle.sim_air.proofs.Moved.{stations_made}
 use Rattle.sim_air.proofs.Outside.{row_done, same_came, turn_of_row}
 use Rattle.sim_air.proofs.UnderRows.{row_read, row_taken}
+use Rattle.sim_air.specs.Going.{GoesOn}
+use Rattle.sim_air.specs.declared.run.Run.{Run}
+use Rattle.sim_air.proofs.Going.{always_ok}
 use Rattle.sim_air.proofs.moving_run.MovingRun.take_row.Goals as goal
 
 pub do_row-requires-clause-row : goal.do_row-requires-clause-row
@@ -62,3 +65,12 @@ returns-clause-moving g c =
           read.events.0 read.events.1 (omega arith) (turn_of_row m last on.comings) got.4;
     }))
     read.row
+
+pub returns-clause-going : goal.returns-clause-going
+returns-clause-going g c =
+    let old = c.args.self.now in
+    let A = g.S.EventSink.Took c.args.sink.now in
+    let B = g.S.EventSink.Took c.do_row.new.sink in
+    always_ok c.read_row.result _
+    (subst (λ (r : Run). GoesOn true old.run.world A r.world B) (sym c.read_row.ensures.run)
+    c.in_ok-do_row.ensures.going)

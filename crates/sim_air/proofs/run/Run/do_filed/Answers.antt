@@ -1,4 +1,5 @@
-use Rattle.std.proofs.Common.{◌∙◌, [], ◌∷◌, ap, sym, subst, List, Bool, false, ℕ}
+use Rattle.std.proofs.Common.{◌∙◌, [], ◌∷◌, ◌++◌, ap, sym, subst, List, Bool, false, ℕ}
+use Rattle.std.proofs.Common.{append-nil}
 use Rattle.std.specs.Prelude.{slice_set}
 use Rattle.its_model.specs.World.{Event}
 use Rattle.sim_scenario.specs.declared.events.event.FileEvent.{FileEvent}
@@ -38,7 +39,22 @@ returns-in-Leaves-clause-timed g c = λ rules configs a h.
           h.keeps);
       present = c.leave.ensures.present
           ∙ ap (λ (l : List Bool). slice_set l n false) h.present;
+      steady = c.leave.ensures.world.contentions ∙ h.steady;
     }))
+    c.leave.ensures.told
+
+pub returns-in-Leaves-clause-run : goal.returns-in-Leaves-clause-run
+returns-in-Leaves-clause-run g c = λ configs events h.
+    let run = c.args.self.now in
+    let last = c.leave.new.self in
+    let After = g.S.EventSink.Took c.leave.new.sink in
+    on_ok c.leave.result _ _
+    (λ says. subst (λ (f : FileEvent). IsSimulated configs (events ++ events_in (filed_of f ∷ []))
+    last.world After) (sym c.in-Leaves.is)
+    (subst (λ (l : List Event). IsSimulated configs l last.world After) (sym (append-nil events))
+    (subst (λ (x : WorldState). IsSimulated configs events x After)
+    (sym c.leave.ensures.world.world)
+    (told_on configs events run.world (g.S.EventSink.Took c.args.sink.now) After says h))))
     c.leave.ensures.told
 
 pub do_outer-requires-clause-kept : goal.do_outer-requires-clause-kept

@@ -9,6 +9,7 @@ use Rattle.sim_queue.specs.Keeps.{Keeps}
 use Rattle.sim_air.specs.Keeps.{IsAnswered}
 use Rattle.sim_air_model.specs.Timetable.{come, comes, present_after, spread}
 use Rattle.sim_queue.proofs.Keeping.{on_ok_both}
+use Rattle.sim_air.proofs.Going.{always_ok}
 use Rattle.sim_air.proofs.Keeping.{goes_on}
 use Rattle.sim_air.proofs.Stepping.{filed_event}
 use Rattle.sim_air.proofs.run.Run.do_outer.Goals as goal
@@ -32,16 +33,25 @@ returns-clause-timed g c = λ rules configs a h.
     let t = spread rules a.present e after a.timetable in
     let kept : Keeps done.queue done.draws t =
     subst (λ (l : List Bool). Keeps done.queue done.draws (spread rules l e after a.timetable))
-    h.present (c.in_ok-entry.ensures.spread rules configs a.done a.timetable h.goes_by h.told
+    h.present (c.in_ok-entry.ensures.spread rules configs a.done a.timetable h.steady h.goes_by h.told
     h.keeps) in
+    let steady = c.admit.ensures.world.contentions ∙ c.do_event.ensures.none h.steady in
     let Presence : Type 0 = last.present.items ≡ present_after done.present.items e after in
     let Timing : Type 0 = Keeps last.queue last.draws
     (cond (comes done.present.items e after) (come rules e.station e.moment t) t) in
     on_ok_both c.admit.result Presence Timing _
-    (λ presence timing. filed_event rules configs a e last After goes_last
+    (λ presence timing. filed_event rules configs a e last After goes_last steady
     (subst (λ (x : WorldState). IsSimulated configs (a.done ++ e ∷ []) x After)
     (sym c.admit.ensures.world.world) told)
     (subst (λ (l : List Bool). Keeps last.queue last.draws
     (cond (comes l e after) (come rules e.station e.moment t) t)) present timing)
     (subst (λ (l : List Bool). last.present.items ≡ present_after l e after) present presence))
     (c.admit.ensures.present after said) (c.admit.ensures.come rules after t goes said kept)
+
+pub returns-clause-run : goal.returns-clause-run
+returns-clause-run g c = λ configs events h.
+    let e = event_of c.args.event.now in
+    always_ok c.admit.result _
+    (subst (λ (x : WorldState). IsSimulated configs (events ++ e ∷ []) x
+    (g.S.EventSink.Took c.do_event.new.sink)) (sym c.admit.ensures.world.world)
+    (c.in_ok-entry.ensures.run configs events h))

@@ -1,4 +1,5 @@
-use Rattle.std.proofs.Common.{◌≡◌, ◌∙◌, [], ◌∷◌, ◌++◌, ap, sym, subst, List, Bool, cond, false}
+use Rattle.std.proofs.Common.{◌≡◌, ◌<◌, ◌∙◌, [], ◌∷◌, ◌++◌, ap, sym, subst, ℕ, List, Bool, cond, false}
+use Rattle.std.proofs.Common.{length}
 use Rattle.std.specs.Prelude.{Vec}
 use Rattle.std.specs.declared.alloc.Global.{Global}
 use Rattle.its_model.specs.World.{Event, opening, world_run}
@@ -13,7 +14,8 @@ use Rattle.sim_air_model.specs.Timetable.{Timetable, come, comes, follow_all, is
 use Rattle.sim_air_model.specs.Timetable.{is_refusal}
 use Rattle.sim_air_model.specs.Timetable.{present_after, spread}
 use Rattle.sim_queue.specs.Waits.{planned_of}
-use Rattle.sim_queue.proofs.Keeping.{on_ok_both}
+use Rattle.sim_queue.proofs.Keeping.{on_ok, on_ok_both}
+use Rattle.sim_air.proofs.Going.{one_done}
 use Rattle.sim_air.proofs.Keeping.{goes_on}
 use Rattle.sim_air.proofs.Stepping.{follows, own_done, own_passed_over}
 use Rattle.sim_air.proofs.Under.{told_on}
@@ -44,6 +46,8 @@ returns-clause-timed g c = λ rules configs a h.
     c.schedule_next.ensures.world.every in
     let goes_last = goes_on rules next last goes_next c.come.ensures.world.air
     c.come.ensures.world.every in
+    let steady = c.come.ensures.world.contentions ∙ c.schedule_next.ensures.world.contentions
+    ∙ c.do_event.ensures.none h.steady in
     let present : next.present.items ≡ a.present =
     ap (λ (v : Vec Bool Global). v.items)
     (c.schedule_next.ensures.present ∙ c.do_event.ensures.present) ∙ h.present in
@@ -63,7 +67,8 @@ returns-clause-timed g c = λ rules configs a h.
     (spread rules a.present x (world_run (opening configs) (a.done ++ x ∷ [])) a.timetable)) is
     (subst (λ (l : List Bool). Keeps done.queue done.draws (spread rules l ev
     (world_run (opening configs) (a.done ++ ev ∷ [])) a.timetable)) h.present
-    (c.in_ok-entry.ensures.spread rules configs a.done a.timetable h.goes_by h.told h.keeps)) in
+    (c.in_ok-entry.ensures.spread rules configs a.done a.timetable h.steady h.goes_by h.told
+    h.keeps)) in
     let t = follow_all rules a.present (planned_of w) after a.timetable in
     let followed : Keeps next.queue next.draws t =
     subst (λ (u : Timetable). Keeps next.queue next.draws u)
@@ -74,7 +79,7 @@ returns-clause-timed g c = λ rules configs a h.
     (cond (comes next.present.items ev after) (come rules ev.station ev.moment t) t) in
     on_ok_both c.come.result _ _ _
     (λ (says : SaysAsBefore Before After) (both : Presence × Timing).
-    own_done rules configs a w last After run_it goes_last
+    own_done rules configs a w last After run_it goes_last steady
     (subst (λ (x : WorldState). IsSimulated configs (a.done ++ e ∷ []) x After)
     (sym (c.come.ensures.world.world ∙ c.schedule_next.ensures.world.world))
     (told_on configs (a.done ++ e ∷ []) done.world Before After says told))
@@ -88,3 +93,25 @@ returns-clause-timed g c = λ rules configs a h.
     c.come.ensures.told
     (on_ok_both c.come.result Presence Timing _ (λ x y. (x, y)) (c.come.ensures.present after said)
     (c.come.ensures.come rules after t goes_next said followed))
+
+pub returns-clause-going : goal.returns-clause-going
+returns-clause-going g c = λ grows lt.
+    let run = c.args.self.now in
+    let ev = event_of c.in_ok-event.event in
+    let here : ev.station ≡ c.args.waiting.now.station =
+    ap (λ (x : Event). x.station) c.in_ok-event.ensures.event in
+    let last = c.come.new.self in
+    let Before = g.S.EventSink.Took c.do_event.new.sink in
+    let After = g.S.EventSink.Took c.come.new.sink in
+    on_ok c.come.result _ _
+    (λ (says : SaysAsBefore Before After).
+    one_done grows ev run.world last.world (g.S.EventSink.Took c.args.sink.now) After
+    (subst (λ (n : ℕ). n < length run.world.stations) (sym here) lt)
+    (λ configs events h. subst (λ (x : WorldState). IsSimulated configs (events ++ ev ∷ []) x After)
+    (sym (c.come.ensures.world.world ∙ c.schedule_next.ensures.world.world))
+    (told_on configs (events ++ ev ∷ []) c.do_event.new.self.world Before After says
+    (c.in_ok-entry.ensures.run configs events h))))
+    c.come.ensures.told
+
+pub returns-then-is_passed_over-clause-going : goal.returns-then-is_passed_over-clause-going
+returns-then-is_passed_over-clause-going g c = λ grows lt configs past h. h
