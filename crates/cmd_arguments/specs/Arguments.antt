@@ -2,14 +2,14 @@
 use Rattle.std.specs.Prelude.{◌≡◌, ℕ, List, Option, Some, None, cond, codes, is_some, nat_eq}
 use Rattle.std.specs.Cmp.Lexicographic.{pointwise}
 use Rattle.std.specs.Option.{option_and_then, option_map}
-use Rattle.cmd_arguments.specs.declared.station.Argument.{Argument}
+use Rattle.cmd_arguments.specs.declared.station.SpelledNumber.{SpelledNumber}
 use Rattle.cmd_arguments.specs.declared.station.StationArguments.{StationArguments}
 use Rattle.its_words.specs.Fields.{FieldValues}
 use Rattle.clap.specs.declared.parser.matches.ArgMatches.{ArgMatches}
 use Rattle.cmd_arguments.specs.Options.{value_in}
 
 -- the argument under a word
-abbrev pub argument_of : StationArguments → List ℕ → Option Argument
+abbrev pub argument_of : StationArguments → List ℕ → Option SpelledNumber
 argument_of station word =
     cond (pointwise nat_eq word (codes "address")) (Some station.address)
     (cond (pointwise nat_eq word (codes "lat")) (Some station.lat)

@@ -17,8 +17,8 @@ use Rattle.clap.specs.Matches.{first_value, found_of, matched_of, one_text, raw_
 use Rattle.clap.specs.declared.parser.matches.ArgMatches.{ArgMatches}
 use Rattle.cmd_captures.specs.Fields.{field_word}
 use Rattle.cmd_captures.specs.declared.field.Field.{Field}
-use Rattle.cmd_captures.specs.declared.moment.Time.{Time}
-use Rattle.cmd_captures.specs.declared.moment.Time.TheVariants as times
+use Rattle.cmd_times.specs.declared.moment.Time.{Time}
+use Rattle.cmd_times.specs.declared.moment.Time.TheVariants as times
 use Rattle.cmd_arguments.specs.declared.bad_argument.BadArgument.{BadArgument}
 use Rattle.cmd_arguments.specs.declared.bad_argument.BadArgument.TheVariants.{OutOfMemory, Value}
 

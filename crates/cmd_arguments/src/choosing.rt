@@ -279,6 +279,18 @@ fn choice_of<'a>(matches: &ArgMatches<'a>) -> Result<Choice, BadArgument<'a>>
     })
 }
 
+/// From which moment on and up to which, by `--since` and `--until`.
+pub fn times_of<'a>(matches: &ArgMatches<'a>) -> Result<(u64, u64), BadArgument<'a>>
+    ensures since { IfOk result (λ times.
+        IsGivenOr IsMoment 0 (value_in matches.now (codes "since")) times.0) }
+    ensures until { IfOk result (λ times.
+        IsGivenOr IsMoment u64.MAX (value_in matches.now (codes "until")) times.1) }
+{
+    let since = moment_of(matches, "since", 0)?;
+    let until = moment_of(matches, "until", u64::MAX)?;
+    Ok((since, until))
+}
+
 /// The moment that an option says, or another one if it isn't given.
 fn moment_of<'a>(
     matches: &ArgMatches<'a>,

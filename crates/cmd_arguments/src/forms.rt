@@ -464,8 +464,8 @@ Example:
     },
 ];
 
-/// The commands that are one station.
-static STATIONS: [Form; 2] = [
+/// The commands that are or judge one station.
+static STATIONS: [Form; 3] = [
     Form {
         name: "replay",
         about: "Print what a station would have done with the frames of a capture",
@@ -495,9 +495,85 @@ Example:
   geostation replay first.cap 1400020000000002 0 0 --port 2002",
     },
     Form {
+        name: "verdict",
+        about: "Judge by a capture whether a station obeys the standard",
+        arguments: &[
+            Argument::Required(
+                "IUT",
+                "Station file: what is claimed of the station and of the capture",
+            ),
+            Argument::Required("CAPTURE", "Capture file, or - for standard input"),
+            Argument::Values(
+                "assume",
+                "NAME",
+                "Assume this claim as well, as if the station file had it as true",
+            ),
+            Argument::Flag("all", "Print all verdicts, not only fails"),
+            Argument::Flag("inconclusive", "Print fails and inconclusive verdicts"),
+            Argument::Value(
+                "duty",
+                "LIST",
+                "Judge these duties only, separated by commas: D1,D13",
+            ),
+            Argument::Flag("strict", "End with status 1 unless all verdicts are passes"),
+            JSON,
+            TIME,
+            Argument::Value(
+                "since",
+                "MOMENT",
+                "Print verdicts from this time on: milliseconds, or a UTC time",
+            ),
+            Argument::Value(
+                "until",
+                "MOMENT",
+                "Print verdicts up to this time: milliseconds, or a UTC time",
+            ),
+            FORMAT,
+        ],
+        choosing: &[],
+        example: "\
+Claims of --assume: sent, received, delivered, fresh, steady, gapless, unlimited, unbuffered,
+profile
+
+Example:
+  geostation verdict iut.toml plugtest.pcapng --assume received",
+    },
+    Form {
         name: "station",
         about: "Run one station on JSON lines",
-        arguments: &[ADDRESS, LAT, LON, CAPACITY, REMEMBER],
+        arguments: &[
+            ADDRESS,
+            LAT,
+            LON,
+            CAPACITY,
+            REMEMBER,
+            Argument::Choice(
+                "area-forwarding",
+                "METHOD",
+                &["simple", "contention"],
+                "How to forward a packet inside its area [default: simple]",
+            ),
+            Argument::Value(
+                "contention-max",
+                "MS",
+                "Greatest wait, 1 to 1000 ms [default: 100]",
+            ),
+            Argument::Value(
+                "contention-min",
+                "MS",
+                "Least wait, 0 ms to the greatest [default: 1]",
+            ),
+            Argument::Value(
+                "contention-range",
+                "M",
+                "Distance of the sender for the least wait, 1 to 65535 m [default: 1000]",
+            ),
+            Argument::Value(
+                "contention-copies",
+                "N",
+                "Copies that cancel a frame that waits, 1 to 3 [default: 2]",
+            ),
+        ],
         choosing: &[],
         example: "\
 Example:

@@ -18,11 +18,17 @@
 
 mod bad_argument;
 mod choosing;
+mod contention;
 mod forms;
+mod judging;
 mod station;
 pub mod terminal;
 
 pub use bad_argument::BadArgument;
-pub use choosing::{count_of, fields_of, ports_of, selection_of, selection_to_any_port, time_of};
+pub use choosing::{
+    count_of, fields_of, ports_of, selection_of, selection_to_any_port, time_of, times_of,
+};
+pub use contention::rule_of;
 pub use forms::{add_commands, command_named};
+pub use judging::{claims_of, duties_of, printing_of};
 pub use station::StationArguments;

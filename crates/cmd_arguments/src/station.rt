@@ -9,16 +9,16 @@ use its_words::keys::Fields;
 /// An argument, and the whole number that it spells, if it spells one that fits 64 bits with a
 /// sign.
 #[derive(Clone, Copy, Debug, PartialEq, Eq)]
-struct Argument<'a> {
+struct SpelledNumber<'a> {
     text: &'a str,
     number: Option<i64>,
 }
 
-impl<'a> Argument<'a> {
-    fn of(text: &'a str) -> Argument<'a>
+impl<'a> SpelledNumber<'a> {
+    fn of(text: &'a str) -> SpelledNumber<'a>
         ensures { result.text ≡ text.entry }
     {
-        Argument {
+        SpelledNumber {
             text,
             number: text.parse().ok(),
         }
@@ -28,11 +28,11 @@ impl<'a> Argument<'a> {
 /// The arguments of a station, of which those behind the place may be missing.
 #[derive(Clone, Copy, Debug, PartialEq, Eq)]
 pub struct StationArguments<'a> {
-    address: Argument<'a>,
-    lat: Argument<'a>,
-    lon: Argument<'a>,
-    capacity: Option<Argument<'a>>,
-    remember: Option<Argument<'a>>,
+    address: SpelledNumber<'a>,
+    lat: SpelledNumber<'a>,
+    lon: SpelledNumber<'a>,
+    capacity: Option<SpelledNumber<'a>>,
+    remember: Option<SpelledNumber<'a>>,
 }
 
 impl<'a> StationArguments<'a> {
@@ -41,16 +41,16 @@ impl<'a> StationArguments<'a> {
         ensures { IfSome result (AreMatched matches.now) }
     {
         Some(StationArguments {
-            address: Argument::of(matches.get_str("ADDRESS")?),
-            lat: Argument::of(matches.get_str("LAT")?),
-            lon: Argument::of(matches.get_str("LON")?),
-            capacity: matches.get_str("capacity").map(Argument::of),
-            remember: matches.get_str("remember").map(Argument::of),
+            address: SpelledNumber::of(matches.get_str("ADDRESS")?),
+            lat: SpelledNumber::of(matches.get_str("LAT")?),
+            lon: SpelledNumber::of(matches.get_str("LON")?),
+            capacity: matches.get_str("capacity").map(SpelledNumber::of),
+            remember: matches.get_str("remember").map(SpelledNumber::of),
         })
     }
 
     /// The argument under the name that a scenario has for it.
-    fn value(&self, name: &str) -> Option<Argument<'a>>
+    fn value(&self, name: &str) -> Option<SpelledNumber<'a>>
         ensures { result ≡ argument_of self.now name.now }
     {
         match name {

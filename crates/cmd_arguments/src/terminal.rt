@@ -12,5 +12,5 @@ pub use console::{Coloring, Console};
 pub use meter::Meter;
 pub use pace::Pace;
 pub use painting::{Painted, Painter, paint};
-pub use reading::{ReadFile, Reading};
+pub use reading::{ReadFile, ShownReading};
 pub use screen::Screen;

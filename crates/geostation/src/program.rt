@@ -9,15 +9,17 @@ use crate::fault::ArgumentFault;
 use crate::pipe::{CLOSED_STATUS, Pipe};
 use crate::subcommand::{Convert, Import, Replay, Show, Subcommand};
 use cmd_arguments::StationArguments;
-use cmd_arguments::terminal::{Console, Meter, Reading, Screen};
+use cmd_arguments::terminal::{Console, Meter, Screen, ShownReading};
 use cmd_captures::{check_file, convert_file, import_file, show_file};
 use cmd_mesh::mesh_file;
 use cmd_page::{Viewing, view_file};
-use cmd_pipe::{Ended, run_station};
+use cmd_pipe::{Ended, run_contending_station};
 use cmd_quoting::Quoted;
 use cmd_reporting::{CommandFault, Fault, Io, OutputFormat, ProgressWriter, Status};
 use cmd_stats::replay::{PortList, ReplayOptions, Unit, replay_file};
 use cmd_stats::stats_file;
+use cmd_verdict::verdict_file;
+use its_contention::ContentionRule;
 use its_words::keys::{Fields, KeyFault, WrongOf, WrongValue};
 use its_world::Config;
 use sim_runs::simulate_file;
@@ -189,8 +191,15 @@ where
         Subcommand::Replay(replay) => {
             replay_records(rt, replay, input, &mut Io { out, err, format })
         }
-        Subcommand::Station(station) => {
-            serve(rt.alloc(), station, input, &mut Io { out, err, format })
+        Subcommand::Verdict(what) => { verdict_file(rt, what, input, &mut Io { out, err, format }) }
+        Subcommand::Station(station, rule) => {
+            serve(
+                rt.alloc(),
+                station,
+                *rule,
+                input,
+                &mut Io { out, err, format },
+            )
         }
         Subcommand::BadSetting(fault) => {
             refuse(setting_fault(rt.alloc(), *fault, format.explain), err)
@@ -229,7 +238,7 @@ fn convert_records<R: Files + Clock + Eprint + AllocGlobal, I: Read + Drop, W: W
 where
     R::File: Read + Write + Drop,
 {
-    let reading = Reading::of(rt, convert.conversion.file, convert.progress);
+    let reading = ShownReading::of(rt, convert.conversion.file, convert.progress);
     convert_file(&reading, convert.conversion, &convert.selection, input, io)
 }
 
@@ -243,7 +252,7 @@ fn import_lines<R: Files + Clock + Eprint + AllocGlobal, I: Read + Drop, W: Writ
 where
     R::File: Read + Write + Drop,
 {
-    let reading = Reading::of(rt, import.file, import.progress);
+    let reading = ShownReading::of(rt, import.file, import.progress);
     import_file(&reading, import.file, input, import.target, io)
 }
 
@@ -274,11 +283,12 @@ where
 fn serve<I: Read + Drop, W: Write, E: Write>(
     alloc: Global,
     station: &StationArguments<'_>,
+    rule: Option<ContentionRule>,
     input: I,
     io: &mut Io<&mut W, &mut E>,
 ) -> Status {
     match config_of(station) {
-        Ok(config) => match run_station(alloc, &config, input, io.out, io.err) {
+        Ok(config) => match run_contending_station(alloc, &config, rule, input, io.out, io.err) {
             Ended::Done => Status::Done,
             Ended::Refused => Status::Refused,
             Ended::Failed => Status::Failed,

@@ -7,15 +7,17 @@ use cap_pcap::Format;
 use clap::ArgMatches;
 use cmd_arguments::terminal::{Coloring, Console, Painter};
 use cmd_arguments::{
-    BadArgument, StationArguments, count_of, fields_of, ports_of, selection_of,
-    selection_to_any_port, time_of,
+    BadArgument, StationArguments, claims_of, count_of, duties_of, fields_of, ports_of,
+    printing_of, rule_of, selection_of, selection_to_any_port, time_of, times_of,
 };
 use cmd_captures::{Conversion, Field, Selection, Showing};
 use cmd_mesh::MeshOptions;
 use cmd_page::Viewing;
 use cmd_reporting::{OutputFormat, Target, is_standard};
 use cmd_stats::replay::PortList;
-use sim_runs::{ResultFiles, RunFiles, RunOptions};
+use cmd_verdict::VerdictOptions;
+use its_contention::ContentionRule;
+use sim_runs::{ResultFiles, RunFiles, RunOptions, VERSION};
 use sim_settings::{AirSettings, SettingFault};
 use std::alloc::Global;
 
@@ -25,9 +27,9 @@ pub enum Subcommand<'a> {
     /// To show records.
     Show(Show<'a>),
     /// To check records.
-    Check(Records<'a>),
+    Check(ChosenRecords<'a>),
     /// To count records, and to tell of so many sources at most.
-    Stats(Records<'a>, Option<u64>),
+    Stats(ChosenRecords<'a>, Option<u64>),
     /// To write records to another file.
     Convert(Convert<'a>),
     /// To make a capture of lines.
@@ -37,18 +39,21 @@ pub enum Subcommand<'a> {
     /// To write the page with a run in it.
     View(Viewing<'a>),
     /// To run a scenario over sockets.
-    Mesh(Mesh<'a>),
+    Mesh(MeshRun<'a>),
     /// To give records to one station.
     Replay(Replay<'a>),
-    /// To be one station, which these arguments describe.
-    Station(StationArguments<'a>),
+    /// To judge a station by a capture.
+    Verdict(VerdictOptions<'a>),
+    /// To be one station, which these arguments describe, and which contends by this rule, if one is
+    /// given.
+    Station(StationArguments<'a>, Option<ContentionRule>),
     /// To refuse a value of the air that was given beside a scenario.
     BadSetting(SettingFault<'a>),
 }
 
 /// The records of a capture that are chosen.
 #[derive(Clone, Copy)]
-pub struct Records<'a> {
+pub struct ChosenRecords<'a> {
     /// The capture's file.
     pub file: &'a str,
     /// Which of its records.
@@ -58,7 +63,7 @@ pub struct Records<'a> {
 /// `show`.
 #[derive(Drop)]
 pub struct Show<'a> {
-    pub records: Records<'a>,
+    pub records: ChosenRecords<'a>,
     pub showing: Showing,
     /// How lines in words are coloured, where they are.
     pub painter: Option<Painter>,
@@ -95,7 +100,7 @@ pub struct Sim<'a> {
 
 /// `mesh`.
 #[derive(Clone, Copy)]
-pub struct Mesh<'a> {
+pub struct MeshRun<'a> {
     /// The scenario.
     pub file: &'a str,
     /// The file of frames, where they are written.
@@ -108,7 +113,7 @@ pub struct Mesh<'a> {
 /// `replay`.
 #[derive(Clone, Copy)]
 pub struct Replay<'a> {
-    pub records: Records<'a>,
+    pub records: ChosenRecords<'a>,
     /// The station.
     pub station: StationArguments<'a>,
     /// Its ports.
@@ -165,8 +170,15 @@ pub(crate) fn subcommand_of<'a>(
     };
     match name {
         "show" | "check" | "stats" | "convert" => over_capture(alloc, name, inner, console),
-        "station" => Ok(StationArguments::of(inner).map(Subcommand::Station)),
+        "station" => {
+            let rule = rule_of(inner)?;
+            match StationArguments::of(inner) {
+                Some(station) => Ok(Some(Subcommand::Station(station, rule))),
+                None => Ok(None),
+            }
+        }
         "replay" => replaying(inner),
+        "verdict" => judging(inner),
         "sim" => simulating(inner, console),
         "view" => viewing(inner, console),
         _ => Ok(other(name, inner, console)),
@@ -226,9 +238,9 @@ fn over_capture<'a>(
         }
         "stats" => {
             let top = count_of(matches, "top")?;
-            Ok(Some(Subcommand::Stats(Records { file, selection }, top)))
+            Ok(Some(Subcommand::Stats(ChosenRecords { file, selection }, top)))
         }
-        "check" => Ok(Some(Subcommand::Check(Records { file, selection }))),
+        "check" => Ok(Some(Subcommand::Check(ChosenRecords { file, selection }))),
         _ => Ok(converting(file, selection, matches, console)),
     }
 }
@@ -243,7 +255,7 @@ fn showing<'a>(
 ) -> Subcommand<'a> {
     let painter = painter_of(matches, console, Painter::Records).filter(|_| fields.is_none());
     Subcommand::Show(Show {
-        records: Records { file, selection },
+        records: ChosenRecords { file, selection },
         showing: Showing {
             time: time_of(matches),
             fields,
@@ -301,10 +313,31 @@ fn replaying<'a>(matches: &ArgMatches<'a>) -> Result<Option<Subcommand<'a>>, Bad
     };
     let selection = selection_to_any_port(matches, format_of(matches, "format"))?;
     Ok(Some(Subcommand::Replay(Replay {
-        records: Records { file, selection },
+        records: ChosenRecords { file, selection },
         station,
         ports: ports_of(matches)?,
         frames: frames_of(matches),
+    })))
+}
+
+/// `verdict`.
+fn judging<'a>(matches: &ArgMatches<'a>) -> Result<Option<Subcommand<'a>>, BadArgument<'a>> {
+    let (Some(station), Some(capture)) = (matches.get_str("IUT"), matches.get_str("CAPTURE")) else {
+        return Ok(None);
+    };
+    let (since, until) = times_of(matches)?;
+    Ok(Some(Subcommand::Verdict(VerdictOptions {
+        station,
+        capture,
+        format: format_of(matches, "format"),
+        assumed: claims_of(matches)?,
+        duties: duties_of(matches)?,
+        printing: printing_of(matches),
+        since,
+        until,
+        time: time_of(matches),
+        strict: matches.get_flag("strict"),
+        version: VERSION,
     })))
 }
 
@@ -320,7 +353,7 @@ fn other<'a>(name: &str, inner: &ArgMatches<'a>, console: Console) -> Option<Sub
     let file = file_of(inner)?;
     match name {
         "import" => importing(file, inner, console).map(Subcommand::Import),
-        "mesh" => Some(Subcommand::Mesh(Mesh {
+        "mesh" => Some(Subcommand::Mesh(MeshRun {
             file,
             frames,
             options: MeshOptions {

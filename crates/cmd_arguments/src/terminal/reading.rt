@@ -16,18 +16,18 @@ const BETWEEN: u64 = 250;
 
 /// A runtime that shows on standard error how far one file is read, if someone looks.
 #[derive(Drop)]
-pub struct Reading<'a, R> {
+pub struct ShownReading<'a, R> {
     rt: &'a R,
     /// The name of the file; none where no one looks.
     file: Option<&'a str>,
 }
 
-impl<'a, R> Reading<'a, R> {
+impl<'a, R> ShownReading<'a, R> {
     /// One that shows how far the file of this name is read, if `is_shown`.
-    pub fn of(rt: &'a R, file: &'a str, is_shown: bool) -> Reading<'a, R>
+    pub fn of(rt: &'a R, file: &'a str, is_shown: bool) -> ShownReading<'a, R>
         ensures { result.file ≡ if is_shown then Some file.entry else None }
     {
-        Reading {
+        ShownReading {
             rt,
             file: is_shown.then_some(file),
         }
@@ -142,7 +142,7 @@ impl<R, F: OpenFile + Drop> OpenFile for ReadFile<'_, R, F> {
     }
 }
 
-impl<R: AllocGlobal> Alloc for Reading<'_, R> {
+impl<R: AllocGlobal> Alloc for ShownReading<'_, R> {
     type A = Global;
 
     fn alloc(&self) -> Global {
@@ -150,7 +150,7 @@ impl<R: AllocGlobal> Alloc for Reading<'_, R> {
     }
 }
 
-impl<'a, R: Files + Eprint + Clock> Files for Reading<'a, R> {
+impl<'a, R: Files + Eprint + Clock> Files for ShownReading<'a, R> {
     type File = ReadFile<'a, R, R::File>;
 
     type Dir = R::Dir;

@@ -1,0 +1,107 @@
+//! Records in the order of their stamps.
+
+use crate::seen_record::SeenRecord;
+use std::alloc::{AllocError, Global};
+use std::collections::VecDeque;
+
+/// The last records of the file, in the order of their stamps, and of the file if these are equal.
+/// They wait until none can come before them.
+#[derive(Drop)]
+pub(crate) struct Arrivals {
+    alloc: Global,
+    waiting: VecDeque<SeenRecord>,
+    /// The greatest stamp so far.
+    greatest: u64,
+    /// How far a stamp may be below the greatest before it, in nanoseconds.
+    disorder: u64,
+}
+
+impl Arrivals {
+    /// No record yet, of a file in which a stamp may be so far below the greatest before it.
+    pub(crate) fn new(alloc: Global, disorder: u64) -> Arrivals {
+        Arrivals {
+            alloc,
+            waiting: VecDeque::new(alloc),
+            greatest: 0,
+            disorder,
+        }
+    }
+
+    /// Whether the stamp of a record is not too far below the greatest.
+    pub(crate) fn is_in_order(&self, stamp: u64) -> bool {
+        self.greatest <= stamp.saturating_add(self.disorder)
+    }
+
+    /// Adds the next record of the file.
+    pub(crate) fn add(&mut self, record: SeenRecord) -> Result<(), AllocError> {
+        self.greatest = self.greatest.max(record.stamp);
+        let mut later = Vec::new(self.alloc);
+        for _ in 0..self.waiting.len() {
+            match self.take_later(record.stamp) {
+                Some(last) => later.push(last)?,
+                None => break,
+            }
+        }
+        self.waiting.push_back(record)?;
+        for _ in 0..later.len() {
+            if let Some(last) = later.pop() {
+                self.waiting.push_back(last)?;
+            }
+        }
+        Ok(())
+    }
+
+    /// Takes the last record, if it is later than a stamp.
+    fn take_later(&mut self, stamp: u64) -> Option<SeenRecord> {
+        let last = self.waiting.back()?;
+        if stamp < last.stamp {
+            return self.waiting.pop_back();
+        }
+        None
+    }
+
+    /// How many records wait.
+    pub(crate) fn count(&self) -> usize {
+        self.waiting.len()
+    }
+
+    /// Takes the first record, if no other can come before it or be the first sending of its frame.
+    pub(crate) fn take(&mut self) -> Option<SeenRecord> {
+        let first = self.waiting.front()?;
+        let passed = first.stamp.saturating_add(self.disorder.saturating_mul(2));
+        if self.disorder == 0 || passed < self.greatest {
+            return self.waiting.pop_front();
+        }
+        None
+    }
+
+    /// Takes the first record, at the end of the file.
+    pub(crate) fn take_last(&mut self) -> Option<SeenRecord> {
+        self.waiting.pop_front()
+    }
+
+    /// Notes a record as a repeat of a later one that waits and may be its first sending. Returns
+    /// whether there is one.
+    pub(crate) fn note_repeat(&mut self, record: &SeenRecord) -> Result<bool, AllocError> {
+        let last = record.stamp.saturating_add(self.disorder);
+        for later in self.waiting.iter_mut() {
+            if later.stamp <= last && is_same_sending(later, record) {
+                later.repeats.push(record.stamp)?;
+                return Ok(true);
+            }
+        }
+        Ok(false)
+    }
+}
+
+/// Whether two records are of one frame of IEEE 802.11.
+pub(crate) fn is_same_sending(first: &SeenRecord, second: &SeenRecord) -> bool {
+    match (first.link, second.link) {
+        (Some(first_link), Some(second_link)) => {
+            first_link.header == second_link.header
+                && 14 <= second.octets.len()
+                && first.octets.as_slice() == second.octets.as_slice()
+        }
+        _ => false,
+    }
+}

@@ -1,0 +1,108 @@
+//! The duties that the command judges, by their numbers and names.
+
+use its_duties::Duty;
+
+/// The duties that are judged, in the order of their numbers.
+pub(crate) const JUDGED: [Duty; 10] = [
+    Duty::Form,
+    Duty::LinkTarget,
+    Duty::Mobile,
+    Duty::Hops,
+    Duty::Lifetime,
+    Duty::Numbers,
+    Duty::BeaconNotEarly,
+    Duty::Faithful,
+    Duty::Kind,
+    Duty::InTime,
+];
+
+/// The duties that have a definition, but no proved law.
+const NOT_JUDGED: [Duty; 5] = [
+    Duty::AreaTarget,
+    Duty::Once,
+    Duty::StopsInside,
+    Duty::NextHop,
+    Duty::Forward,
+];
+
+/// The rule of a duty, as the table of counts shows it.
+pub(crate) fn rule_of(duty: Duty) -> &'static str {
+    match duty {
+        Duty::Form => "form",
+        Duty::LinkTarget => "addresses",
+        Duty::Mobile => "who it is",
+        Duty::Hops => "hops",
+        Duty::Lifetime => "lifetime",
+        Duty::Numbers => "numbers",
+        Duty::BeaconNotEarly => "beacon not early",
+        Duty::AreaTarget => "link target of an own one",
+        Duty::Faithful => "faithful",
+        Duty::Kind => "kind",
+        Duty::Once => "once",
+        Duty::InTime => "in time",
+        Duty::StopsInside => "GAC stops inside",
+        Duty::NextHop => "next hop",
+        Duty::Forward => "forward",
+    }
+}
+
+/// Why a list of duties isn't taken.
+#[derive(Clone, Copy, Debug, PartialEq, Eq)]
+pub enum DutyFault {
+    /// One is not a duty of this program.
+    Unknown,
+    /// One is a duty that isn't judged yet.
+    NotJudged,
+}
+
+/// The duties that are chosen.
+#[derive(Clone, Copy, Debug, PartialEq, Eq)]
+pub struct DutySet {
+    chosen: [bool; 10],
+}
+
+impl DutySet {
+    /// All that are judged.
+    pub fn all() -> DutySet {
+        DutySet { chosen: [true; 10] }
+    }
+
+    /// Those of a list as `D13,D15`.
+    pub fn listed(list: &str) -> Result<DutySet, DutyFault> {
+        let mut chosen = [false; 10];
+        for name in list.split(',') {
+            let number = number_in(name).ok_or(DutyFault::Unknown)?;
+            if NOT_JUDGED.iter().any(|duty| duty.number() == number) {
+                return Err(DutyFault::NotJudged);
+            }
+            let place = JUDGED.iter().position(|duty| duty.number() == number);
+            match place.and_then(|place| chosen.get_mut(place)) {
+                Some(is_chosen) => *is_chosen = true,
+                None => return Err(DutyFault::Unknown),
+            }
+        }
+        Ok(DutySet { chosen })
+    }
+
+    /// Whether a duty is one of them.
+    pub(crate) fn has(&self, duty: Duty) -> bool {
+        match place_of(duty) {
+            Some(place) => self.chosen.get(place).copied().unwrap_or(false),
+            None => false,
+        }
+    }
+}
+
+/// The place of a duty among those that are judged.
+pub(crate) fn place_of(duty: Duty) -> Option<usize> {
+    JUDGED.iter().position(|judged| *judged == duty)
+}
+
+/// The number of a duty's name, as 13 of `D13`.
+fn number_in(name: &str) -> Option<u8> {
+    let digits = name.strip_prefix("D")?;
+    if digits.starts_with("0") || digits.starts_with("+") {
+        return None;
+    }
+    digits.parse().ok()
+}

@@ -1,0 +1,192 @@
+//! The packets for areas that the station may have heard.
+
+use crate::seen_record::SeenRecord;
+use its_duties::Claims;
+use its_gnvalue::{GnAddress, Hops, Lifetime};
+use its_linkframe::FrameView;
+use std::alloc::{AllocError, Global};
+use std::collections::VecDeque;
+
+/// How many octets of packets are kept at most, but for those within the longest wait.
+const MOST_OCTETS: usize = 1 << 20;
+
+/// Where the lifetime and the remaining hops stand in a packet.
+const LIFETIME: usize = 2;
+
+const HOPS: usize = 3;
+
+/// A packet for an area that was heard.
+#[derive(Drop)]
+pub(crate) struct HeardPacket {
+    /// Its record.
+    pub(crate) number: u64,
+    /// When it was sent first.
+    pub(crate) stamp: u64,
+    /// When the link sent it again.
+    repeats: Vec<u64>,
+    pub(crate) source: GnAddress,
+    pub(crate) sequence: u16,
+    pub(crate) hops: Hops,
+    pub(crate) octets: Vec<u8>,
+}
+
+impl HeardPacket {
+    /// When it was sent last.
+    pub(crate) fn last_sending(&self) -> u64 {
+        let mut last = self.stamp;
+        for stamp in self.repeats.iter() {
+            last = last.max(*stamp);
+        }
+        last
+    }
+
+    /// When it was sent last, up to a stamp. `None` if it was sent only later.
+    pub(crate) fn last_until(&self, to: u64) -> Option<u64> {
+        let mut last = (self.stamp <= to).then_some(self.stamp);
+        for stamp in self.repeats.iter() {
+            if *stamp <= to && last.unwrap_or(0) <= *stamp {
+                last = Some(*stamp);
+            }
+        }
+        last
+    }
+
+    /// Whether a sending of it lies between two stamps.
+    pub(crate) fn lies_in(&self, from: u64, to: u64) -> bool {
+        let mut lies_in = from <= self.stamp && self.stamp <= to;
+        for stamp in self.repeats.iter() {
+            lies_in = lies_in || (from <= *stamp && *stamp <= to);
+        }
+        lies_in
+    }
+
+    /// Whether a later packet is a copy of it, with any number of hops left. If the station may keep
+    /// packets, the later one may have a shorter lifetime.
+    pub(crate) fn is_copy(&self, claims: &Claims, later: &[u8]) -> bool {
+        let own = self.octets.as_slice();
+        if own.len() != later.len() {
+            return false;
+        }
+        let mut is_copy = true;
+        for (place, (before, after)) in own.iter().zip(later).enumerate() {
+            if before != after && place != HOPS {
+                is_copy = is_copy && place == LIFETIME && may_be_later(claims, *before, *after);
+            }
+        }
+        is_copy
+    }
+
+    /// The first octet that differs in a packet of the same number: that of the remaining hops left
+    /// out. If one is the front of the other, the length of the shorter.
+    pub(crate) fn first_change(&self, packet: &[u8]) -> usize {
+        let own = self.octets.as_slice();
+        for (place, (before, after)) in own.iter().zip(packet).enumerate() {
+            if before != after && place != HOPS {
+                return place;
+            }
+        }
+        own.len().min(packet.len())
+    }
+}
+
+/// Whether a station that keeps packets may have changed a lifetime like this.
+fn may_be_later(claims: &Claims, before: u8, after: u8) -> bool {
+    let (before, after) = (Lifetime::from_octet(before), Lifetime::from_octet(after));
+    !claims.unbuffered && after.millis() < before.millis()
+}
+
+/// The packets for areas that were heard last.
+#[derive(Drop)]
+pub(crate) struct HeardPackets {
+    alloc: Global,
+    packets: VecDeque<HeardPacket>,
+    /// How many octets they have.
+    octets: usize,
+    /// The last sending of those that had to give way, if any had to.
+    lost: Option<u64>,
+}
+
+impl HeardPackets {
+    /// None yet.
+    pub(crate) fn new(alloc: Global) -> HeardPackets {
+        HeardPackets {
+            alloc,
+            packets: VecDeque::new(alloc),
+            octets: 0,
+            lost: None,
+        }
+    }
+
+    /// The packets, the oldest first.
+    pub(crate) fn packets(&self) -> &VecDeque<HeardPacket> {
+        &self.packets
+    }
+
+    /// Whether one may be missing that was sent at this time or later.
+    pub(crate) fn may_lack(&self, from: u64) -> bool {
+        match self.lost {
+            Some(lost) => from <= lost,
+            None => false,
+        }
+    }
+
+    /// Adds the packet of a record, if it is one for an area. Those of before `oldest` are
+    /// forgotten, and so many octets of those of before `near` that the others fit.
+    pub(crate) fn add(
+        &mut self,
+        record: &SeenRecord,
+        frame: &FrameView<'_>,
+        oldest: u64,
+        near: u64,
+    ) -> Result<(), AllocError> {
+        let Some(sequence) = frame.packet.number() else {
+            return Ok(());
+        };
+        let mut octets = Vec::new(self.alloc);
+        octets.extend_from_slice(frame.packet.octets())?;
+        let mut repeats = Vec::new(self.alloc);
+        repeats.extend_from_slice(record.repeats.as_slice())?;
+        self.octets = self.octets.saturating_add(octets.len());
+        self.packets.push_back(HeardPacket {
+            number: record.number,
+            stamp: record.stamp,
+            repeats,
+            source: frame.packet.vector().address(),
+            sequence,
+            hops: frame.packet.hops(),
+            octets,
+        })?;
+        self.forget(oldest, near);
+        Ok(())
+    }
+
+    /// Forgets the first ones.
+    fn forget(&mut self, oldest: u64, near: u64) {
+        for _ in 0..self.packets.len() {
+            let Some(first) = self.packets.front() else {
+                return;
+            };
+            let last = first.last_sending();
+            let is_over = MOST_OCTETS < self.octets && last < near;
+            if oldest <= last && !is_over {
+                return;
+            }
+            if oldest <= last {
+                self.lost = Some(last);
+            }
+            if let Some(first) = self.packets.pop_front() {
+                self.octets = self.octets.saturating_sub(first.octets.len());
+            }
+        }
+    }
+
+    /// Notes another sending of a record.
+    pub(crate) fn repeat(&mut self, number: u64, stamp: u64) -> Result<(), AllocError> {
+        for packet in self.packets.iter_mut() {
+            if packet.number == number {
+                packet.repeats.push(stamp)?;
+            }
+        }
+        Ok(())
+    }
+}

@@ -1,0 +1,42 @@
+//! The command `verdict`: does a station behave? Its frames in a capture are judged by the rules of
+//! EN 302 636-4-1.
+//!
+//! # What is proved
+//!
+//! Each verdict is that of a judge of `its_duties`, and keeps its result (`Case::of`, `Outcome::of`).
+//! Fails are always printed (`Printing::has`). The status is that of the result (`status_of`).
+//!
+//! # Only tested
+//!
+//! - `cases/verdict.md`: texts, objects, statuses, refused station files.
+//! - `checks/verdict`: that what the command finds in a capture is there: which records are the
+//!   station's and which it may have heard (`role_of`), the packet before (`IsBeaconAfter`,
+//!   `IsNumberStep`), what a forwarded packet was made from (`IsSearch`).
+#![tactic(auto)]
+
+mod arrivals;
+mod case;
+mod claim;
+mod command;
+mod counts;
+mod duties;
+mod fault;
+mod first_line;
+mod heard;
+mod judge;
+mod link_header;
+mod own_packets;
+mod relays;
+mod repeats;
+mod reporter;
+mod role;
+mod seen_record;
+mod station_file;
+mod table_keys;
+mod text;
+mod unread;
+
+pub use claim::{Claim, ClaimSet};
+pub use command::{VerdictOptions, verdict_file};
+pub use duties::{DutyFault, DutySet};
+pub use reporter::Printing;

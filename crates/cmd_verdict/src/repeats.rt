@@ -1,0 +1,89 @@
+//! Frames that the link sends again, as the retry bit of IEEE 802.11 says.
+
+use crate::link_header::LinkHeader;
+use crate::seen_record::{NANOS, SeenRecord};
+use std::alloc::{AllocError, Global};
+use std::collections::VecDeque;
+
+/// For how long a frame may be sent again.
+pub(crate) const RETRY_TIME: u64 = 100 * NANOS;
+
+/// How many sendings are kept at most.
+const MOST: usize = 4096;
+
+/// A sending of a frame.
+#[derive(Drop)]
+struct Sending {
+    stamp: u64,
+    /// The record of its first sending.
+    first: u64,
+    header: LinkHeader,
+    octets: Vec<u8>,
+}
+
+/// The last sendings of frames of IEEE 802.11.
+#[derive(Drop)]
+pub(crate) struct Repeats {
+    alloc: Global,
+    sendings: VecDeque<Sending>,
+}
+
+impl Repeats {
+    /// None yet.
+    pub(crate) fn new(alloc: Global) -> Repeats {
+        Repeats {
+            alloc,
+            sendings: VecDeque::new(alloc),
+        }
+    }
+
+    /// The record of the first sending of a frame that this record is a repeat of, if there is one.
+    pub(crate) fn first_of(&self, record: &SeenRecord) -> Option<u64> {
+        let link = record.link?;
+        if !link.retry || record.octets.len() < 14 {
+            return None;
+        }
+        let oldest = record.stamp.saturating_sub(RETRY_TIME);
+        let mut first = None;
+        for sending in self.sendings.iter() {
+            if oldest <= sending.stamp
+                && sending.header == link.header
+                && sending.octets.as_slice() == record.octets.as_slice()
+            {
+                first = Some(sending.first);
+            }
+        }
+        first
+    }
+
+    /// Forgets the sendings of before a stamp.
+    fn forget(&mut self, oldest: u64) {
+        for _ in 0..self.sendings.len() {
+            match self.sendings.front() {
+                Some(sending) if sending.stamp < oldest => {}
+                _ => return,
+            }
+            self.sendings.pop_front();
+        }
+    }
+
+    /// Notes a record as a sending of the frame that this record sent first.
+    pub(crate) fn note(&mut self, record: &SeenRecord, first: u64) -> Result<(), AllocError> {
+        let Some(link) = record.link else {
+            return Ok(());
+        };
+        self.forget(record.stamp.saturating_sub(RETRY_TIME));
+        if MOST <= self.sendings.len() {
+            self.sendings.pop_front();
+        }
+        let mut octets = Vec::new(self.alloc);
+        octets.extend_from_slice(record.octets.as_slice())?;
+        self.sendings.push_back(Sending {
+            stamp: record.stamp,
+            first,
+            header: link.header,
+            octets,
+        })?;
+        Ok(())
+    }
+}

@@ -1,0 +1,262 @@
+//! What a verdict says of its record.
+
+use its_duties::Duty;
+use its_faults::FrameFault;
+use its_gnvalue::{GnAddress, Mac};
+use its_headers::Kind;
+use std::fmt;
+
+/// What a verdict says of its record. Times are in nanoseconds and print in milliseconds, rounded
+/// down. Other records print as their number after `#`.
+#[derive(Clone, Copy)]
+pub(crate) enum Text {
+    /// The octets are a packet of the profile.
+    Packet,
+    /// They have this fault.
+    Fault(FrameFault),
+    /// They have this fault, which a packet outside of the profile may have.
+    OutsideProfile(FrameFault),
+    /// The record is cut.
+    Cut,
+    /// They have this fault, and may be of another source.
+    NotReadFault(FrameFault),
+    LinkAddresses,
+    /// A packet of this kind goes to this link address.
+    SentTo(Kind, Mac),
+    NoLinkTarget,
+    MobileBit(bool),
+    NoMobile,
+    /// So many hops are left, of so many.
+    Hops(u8, u8),
+    /// This lifetime, in milliseconds.
+    Lifetime(u64),
+    /// This lifetime, in milliseconds, on which the standard and the profile differ.
+    LifetimeDiffers(u64),
+    Number(u16),
+    /// This number comes after that one, of this record.
+    NumberAfter(u16, u16, u64),
+    NumbersNotSeen(u32),
+    /// So long after this record.
+    After(u64, u64),
+    /// A beacon comes so long after this record, and not before the interval in milliseconds.
+    BeaconEarly(u64, u64, u32),
+    /// It is made from the packet of this record.
+    OfRecord(u64),
+    /// So many hops are left, and were received so many of so many, in this record.
+    WrongHops(u8, u8, u8, u64),
+    /// This octet isn't that of the packet of this record.
+    Changed(usize, u64),
+    /// No packet of this source and number was received.
+    NeverReceived(GnAddress, u16),
+    OfKind(Kind),
+    /// A packet of this kind and source was forwarded.
+    Forwarded(Kind, GnAddress),
+    /// It is late: so long after this record.
+    Late(u64, u64),
+    NotHeard,
+    /// This record isn't read.
+    NotRead(u64),
+    /// Too many packets were heard to keep them all.
+    TooMany,
+}
+
+/// A fault as its code, without the layer of a packet's one: `G9 at 10`.
+#[derive(Clone, Copy)]
+pub(crate) struct FormCode(pub(crate) FrameFault);
+
+impl fmt::Display for FormCode {
+    fn fmt<W: fmt::Write>(&self, f: &mut fmt::Formatter<W>) -> fmt::Result {
+        match self.0 {
+            FrameFault::Packet(fault) => write!(f, "{}", fault.code()),
+            fault => write!(f, "{}", fault.code()),
+        }
+    }
+}
+
+impl fmt::Display for Text {
+    fn fmt<W: fmt::Write>(&self, f: &mut fmt::Formatter<W>) -> fmt::Result {
+        match *self {
+            Text::Packet
+            | Text::Fault(_)
+            | Text::OutsideProfile(_)
+            | Text::Cut
+            | Text::NotReadFault(_) => self.write_form(f),
+            Text::Number(_)
+            | Text::NumberAfter(..)
+            | Text::NumbersNotSeen(_)
+            | Text::After(..)
+            | Text::BeaconEarly(..) => self.write_sending(f),
+            Text::OfRecord(_)
+            | Text::WrongHops(..)
+            | Text::Changed(..)
+            | Text::NeverReceived(..)
+            | Text::OfKind(_)
+            | Text::Forwarded(..)
+            | Text::Late(..)
+            | Text::NotHeard
+            | Text::NotRead(_)
+            | Text::TooMany => self.write_forwarding(f),
+            _ => self.write_header(f),
+        }
+    }
+}
+
+impl Text {
+    /// Writes what it says of the form.
+    fn write_form<W: fmt::Write>(&self, f: &mut fmt::Formatter<W>) -> fmt::Result {
+        match *self {
+            Text::Packet => f.write_str("a packet of the profile"),
+            Text::Fault(fault) => write!(f, "{}", FormCode(fault)),
+            Text::OutsideProfile(fault) => write!(f, "outside the profile: {}", FormCode(fault)),
+            Text::NotReadFault(fault) => write!(f, "not read: {}", FormCode(fault)),
+            _ => f.write_str("cut"),
+        }
+    }
+
+    /// Writes what it says of the headers.
+    fn write_header<W: fmt::Write>(&self, f: &mut fmt::Formatter<W>) -> fmt::Result {
+        match *self {
+            Text::LinkAddresses => f.write_str("link addresses"),
+            Text::SentTo(kind, mac) => write!(f, "a {} to {mac}", kind.word()),
+            Text::NoLinkTarget => f.write_str("the link target is not in the capture"),
+            Text::MobileBit(bit) => write!(f, "mobile bit {}", u8::from(bit)),
+            Text::Hops(left, max) => write!(f, "hops {left} of {max}"),
+            Text::Lifetime(millis) => write!(f, "lifetime {millis} ms"),
+            Text::LifetimeDiffers(millis) => {
+                write!(
+                    f,
+                    "lifetime {millis} ms: the standard and the profile differ"
+                )
+            }
+            _ => f.write_str("mobile is not given"),
+        }
+    }
+
+    /// Writes what it says of numbers and beacons.
+    fn write_sending<W: fmt::Write>(&self, f: &mut fmt::Formatter<W>) -> fmt::Result {
+        match *self {
+            Text::Number(number) => write!(f, "number {number}"),
+            Text::NumberAfter(number, before, record) => {
+                write!(f, "number {number} after {before} of #{record}")
+            }
+            Text::NumbersNotSeen(count) => write!(f, "{count} numbers were not seen"),
+            Text::BeaconEarly(since, record, interval) => {
+                let millis = millis(since);
+                write!(
+                    f,
+                    "a beacon {millis} ms after #{record}, not before {interval}"
+                )
+            }
+            Text::After(since, record) => write!(f, "{} ms after #{record}", millis(since)),
+            _ => Ok(()),
+        }
+    }
+
+    /// Writes what it says of a packet that was forwarded.
+    fn write_forwarding<W: fmt::Write>(&self, f: &mut fmt::Formatter<W>) -> fmt::Result {
+        match *self {
+            Text::OfRecord(record) => write!(f, "of #{record}, one hop fewer"),
+            Text::WrongHops(left, received, max, record) => {
+                write!(f, "hops {left}, received {received}/{max} (#{record})")
+            }
+            Text::Changed(octet, record) => {
+                write!(f, "octet {octet} of the packet is changed (#{record})")
+            }
+            Text::NeverReceived(source, number) => {
+                write!(f, "never received: {source} number {number}")
+            }
+            Text::OfKind(kind) => write!(f, "a {}", kind.word()),
+            Text::Forwarded(kind, source) => {
+                write!(f, "a {} of {source} was forwarded", kind.word())
+            }
+            Text::Late(since, record) => write!(f, "late: {} ms after #{record}", millis(since)),
+            Text::NotHeard => f.write_str("never received"),
+            Text::NotRead(record) => write!(f, "not read #{record}"),
+            _ => f.write_str("too many"),
+        }
+    }
+
+    /// The fault that it names, if the duty of form does.
+    pub(crate) fn code(&self) -> Option<FrameFault> {
+        match *self {
+            Text::Fault(fault) | Text::OutsideProfile(fault) | Text::NotReadFault(fault) => {
+                Some(fault)
+            }
+            _ => None,
+        }
+    }
+
+    /// How long after another record, in milliseconds, if the duty of time says it.
+    pub(crate) fn millis_after(&self) -> Option<u64> {
+        match *self {
+            Text::After(since, _) | Text::Late(since, _) => Some(millis(since)),
+            _ => None,
+        }
+    }
+
+    /// The other record that it names, if it does.
+    pub(crate) fn other_record(&self) -> Option<u64> {
+        match *self {
+            Text::NumberAfter(_, _, record)
+            | Text::After(_, record)
+            | Text::BeaconEarly(_, record, _)
+            | Text::OfRecord(record)
+            | Text::WrongHops(_, _, _, record)
+            | Text::Changed(_, record)
+            | Text::Late(_, record)
+            | Text::NotRead(record) => Some(record),
+            _ => None,
+        }
+    }
+}
+
+/// Nanoseconds in milliseconds, rounded down.
+fn millis(nanos: u64) -> u64 {
+    nanos / 1_000_000
+}
+
+/// The standard that the clauses are of.
+const STANDARD: &str = "EN 302 636-4-1";
+
+/// The clause of a duty, if the text of a fail names one.
+pub(crate) fn clause_of(duty: Duty) -> Option<&'static str> {
+    match duty {
+        Duty::Form | Duty::Mobile | Duty::Hops | Duty::Lifetime => Some("9"),
+        Duty::LinkTarget | Duty::BeaconNotEarly => Some("10.3.6.2"),
+        Duty::Numbers => Some("8.3"),
+        Duty::Faithful => Some("10.3.11.3"),
+        Duty::Kind => Some("10.3"),
+        Duty::InTime
+        | Duty::AreaTarget
+        | Duty::Once
+        | Duty::StopsInside
+        | Duty::NextHop
+        | Duty::Forward => None,
+    }
+}
+
+/// The clause of a duty as a text names it: in two of them with the standard.
+#[derive(Clone, Copy)]
+pub(crate) struct Clause(pub(crate) Duty);
+
+impl fmt::Display for Clause {
+    fn fmt<W: fmt::Write>(&self, f: &mut fmt::Formatter<W>) -> fmt::Result {
+        let Some(clause) = clause_of(self.0) else {
+            return Ok(());
+        };
+        match self.0 {
+            Duty::Form | Duty::BeaconNotEarly => write!(f, " ({STANDARD}, {clause})"),
+            _ => write!(f, " ({clause})"),
+        }
+    }
+}
+
+/// The rule of a duty: the standard and its clause.
+#[derive(Clone, Copy)]
+pub(crate) struct Rule(pub(crate) &'static str);
+
+impl fmt::Display for Rule {
+    fn fmt<W: fmt::Write>(&self, f: &mut fmt::Formatter<W>) -> fmt::Result {
+        write!(f, "{STANDARD} {}", self.0)
+    }
+}

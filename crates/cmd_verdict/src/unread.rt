@@ -1,0 +1,106 @@
+//! Records that the station may have processed and that aren't read.
+
+use std::alloc::{AllocError, Global};
+use std::collections::VecDeque;
+
+/// How many are kept at most.
+const MOST: usize = 65536;
+
+/// A sending of a record that isn't read.
+#[derive(Clone, Copy)]
+pub(crate) struct UnreadRecord {
+    /// When it was sent.
+    pub(crate) stamp: u64,
+    /// The record.
+    pub(crate) number: u64,
+    /// It stays unread though the station processes only frames of the profile.
+    pub(crate) despite_profile: bool,
+}
+
+/// What is unread in a stretch of time.
+#[derive(Clone, Copy)]
+pub(crate) struct UnreadIn {
+    /// The first record.
+    pub(crate) first: u64,
+    /// One stays unread though the station processes only frames of the profile.
+    pub(crate) despite_profile: bool,
+}
+
+/// The last sendings of records that aren't read.
+#[derive(Drop)]
+pub(crate) struct UnreadRecords {
+    records: VecDeque<UnreadRecord>,
+    /// The last of those that had to give way.
+    lost: Option<UnreadRecord>,
+}
+
+impl UnreadRecords {
+    /// None yet.
+    pub(crate) fn new(alloc: Global) -> UnreadRecords {
+        UnreadRecords {
+            records: VecDeque::new(alloc),
+            lost: None,
+        }
+    }
+
+    /// Adds a sending. Those before `oldest` are forgotten.
+    pub(crate) fn add(&mut self, record: UnreadRecord, oldest: u64) -> Result<(), AllocError> {
+        self.forget(oldest);
+        if MOST <= self.records.len() {
+            self.lost = self.records.pop_front();
+        }
+        self.records.push_back(record)?;
+        Ok(())
+    }
+
+    /// Forgets the sendings of before a stamp.
+    fn forget(&mut self, oldest: u64) {
+        for _ in 0..self.records.len() {
+            match self.records.front() {
+                Some(record) if record.stamp < oldest => {}
+                _ => return,
+            }
+            self.records.pop_front();
+        }
+    }
+
+    /// Adds another sending of a record, if it is one of these.
+    pub(crate) fn repeat(&mut self, number: u64, stamp: u64) -> Result<(), AllocError> {
+        let mut found = None;
+        for record in self.records.iter() {
+            if record.number == number {
+                found = Some(*record);
+            }
+        }
+        if let Some(record) = found {
+            self.records.push_back(UnreadRecord { stamp, ..record })?;
+        }
+        Ok(())
+    }
+
+    /// What is unread from one stamp to another, if anything is.
+    pub(crate) fn within(&self, from: u64, to: u64) -> Option<UnreadIn> {
+        if let Some(lost) = self.lost
+            && from <= lost.stamp
+        {
+            return Some(UnreadIn {
+                first: lost.number,
+                despite_profile: true,
+            });
+        }
+        let mut found: Option<UnreadIn> = None;
+        for record in self.records.iter() {
+            if from <= record.stamp && record.stamp <= to {
+                let before = found.unwrap_or(UnreadIn {
+                    first: record.number,
+                    despite_profile: false,
+                });
+                found = Some(UnreadIn {
+                    first: before.first,
+                    despite_profile: before.despite_profile || record.despite_profile,
+                });
+            }
+        }
+        found
+    }
+}
