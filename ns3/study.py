@@ -4,12 +4,14 @@
     python3 ns3/study.py --out FOLDER
 
 Needs SUMO, matplotlib, the program, and `ns3/out/town` (make -C ns3). Makes a town of one square
-kilometre and its traffic with SUMO, runs each density with several seeds, and writes `runs.csv`,
-`table.md` and `ns3.svg` to the folder. A run that `runs.csv` has is not done again.
+kilometre and its traffic with SUMO, runs each rule at each density with several seeds, and writes
+`runs.csv`, `table.md`, `ns3.svg` and `ns3.pdf` to the folder. Intervals are those of
+`geostation.study`. A run that `runs.csv` has is not done again.
 """
 
 import argparse
 import csv
+import functools
 import math
 import os
 import subprocess
@@ -18,28 +20,63 @@ import threading
 from concurrent.futures import ThreadPoolExecutor
 from pathlib import Path
 from statistics import mean
+from typing import NamedTuple
 
 TOP = Path(__file__).resolve().parent.parent
+sys.path.insert(0, str(TOP / "python"))
+
+from geostation.study.statistics import interval  # noqa: E402
+
 os.environ.setdefault("SUMO_HOME", "/usr/share/sumo")
 TOOLS = Path(os.environ["SUMO_HOME"]) / "tools"
-# The run: 0.85 s of traffic from this second of SUMO on, with the warning in the middle.
-BEGIN, AT, UNTIL = 240, 0.5, 0.85
+# A run begins at this second of SUMO, with the warning after AT seconds.
+BEGIN, AT = 240, 0.3
 RANGE, RADIUS, RATE, BYTES = 300, 400, 5, 600
 # Seconds between two vehicles that set out, for each density.
 PERIODS = [2.8, 1.4, 0.7]
-RULES = ["now", "spread", "contention"]
-# Medium and rule of each kind of run, and its name in the table.
+# The greatest wait of a frame at a contending station, and until it is sent, in seconds.
+WAIT = 0.102
+
+
+class Rule(NamedTuple):
+    """A rule of forwarding: its name in the table and in ns-3, the greatest wait of a station in
+    seconds, and attributes of ns-3."""
+
+    name: str
+    forward: str
+    wait: float
+    attributes: dict
+
+    def after(self):
+        """How many seconds a run goes on after the warning."""
+        return 0.1 + 6 * self.wait
+
+
+def contention(copies, range):
+    name = f"contention, {copies} {'copy' if copies == 1 else 'copies'}, {range} m"
+    station = "geostation::StationApplication::Contention"
+    return Rule(name, "contention", WAIT, {f"{station}Copies": copies, f"{station}Range": range})
+
+
+def any_copy(range):
+    return Rule(f"any copy, {range} m", "any", WAIT, {"AnyCopyApplication::Reach": range})
+
+
+RULES = {
+    "now": Rule("at once", "now", 0, {}),
+    "spread": Rule("simple", "spread", 0, {}),
+    **{f"copies-{n}-{m}": contention(n, m) for m in (300, 1000) for n in (2, 1)},
+    **{f"any-{m}": any_copy(m) for m in (300, 1000)},
+}
+SIM = ("sim", "now")
+# Medium and rule of each kind of run, and its name in the table; without a medium it is 802.11p.
 KINDS = {
-    ("sim", ""): "`sim`",
-    ("range", "now"): "ns-3, lossless, at once",
-    ("range", "spread"): "ns-3, lossless, spread",
-    ("range", "contention"): "ns-3, lossless, contention",
-    ("wifi", "now"): "802.11p, at once",
-    ("wifi", "spread"): "802.11p, spread",
-    ("wifi", "contention"): "802.11p, contention",
+    SIM: "`sim`",
+    **{("range", key): f"lossless, {RULES[key].name}" for key in RULES if key != "now"},
+    **{("wifi", key): RULES[key].name for key in RULES},
 }
 COLUMNS = ["period", "seed", "medium", "rule", "vehicles", "inside", "reached", "frames", "lost",
-           "hops", "p50", "p95", "last", "busy"]  # fmt: skip
+           "hops", "p50", "p95", "last"]  # fmt: skip
 SCENARIO = """
 [air]
 range = {range}
@@ -125,7 +162,8 @@ def choose_warner(moves):
     wanted = (BEGIN + AT) * scale
     there = [row for row in rows if row[ident] and abs(float(row[at]) - wanted) < 0.05 * scale]
     # Only vehicles that are there from the beginning to the end.
-    last = {row[ident] for row in rows if row[ident] and float(row[at]) >= (BEGIN + UNTIL) * scale}
+    until = BEGIN + AT + max(rule.after() for rule in RULES.values())
+    last = {row[ident] for row in rows if row[ident] and float(row[at]) >= until * scale}
     first = {row[ident] for row in rows if row[ident] and float(row[at]) <= BEGIN * scale}
     y, x = mean(float(row[lat]) for row in there), mean(float(row[lon]) for row in there)
     shrink = math.cos(math.radians(48))
@@ -137,45 +175,50 @@ def choose_warner(moves):
     return min(whole, key=distance)[ident], len(there)
 
 
-def run_one(arguments, folder, moves, period, seed, medium, rule):
+def run_sim(arguments, moves, warner, seed, sends):
+    """Runs the town in `sim`."""
+    scenario = sends.with_suffix(".toml")
+    until = int(1000 * (AT + RULES[SIM[1]].after()))
+    times = {"begin": 1000 * BEGIN, "at": int(1000 * AT), "until": until}
+    sizes = {"range": RANGE, "radius": RADIUS, "period": 1000 // RATE, "bytes": BYTES}
+    scenario.write_text(SCENARIO.format(seed=seed, id=warner, **times, **sizes))
+    run([arguments.program, "sim", "--summary", "--moves", moves, "--sends", sends, scenario])
+
+
+def run_ns3(arguments, moves, warner, seed, medium, rule, sends):
+    """Runs the town in ns-3."""
+    words = [f"--moves={moves}", f"--begin={BEGIN}", f"--id={warner}", f"--forward={rule.forward}"]
+    words += [f"--medium={medium}", f"--at={AT}", f"--until={AT + rule.after():.3f}"]
+    words += [f"--range={RANGE}", f"--radius={RADIUS}", f"--rate={RATE}", f"--bytes={BYTES}"]
+    words += [f"--loss={arguments.loss}", f"--RngRun={seed}", f"--sends={sends}"]
+    words += [f"--{name}={value}" for name, value in rule.attributes.items()]
+    words += ["--geostation::StationApplication::Capacity=1024"]
+    run([arguments.town, *words])
+
+
+def run_one(arguments, folder, moves, period, seed, medium, key):
     """Does one run, and returns its row."""
     warner, vehicles = choose_warner(moves)
-    name = f"{period}-{seed}-{medium}-{rule}"
-    sends, stations = folder / f"sends-{name}.csv", folder / f"stations-{name}.csv"
-    files = ["sends", sends, "stations", stations]
-    busy = ""
+    rule = RULES[key]
+    sends = folder / f"sends-{period}-{seed}-{medium}-{key}.csv"
     if medium == "sim":
-        scenario = folder / f"{name}.toml"
-        times = {"begin": 1000 * BEGIN, "at": int(1000 * AT), "until": int(1000 * UNTIL)}
-        sizes = {"range": RANGE, "radius": RADIUS, "period": 1000 // RATE, "bytes": BYTES}
-        scenario.write_text(SCENARIO.format(seed=seed, id=warner, **times, **sizes))
-        options = [f"--{files[0]}", files[1], f"--{files[2]}", files[3]]
-        run([arguments.program, "sim", "--summary", "--moves", moves, *options, scenario])
+        run_sim(arguments, moves, warner, seed, sends)
     else:
-        words = [f"--moves={moves}", f"--begin={BEGIN}", f"--id={warner}", f"--forward={rule}"]
-        words += [f"--medium={medium}", f"--at={AT}", f"--until={UNTIL}", f"--range={RANGE}"]
-        words += [f"--radius={RADIUS}", f"--rate={RATE}", f"--bytes={BYTES}", f"--RngRun={seed}"]
-        words += [f"--loss={arguments.loss}", f"--sends={sends}", f"--stations={stations}"]
-        words += ["--geostation::StationApplication::Capacity=1024"]
-        printed = run([arguments.town, *words])
-        if medium == "wifi":
-            busy = float(printed.split("channel busy ")[1].split()[0])
+        run_ns3(arguments, moves, warner, seed, medium, rule, sends)
     with open(sends, newline="") as file:
         (row,) = csv.DictReader(file)
-    if medium != "wifi":
-        # The air time of all frames that a station sends or that arrive there.
-        with open(stations, newline="") as file:
-            busy = mean(float(it["busy"]) for it in csv.DictReader(file)) / (1e4 * UNTIL)
+    if float(row["last"]) > 1000 * (rule.after() - rule.wait):
+        sys.exit(f"{sends}: a station may still hold the warning at the end of the run")
     found = {name: row[name] for name in COLUMNS if name in row}
-    key = {"period": period, "seed": seed, "medium": medium, "rule": rule}
-    return {**key, "vehicles": vehicles, "busy": f"{busy:.2f}", **found}
+    names = {"period": period, "seed": seed, "medium": medium, "rule": key}
+    return {**names, "vehicles": vehicles, **found}
 
 
-def mean_of(rows, name):
-    """The mean of a column; for `reach` that of the percentages."""
+def values_of(rows, name):
+    """The values of a column; for `reach` the percentages."""
     if name == "reach":
-        return mean(100 * int(row["reached"]) / int(row["inside"]) for row in rows)
-    return mean(float(row[name]) for row in rows)
+        return [100 * int(row["reached"]) / int(row["inside"]) for row in rows]
+    return [float(row[name]) for row in rows]
 
 
 def select(rows, period, medium, rule):
@@ -183,62 +226,115 @@ def select(rows, period, medium, rule):
     return [row for row in found if float(row["period"]) == period]
 
 
+@functools.cache
+def mean_and_ends(values):
+    """The mean of some values, and the ends of its 95 % interval."""
+    low, high = interval(values) if len(values) > 1 else values * 2
+    return mean(values), low, high
+
+
+def row_of_table(some, name):
+    whole = sum(row["reached"] == row["inside"] for row in some)
+    cells = [f"{mean(values_of(some, 'vehicles')):.0f}", name]
+    for column in ("reach", "frames", "p95"):
+        at, low, high = mean_and_ends(tuple(values_of(some, column)))
+        cells.append(f"{at:.1f} ({low:.1f}–{high:.1f})")
+    cells.insert(3, f"{whole}/{len(some)}")
+    return "| " + " | ".join(cells) + " |"
+
+
 def write_table(rows, path):
-    head = "| Vehicles | Run | Reach % | All reached | Frames | Lost | p50 ms | p95 ms | Busy % |"
+    head = "| Vehicles | Run | Reached % | All | Frames | p95 ms |"
     lines = [head, "|" + "---|" * (head.count("|") - 1)]
     for period in sorted({float(row["period"]) for row in rows}, reverse=True):
-        for (medium, rule), name in KINDS.items():
-            some = select(rows, period, medium, rule)
-            if not some:
-                continue
-            whole = sum(row["reached"] == row["inside"] for row in some)
-            cells = [f"{mean_of(some, 'vehicles'):.0f}", name, f"{mean_of(some, 'reach'):.1f}"]
-            cells += [f"{whole} of {len(some)}", f"{mean_of(some, 'frames'):.1f}"]
-            cells += [f"{mean_of(some, 'lost'):.0f}", f"{mean_of(some, 'p50'):.2f}"]
-            cells += [f"{mean_of(some, 'p95'):.2f}", f"{mean_of(some, 'busy'):.1f}"]
-            lines.append("| " + " | ".join(cells) + " |")
+        for kind, name in KINDS.items():
+            if some := select(rows, period, *kind):
+                lines.append(row_of_table(some, name))
     path.write_text("\n".join(lines) + "\n")
     print("\n".join(lines))
 
 
-def draw(rows, path):
+# What a panel shows: the column, the label of its axis, its scale, its ends and its ticks.
+PANELS = [
+    ("reach", "Stations reached (%)", "linear", (50, 102), range(50, 101, 10)),
+    ("frames", "Frames per warning", "log", (4, 130), [5, 10, 20, 50, 100]),
+    ("p95", "Time to 95 % of them (ms)", "log", (0.2, 200), [0.3, 1, 3, 10, 30, 100]),
+]
+# The rules of a row of panels, with colour, mark and dash: those of Okabe and Ito, which differ in
+# grey too, and hollow marks for the simple rules.
+LINES = {
+    "now": ("At once", "#000000", "s", ":", "white"),
+    "spread": ("Simple", "#0072b2", "o", "--", "white"),
+    "copies-2-{}": ("Contention, 2 copies", "#009e73", "D", "-", None),
+    "copies-1-{}": ("Contention, 1 copy", "#e69f00", "^", "-.", None),
+    "any-{}": ("Any copy (F.3)", "#d55e00", "v", (0, (5, 1, 1, 1, 1, 1)), None),
+}
+
+
+def draw_line(panel, rows, periods, name, rule, shift, style):
+    """A rule in a panel: means over the mean number of vehicles, with their intervals as bars."""
+    label, colour, mark, dash, face = style
+    points = [some for period in periods if (some := select(rows, period, "wifi", rule))]
+    found = [mean_and_ends(tuple(values_of(some, name))) for some in points]
+    means = [at for at, _, _ in found]
+    # Of equal values the ends are the mean, but for a rounding.
+    bars = [
+        [max(0, at - low) for at, low, _ in found],
+        [max(0, high - at) for at, _, high in found],
+    ]
+    # Marks of one density lie side by side, so that no bar hides another one.
+    places = [mean(values_of(some, "vehicles")) * 1.035**shift for some in points]
+    panel.errorbar(
+        places, means, yerr=bars, color=colour, marker=mark, linestyle=dash, label=label,
+        markerfacecolor=face or colour, capsize=1.8, capthick=0.7, elinewidth=0.7,
+    )  # fmt: skip
+
+
+def draw_panel(panel, rows, periods, letter, shown, reach):
+    """A panel: a column of the runs with one range of contention."""
+    name, label, scale, ends, ticks = shown
+    for place, (rule, style) in enumerate(LINES.items()):
+        draw_line(panel, rows, periods, name, rule.format(reach), place - 2, style)
+    panel.set_xscale("log")
+    panel.set_yscale(scale)
+    places = [mean(values_of(select(rows, period, *SIM), "vehicles")) for period in periods]
+    panel.set_xticks(places, [f"{place:.0f}" for place in places])
+    panel.set_yticks(ticks, [f"{tick:g}" for tick in ticks])
+    panel.minorticks_off()
+    panel.set_xlim(places[0] / 1.25, places[-1] * 1.25)
+    panel.set_ylim(ends)
+    panel.set_ylabel(label)
+    panel.set_title(f"({letter}) contention range {reach} m", loc="left", fontsize=8)
+    panel.grid(axis="y", linewidth=0.3, color="#cccccc")
+    panel.set_axisbelow(True)
+
+
+def draw(rows, folder):
+    """The figure as SVG and PDF, 183 mm wide: 802.11p, a row of panels for each range."""
     import matplotlib
 
-    matplotlib.use("svg")
+    matplotlib.use("agg")
     import matplotlib.pyplot as plt
 
-    plt.rcParams.update({"font.size": 8, "svg.hashsalt": "geostation", "svg.fonttype": "none"})
-    styles = {
-        ("sim", ""): ("#000000", "o", "-"),
-        ("wifi", "now"): ("#d55e00", "s", "--"),
-        ("wifi", "spread"): ("#0072b2", "^", "-."),
-        ("wifi", "contention"): ("#009e73", "D", ":"),
-    }
-    figure, panels = plt.subplots(1, 3, figsize=(7.2, 2.4), constrained_layout=True)
+    plt.rcParams.update({
+        "font.size": 8, "axes.labelsize": 8, "legend.fontsize": 8, "xtick.labelsize": 7,
+        "ytick.labelsize": 7, "axes.linewidth": 0.6, "axes.spines.top": False,
+        "axes.spines.right": False, "lines.linewidth": 1, "lines.markersize": 3.5,
+        "svg.hashsalt": "geostation", "svg.fonttype": "none", "pdf.fonttype": 42,
+    })  # fmt: skip
+    figure, grid = plt.subplots(2, 3, figsize=(7.2, 4.6), layout="constrained")
+    figure.get_layout_engine().set(rect=(0, 0.06, 1, 0.94))
     periods = sorted({float(row["period"]) for row in rows}, reverse=True)
-    for panel, name, label in (
-        (panels[0], "reach", "Stations reached, %"),
-        (panels[1], "p95", "Delay p95, ms"),
-        (panels[2], "frames", "Frames of the warning"),
-    ):
-        for (medium, rule), (colour, mark, dash) in styles.items():
-            points = [select(rows, period, medium, rule) for period in periods]
-            points = [some for some in points if some]
-            panel.plot(
-                [mean_of(some, "vehicles") for some in points],
-                [mean_of(some, name) for some in points],
-                color=colour, marker=mark, linestyle=dash, markersize=4, linewidth=1.2,
-                label=KINDS[medium, rule].strip("`"),
-            )  # fmt: skip
-        panel.set_xlabel("Vehicles in the town")
-        panel.set_ylabel(label)
-        panel.set_xlim(left=0)
-        panel.grid(linewidth=0.3)
-    panels[0].set_ylim(0, 105)
-    panels[1].set_yscale("log")
-    panels[2].set_yscale("log")
-    panels[0].legend(frameon=False, fontsize=7, loc="lower left")
-    figure.savefig(path, metadata={"Date": None})
+    letters = iter("abcdef")
+    for panels, reach in zip(grid, (300, 1000)):
+        for panel, shown in zip(panels, PANELS):
+            draw_panel(panel, rows, periods, next(letters), shown, reach)
+    for panel in grid[1]:
+        panel.set_xlabel("Vehicles in 1 km²")
+    handles, labels = grid[0][0].get_legend_handles_labels()
+    figure.legend(handles, labels, loc="lower center", ncols=5, frameon=False, handlelength=3)
+    figure.savefig(folder / "ns3.svg", metadata={"Date": None})
+    figure.savefig(folder / "ns3.pdf", metadata={"CreationDate": None})
 
 
 def read_rows(path):
@@ -251,7 +347,7 @@ def read_rows(path):
 def main():
     parser = argparse.ArgumentParser(description=__doc__.split("\n")[0])
     parser.add_argument("--out", type=Path, required=True, help="folder of the results")
-    parser.add_argument("--seeds", type=int, default=3, help="seeds of each density [default: 3]")
+    parser.add_argument("--seeds", type=int, default=30, help="seeds of each density [default: 30]")
     parser.add_argument("--jobs", type=int, default=os.cpu_count(), help="runs at once")
     parser.add_argument("--loss", default="log", help="disk, log or nakagami [default: log]")
     parser.add_argument("--periods", type=float, nargs="+", default=PERIODS, help="densities")
@@ -263,10 +359,11 @@ def main():
     kept = folder / "runs.csv"
     rows = read_rows(kept)
     done = {(row["period"], row["seed"], row["medium"], row["rule"]) for row in rows}
+    # All of a seed come before the next one: if it is stopped, each kind has as many runs.
     wanted = [
         (period, seed, medium, rule)
-        for period in arguments.periods
         for seed in range(1, arguments.seeds + 1)
+        for period in arguments.periods
         for medium, rule in KINDS
         if (str(period), str(seed), medium, rule) not in done
     ]
@@ -288,7 +385,7 @@ def main():
 
         list(pool.map(do, wanted))
     write_table(rows, folder / "table.md")
-    draw(rows, folder / "ns3.svg")
+    draw(rows, folder)
 
 
 if __name__ == "__main__":

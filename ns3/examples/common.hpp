@@ -2,7 +2,7 @@
 #ifndef COMMON_HPP
 #define COMMON_HPP
 
-#include "contention.hpp"
+#include "any-copy.hpp"
 #include "geostation-ns3-results.hpp"
 #include "geostation-ns3-wifi.hpp"
 
@@ -54,13 +54,14 @@ inline ns3::Ptr<ns3::YansWifiChannel> MakeChannel(const std::string &loss, doubl
 }
 
 /// Returns a factory of stations: `now` forwards at once, `spread` after a random time below
-/// `RelaySpread`, `contention` by ContentionApplication.
+/// `RelaySpread`, `contention` by the station's contention, `any` by AnyCopyApplication.
 inline ns3::ObjectFactory MakeFactory(const std::string &forward) {
-    NS_ABORT_MSG_UNLESS(forward == "now" || forward == "spread" || forward == "contention",
-                        "the rule is now, spread or contention");
+    NS_ABORT_MSG_UNLESS(forward == "now" || forward == "spread" || forward == "contention" ||
+                            forward == "any",
+                        "the rule is now, spread, contention or any");
     ns3::ObjectFactory factory;
-    factory.SetTypeId(forward == "contention" ? "ContentionApplication"
-                                              : "geostation::StationApplication");
+    factory.SetTypeId(forward == "any" ? "AnyCopyApplication" : "geostation::StationApplication");
+    factory.Set("Contention", ns3::BooleanValue(forward == "contention"));
     if (forward == "now") {
         factory.Set("RelaySpread", ns3::TimeValue(ns3::Time(0)));
     }

@@ -24,7 +24,7 @@ int main(int argc, char **argv) {
     line.AddValue("tc", "Traffic class of the warning, 0 (AC_VO) to 3 (AC_BK)", traffic_class);
     line.AddValue("at", "Time of the warning, s", at);
     line.AddValue("until", "End of the run, s", until);
-    line.AddValue("forward", "now, spread or contention", forward);
+    line.AddValue("forward", "now, spread, contention or any", forward);
     line.AddValue("loss", "disk, log or nakagami", loss);
     line.AddValue("range", "Range of disk, and of the column `lost`, m", range);
     line.AddValue("grid", "Use the channel with a grid", is_grid);

@@ -1,33 +1,33 @@
-// Contention-based forwarding as a subclass of the station's application. This rule is not part of
-// the station, and nothing about it is proved.
+// Contention as EN 302 636-4-1, annex F.3 has it, for comparison with the station's own (attribute
+// `Contention`): any copy of a packet takes the waiting frame back, also one that this station has
+// not the same frame of. It is a subclass of the station's application. Nothing about it is proved.
 //
-// The further away the sender of a frame is, the shorter the station waits before it forwards the
-// frame (EN 302 636-4-1, annex F). A copy from another station takes the waiting frame back.
-#ifndef CONTENTION_HPP
-#define CONTENTION_HPP
+// The further away the sender of a frame is, the shorter the station waits before it forwards it.
+#ifndef ANY_COPY_HPP
+#define ANY_COPY_HPP
 
 #include "geostation-ns3.hpp"
 
 #include "ns3/double.h"
 
-class ContentionApplication : public geostation::StationApplication {
+class AnyCopyApplication : public geostation::StationApplication {
   public:
     static ns3::TypeId GetTypeId() {
         static ns3::TypeId tid =
-            ns3::TypeId("ContentionApplication")
+            ns3::TypeId("AnyCopyApplication")
                 .SetParent<geostation::StationApplication>()
-                .AddConstructor<ContentionApplication>()
+                .AddConstructor<AnyCopyApplication>()
                 .AddAttribute("MinWait", "Wait for a sender at `Reach` or further away.",
                               ns3::TimeValue(ns3::MilliSeconds(1)),
-                              ns3::MakeTimeAccessor(&ContentionApplication::min_wait_),
+                              ns3::MakeTimeAccessor(&AnyCopyApplication::min_wait_),
                               ns3::MakeTimeChecker())
                 .AddAttribute("MaxWait", "Wait for a sender at the same position.",
                               ns3::TimeValue(ns3::MilliSeconds(100)),
-                              ns3::MakeTimeAccessor(&ContentionApplication::max_wait_),
+                              ns3::MakeTimeAccessor(&AnyCopyApplication::max_wait_),
                               ns3::MakeTimeChecker())
                 .AddAttribute("Reach", "Greatest distance at which frames arrive, in m.",
                               ns3::DoubleValue(1000),
-                              ns3::MakeDoubleAccessor(&ContentionApplication::reach_),
+                              ns3::MakeDoubleAccessor(&AnyCopyApplication::reach_),
                               ns3::MakeDoubleChecker<double>(1));
         return tid;
     }
@@ -54,6 +54,6 @@ class ContentionApplication : public geostation::StationApplication {
     double reach_ = 1000;
 };
 
-NS_OBJECT_ENSURE_REGISTERED(ContentionApplication);
+NS_OBJECT_ENSURE_REGISTERED(AnyCopyApplication);
 
 #endif
