@@ -1,0 +1,397 @@
+"""The tester against the daemon and against stations with a mistake, each on a wire of its own.
+
+    conformance.py GEOSTATION DAEMON
+
+Runs in a network namespace of its own, in which nothing else is. Each run has one station, one wire
+and one purpose, so that they can be played side by side. How long a run takes is no failure.
+"""
+
+import multiprocessing
+import os
+import subprocess
+import sys
+import tempfile
+import time
+import unittest
+from collections import Counter
+from concurrent.futures import ProcessPoolExecutor
+from contextlib import contextmanager
+from pathlib import Path
+from typing import NamedTuple
+from xml.etree import ElementTree
+
+TOP = Path(__file__).resolve().parents[2]
+sys.path[1:1] = [str(TOP / "tester")]
+
+from geostation_tester import campaign
+from geostation_tester.actions import PORT
+from geostation_tester.bench import LostFrames
+from geostation_tester.purposes import Purpose, read_purpose
+from geostation_tester.results import Result
+from geostation_tester.station_file import UPPER, read_station_file
+from geostation_tester.upper import JsonUpper, UdpUpper
+from geostation_tester.verdicts import NoVerdict
+from liar import lie
+from liar_faults import FAULTS
+
+SUITE = TOP / "tester/suite"
+SIDE_BY_SIDE = int(os.environ.get("CONFORMANCE_JOBS", "40"))
+AGAIN = (4, 2, 1)  # side by side, at the further attempts
+HOME, DEGREES = (514_776_500, -10_000), "51.4776500,-0.0010000"
+ADDRESS = "3c0002000001{:04x}"  # of the station on a wire; its MID is the MAC
+PATIENCE = 30  # s
+# What the runs of this machine claim. A busy machine may be late by so much.
+STATION = """[station]
+address = "{address}"
+lat = {place[0]}
+lon = {place[1]}
+accuracy = 0
+tolerance = 0
+age = 1500
+mobile = false
+
+[claims]
+area = "{area}"
+elsewhere = "greedy"
+remember = 8
+capacity = 64
+profile = true
+gapless = true
+steady = true
+fresh = true
+unlimited = true
+unbuffered = true
+
+[capture]
+within = {within}
+queue = 100
+"""
+STANDARD = ["--forward-spread", "0", "--forward-rate", "0", "--source-rate", "0", "--own-rate", "0",
+            "--hop-cap", "0", "--deliver-once", "0", "--remember", "8"]  # fmt: skip
+CONTENDS = ["--area-forwarding", "contention", "--contention-max", "1000",
+            "--contention-copies", "1"]  # fmt: skip
+DAEMONS = ("standard", "defaults", "udp", "contention")
+# The purposes in which the daemon's defaults differ from the standard, with the duty.
+OF_DEFAULTS = {"DPD-02": ("D20",), "CAP-01": ("D20",)}
+# Purposes of which the second needs the first to be forgotten.
+CAMPAIGN = ("GBC-05", "GBC-06", "GAC-01")
+# What is reported to be otherwise than by the standard, and what only the defaults have otherwise.
+OF_PROFILE = ("FDV-12", "GBC-07", "GBC-09", "GBC-11", "SHB-02")
+OF_LIMITS = ("LIM-01", "LIM-02")
+# Those that the upper tester of examples/ starts, over UDP.
+OVER_UDP = ("FDV-04", "FDV-07", "MGT-05", "GBC-02")
+UPPER_TESTER = TOP / "examples/upper-tester/upper_tester.py"
+
+FIGURES = {
+    "standard": "the daemon",
+    "udp": "with an upper tester over UDP",
+    "defaults": "with its defaults",
+    "contention": "with contention",
+    "": "a station of the standard",
+    "mistake": "with a mistake each",
+}
+
+
+class Run(NamedTuple):
+    """`station` is one of DAEMONS, a mistake, or "" for a station without one."""
+
+    station: str
+    purpose: str
+    wire: int
+    program: str
+    daemon: str
+    room: str
+    attempt: int = 0
+
+    @property
+    def folder(self) -> Path:
+        return Path(self.room) / f"{self.wire}.{self.attempt}"
+
+    @property
+    def upper(self) -> str:
+        """The socket of the upper tester."""
+        return str(self.folder / "upper")
+
+    @property
+    def label(self) -> str:
+        return f"{self.purpose} with {self.station or 'no mistake'}"
+
+
+def contends(run: Run) -> bool:
+    """Whether the station claims contention."""
+    return run.station == "contention" or run.purpose.startswith("CBF") and run.station in FAULTS
+
+
+def station_file(run: Run) -> str:
+    area, within = ("cbf", 1_600) if contends(run) else ("simple", 500)
+    address = ADDRESS.format(run.wire)
+    return STATION.format(address=address, place=HOME, area=area, within=within)
+
+
+class Outcome(NamedTuple):
+    run: Run
+    result: Result
+    line: str
+
+
+def wait_for(path: str) -> None:
+    """Until a socket has this name."""
+    latest = time.monotonic() + PATIENCE
+    while not os.path.exists(path):
+        assert time.monotonic() < latest, path
+        time.sleep(0.01)
+
+
+@contextmanager
+def daemon_on(run: Run):
+    """The daemon, once it is ready."""
+    limits = [] if run.station == "defaults" else STANDARD
+    limits = [*limits, *(CONTENDS if run.station == "contention" else [])]
+    command = [run.daemon, "--interface", f"s{run.wire}", "--position", DEGREES, *limits]
+    command += ["--listen", run.upper]
+    pipe = subprocess.PIPE
+    process = subprocess.Popen(command, stdin=pipe, stdout=pipe, stderr=subprocess.DEVNULL)
+    try:
+        assert b"ready" in process.stdout.readline(), command
+        yield
+    finally:
+        process.kill()
+        process.communicate()
+
+
+@contextmanager
+def upper_on(run: Run, purpose: Purpose):
+    """The upper tester, if the purpose needs one."""
+    if UPPER not in purpose.needs:
+        yield None
+        return
+    if run.station != "udp":
+        yield JsonUpper(run.upper)
+        return
+    port = 4300 + run.wire
+    command = [sys.executable, str(UPPER_TESTER), "--link", run.upper, "--position", DEGREES]
+    command += ["--port", str(PORT), "--udp", f"127.0.0.1:{port}"]
+    process = subprocess.Popen(command, stdout=subprocess.PIPE)
+    try:
+        assert b"ready" in process.stdout.readline(), command
+        yield UdpUpper("127.0.0.1", port)
+    finally:
+        process.kill()
+        process.communicate()
+
+
+@contextmanager
+def liar_on(run: Run, seconds: float):
+    address = int(ADDRESS.format(run.wire), 16)
+    arguments = (f"s{run.wire}", address, HOME, run.station, run.upper, seconds)
+    process = multiprocessing.Process(target=lie, args=arguments)
+    process.start()
+    try:
+        wait_for(run.upper)
+        yield
+    finally:
+        process.kill()
+        process.join()
+
+
+def play(run: Run) -> Outcome:
+    """One station, one wire, one purpose. What can't be judged is an error."""
+    purpose = read_purpose(SUITE / f"{run.purpose}.toml")
+    try:
+        result = result_of(run, purpose)
+    except (LostFrames, NoVerdict, OSError, AssertionError) as why:
+        result = Result(purpose.name, "error", repr(why), None, (), (), 0.0)
+    return Outcome(run, result, f"{run.label}: {result.verdict}: {result.why}")
+
+
+def result_of(run: Run, purpose: Purpose) -> Result:
+    run.folder.mkdir()
+    iut = run.folder / "iut.toml"
+    iut.write_text(station_file(run))
+    seconds = purpose.length() / 1000 + PATIENCE
+    station = daemon_on(run) if run.station in DAEMONS else liar_on(run, seconds)
+    with station, upper_on(run, purpose) as upper:
+        setting = campaign.Setting(
+            f"t{run.wire}", read_station_file(iut), run.folder / "run.pcapng", run.program, upper
+        )
+        with open(os.devnull, "w") as nowhere:
+            return campaign.run(setting, [purpose], nowhere)[0]
+
+
+def output(*command: str) -> str:
+    return subprocess.run(command, check=True, capture_output=True, text=True).stdout
+
+
+def make_wires(count: int) -> None:
+    """Interfaces s0, s1, .. of stations, each with a wire to t0, t1, .. of the tester."""
+    lines = []
+    for k in range(count):
+        mac = bytes.fromhex(ADDRESS.format(k))[2:].hex(":")
+        lines.append(f"link add s{k} address {mac} type veth peer name t{k}")
+        lines += [f"link set {end}{k} up" for end in "st"]
+    subprocess.run(["ip", "-batch", "-"], input="\n".join(lines), text=True, check=True)
+    latest = time.monotonic() + PATIENCE
+    while "state DOWN" in (shown := output("ip", "-o", "link")) or "LOWERLAYERDOWN" in shown:
+        assert time.monotonic() < latest, shown
+        time.sleep(0.1)
+
+
+def is_right_report(station: str, name: str, result: Result) -> bool:
+    """It says that the profile differs from the standard, where it does."""
+    differs = name in OF_PROFILE or station == "defaults" and name in OF_LIMITS
+    return result.verdict == "none" and bool(result.checked) == differs
+
+
+def wrong_without_mistake(outcome: Outcome, purpose: Purpose) -> bool:
+    """It passes, reports, or does not apply to how the station forwards."""
+    result = outcome.result
+    if ("simple" if contends(outcome.run) else "contention") in purpose.needs:
+        return result.verdict != "none"
+    if purpose.report:
+        return not is_right_report(outcome.run.station, purpose.name, result)
+    return result.verdict != "pass"
+
+
+def wrong_of_defaults(outcome: Outcome, purpose: Purpose) -> bool:
+    """The purposes of the limits differ, and no other."""
+    expected = OF_DEFAULTS.get(purpose.name)
+    if expected is None:
+        return wrong_without_mistake(outcome, purpose)
+    found = outcome.result
+    return found.verdict != "fail" or found.proved != () or found.checked != expected
+
+
+def wrong_of_mistake(outcome: Outcome) -> bool:
+    """The duties of the table fail, and no others."""
+    found, result = FAULTS[outcome.run.station], outcome.result
+    return (
+        result.verdict != "fail"
+        or set(result.proved) != set(found.proved)
+        or set(result.checked) != set(found.checked)
+    )
+
+
+def is_wrong(outcome: Outcome, purposes: dict[str, Purpose]) -> bool:
+    purpose = purposes[outcome.run.purpose]
+    if outcome.run.station == "defaults":
+        return wrong_of_defaults(outcome, purpose)
+    if outcome.run.station in ("", "standard", "udp", "contention"):
+        return wrong_without_mistake(outcome, purpose)
+    return wrong_of_mistake(outcome)
+
+
+def plan(purposes: dict[str, Purpose], program: str, daemon: str, room: str) -> list[Run]:
+    """The longest runs first."""
+    kinds = ["", *(["standard", "defaults", "contention"] if daemon else [])]
+    pairs = [(kind, name) for kind in kinds for name in purposes]
+    pairs += [("udp", name) for name in OVER_UDP if daemon]
+    pairs += [(fault, found.purpose) for fault, found in FAULTS.items()]
+    chosen = os.environ.get("CONFORMANCE_ONLY")
+    if chosen:
+        pairs = [(kind, name) for kind, name in pairs if chosen in (kind, name)]
+    pairs.sort(key=lambda pair: -purposes[pair[1]].length())
+    return [Run(*pair, k, program, daemon, room) for k, pair in enumerate(pairs)]
+
+
+def play_all(runs: list[Run]) -> tuple[list[Outcome], str]:
+    """The outcomes, and what is wrong with the campaign."""
+    make_wires(len(runs) + 1)
+    with pool_of(SIDE_BY_SIDE) as pool:
+        campaign_run = pool.submit(play_campaign, len(runs), runs[0].program, runs[0].room)
+        return list(pool.map(play, runs)), campaign_run.result()
+
+
+def pool_of(jobs: int) -> ProcessPoolExecutor:
+    return ProcessPoolExecutor(jobs, mp_context=multiprocessing.get_context("fork"))
+
+
+def play_again(outcomes: list[Outcome], purposes: dict[str, Purpose]) -> tuple[list[Outcome], int]:
+    """The outcomes, with further attempts of those that are wrong, and how many attempts these are.
+    A busy machine is later than the station files claim. A further attempt has few beside it."""
+    count = 0
+    for attempt, jobs in enumerate(AGAIN, 1):
+        late = [o.run for o in outcomes if is_wrong(o, purposes)]
+        with pool_of(jobs) as pool:
+            again = pool.map(play, [run._replace(attempt=attempt) for run in late])
+            found = dict(zip(late, again))
+        outcomes = [found.get(o.run, o) for o in outcomes]
+        count += len(late)
+    return outcomes, count
+
+
+def figures(outcomes: list[Outcome]) -> str:
+    """What held, in numbers."""
+    kinds = [o.run.station if o.run.station in ("", *DAEMONS) else "mistake" for o in outcomes]
+    counts = Counter(zip(kinds, (o.result.verdict for o in outcomes)))
+    parts = []
+    for kind, text in FIGURES.items():
+        verdicts = [f"{n} {v}" for (k, v), n in sorted(counts.items()) if k == kind]
+        parts += [f"{text}: {', '.join(verdicts)}"] if verdicts else []
+    return "; ".join(parts)
+
+
+def play_campaign(wire: int, program: str, room: str, attempt: int = 0) -> str:
+    """Some purposes one after the other on one station, by the command. Returns what is wrong."""
+    run = Run("", "campaign", wire, program, "", room, attempt)
+    run.folder.mkdir()
+    iut, junit, tap = (run.folder / name for name in ("iut.toml", "run.xml", "run.tap"))
+    iut.write_text(station_file(run))
+    command = [str(TOP / "tester/geostation-tester"), "--iut", str(iut), "--interface", f"t{wire}"]
+    command += ["--record", str(run.folder / "run.pcapng"), "--program", program]
+    command += ["--junit", str(junit), "--tap", str(tap), *CAMPAIGN]
+    with liar_on(run, PATIENCE * 6):
+        done = subprocess.run(command, capture_output=True, text=True)
+    suite = ElementTree.parse(junit).getroot() if junit.exists() else {}
+    counts = [suite.get(key) for key in ("tests", "failures", "skipped")]
+    lines = tap.read_text().splitlines()[2:] if tap.exists() else []
+    oks = [line.split(" - ")[0] for line in lines]
+    expected = [f"ok {k}" for k in range(1, len(CAMPAIGN) + 1)]
+    if done.returncode or counts != [str(len(CAMPAIGN)), "0", "0"] or oks != expected:
+        return f"the campaign: {done.returncode} {counts} {oks} {done.stdout} {done.stderr}"
+    return ""
+
+
+def wrong_in_readme(outcomes: list[Outcome]) -> list[str]:
+    """README.md has the number of purposes that the daemon passes."""
+    verdicts = [o.result.verdict for o in outcomes if o.run.station == "standard"]
+    figure = f"{verdicts.count('pass')} of {len(verdicts)} test purposes"
+    is_whole = bool(verdicts) and "CONFORMANCE_ONLY" not in os.environ
+    if not is_whole or figure in (TOP / "README.md").read_text():
+        return []
+    return [f"README.md does not say {figure}"]
+
+
+def unit_tests() -> int:
+    """The tests of the tester's own parts. Returns how many there are."""
+    folder = str(TOP / "tester")
+    tests = unittest.defaultTestLoader.discover(f"{folder}/tests", top_level_dir=folder)
+    result = unittest.TextTestRunner(stream=sys.stderr, verbosity=0).run(tests)
+    assert result.wasSuccessful() and result.testsRun
+    return result.testsRun
+
+
+def main():
+    program, daemon = sys.argv[1:3]
+    purposes = {path.stem: read_purpose(path) for path in sorted(SUITE.glob("*.toml"))}
+    tested = unit_tests()
+    began = time.monotonic()
+    with tempfile.TemporaryDirectory() as room:
+        runs = plan(purposes, program, daemon, room)
+        first, campaign_wrong = play_all(runs)
+        outcomes, again = play_again(first, purposes)
+        for attempt in range(1, 1 + len(AGAIN)):
+            if campaign_wrong:
+                campaign_wrong = play_campaign(len(runs), program, room, attempt)
+    wrong = [o.line for o in outcomes if is_wrong(o, purposes)]
+    wrong += wrong_in_readme(outcomes) + ([campaign_wrong] if campaign_wrong else [])
+    print("".join(f"{line}\n" for line in wrong), end="")
+    print(
+        f"{len(purposes)} purposes, {tested} tests, {len(outcomes)} runs in"
+        f" {time.monotonic() - began:.0f} s, {again} of them again: {figures(outcomes)};"
+        f" {len(wrong)} not as expected"
+    )
+    return 1 if wrong else 0
+
+
+if __name__ == "__main__":
+    sys.exit(main())

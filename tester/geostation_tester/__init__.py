@@ -1,0 +1,9 @@
+"""A tester of GeoNetworking stations on a link: it plays test purposes and records what happens.
+
+- `purposes`: test purposes, read from TOML
+- `neighbours`: the tester's own stations, and the frames that they send
+- `play`: what is sent when
+- `bench`: an interface, and the clock
+- `recording`: a pcapng file with a comment per record
+- `reports`: lines, JUnit XML and TAP
+"""

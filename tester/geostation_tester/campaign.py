@@ -1,0 +1,79 @@
+"""A test campaign: purposes that are played one after the other, recorded, and then judged."""
+
+from __future__ import annotations
+
+import sys
+import time
+from pathlib import Path
+from typing import NamedTuple, TextIO
+
+from .bench import Bench
+from .purposes import JUDGED, Purpose
+from .recording import Recording
+from .results import Played, Result, result_of
+from .station_file import StationFile
+from .upper import NoUpper, Upper
+from .verdicts import NoVerdict, duties_judged, verdicts_on
+
+MILLISECOND = 1_000_000  # ns
+NOTHING_SENT = "the station under test sent nothing in the preamble"
+
+
+class Setting(NamedTuple):
+    """The bench. The recording is `record`, and the station file with its claims beside it."""
+
+    interface: str
+    station: StationFile
+    record: Path
+    program: str
+    upper: Upper | None = None
+
+    @property
+    def claims(self) -> Path:
+        return self.record.with_suffix(".iut.toml")
+
+
+def play(bench: Bench, purpose: Purpose) -> Played:
+    lacks = bench.station.lacks(purpose.needs, bench.upper is not None)
+    if lacks:
+        return Played(purpose, [], [], f"needs {', '.join(lacks)}", False, 0.0)
+    began = time.monotonic()
+    is_there, records = bench.preamble(purpose)
+    why = "" if is_there else NOTHING_SENT
+    if is_there:
+        try:
+            bench.play(purpose, records)
+        except NoUpper as refusal:
+            why = f"the upper tester: {refusal}"
+    delivered = bench.upper.events() if bench.upper else []
+    return Played(purpose, records, delivered, why, True, time.monotonic() - began)
+
+
+def expect_judge(setting: Setting) -> None:
+    """Fails before anything is played if the program refuses the station file, or does not judge
+    the duties of the purposes. The recording is empty."""
+    setting.claims.write_text(setting.station.text(time.time_ns() // MILLISECOND))
+    judged = duties_judged(str(setting.record), str(setting.claims), setting.program)
+    if missing := [duty for duty in JUDGED if duty not in judged]:
+        raise NoVerdict(f"{setting.program} verdict does not judge {', '.join(missing)}")
+
+
+def record(setting: Setting, purposes: list[Purpose], progress: TextIO) -> list[Played]:
+    """Plays all purposes. Writes the recording, and the station file with the claims of a bench."""
+    played = []
+    with open(setting.record, "wb") as out:
+        recording = Recording(out)
+        expect_judge(setting)
+        bench = Bench(setting.interface, setting.station, recording, setting.upper)
+        for k, purpose in enumerate(purposes, 1):
+            print(f"{k} of {len(purposes)}: {purpose.name}", file=progress, flush=True)
+            played.append(play(bench, purpose))
+        bench.close()
+    setting.claims.write_text(setting.station.text(time.time_ns() // MILLISECOND))
+    return played
+
+
+def run(setting: Setting, purposes: list[Purpose], progress: TextIO = sys.stderr) -> list[Result]:
+    played = record(setting, purposes, progress)
+    verdicts = verdicts_on(str(setting.record), str(setting.claims), setting.program)
+    return [result_of(p, setting.station, verdicts) for p in played]

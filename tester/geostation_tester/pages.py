@@ -1,0 +1,83 @@
+"""The page of all purposes."""
+
+from __future__ import annotations
+
+from collections import Counter
+
+from .expected import (
+    Asked,
+    Deliveries,
+    Expectation,
+    Numbers,
+    Position,
+    Quiet,
+    Relays,
+    Silence,
+)
+from .play import steps
+from .purposes import Purpose
+
+HEAD = (
+    "| Purpose | Group | Clause | What | Frames | Expected | s | By the verdict | By the tester |\n"
+    "|---|---|---|---|---|---|---|---|---|\n"
+)
+TOP = """# Test purposes
+
+<!-- Written by checks/docs --write from the purposes in tester/suite. -->
+
+After this page you know which purposes [the tester](TESTER.md) has. *Group* is the nearest one of
+TS 102 871-2, from memory. *Frames*: what the tester sends. *s*: how long it takes at most, in
+seconds, with the wait for a first beacon. *By the verdict*: the duties that `geostation verdict`
+has to pass. *By the tester*: the duties for which the tester compares frames with what is expected.
+These are checked, not proved. A purpose that is *reported* never fails by what the tester compares.
+
+"""
+
+
+def seconds(purpose: Purpose) -> int:
+    """How long it takes, with the wait of the preamble for a beacon."""
+    return round((purpose.length() + purpose.settle) / 1000) + 4
+
+
+def frames(purpose: Purpose) -> str:
+    """How many frames of each kind are sent."""
+    counts = Counter(step.action.do for step in steps(purpose))
+    return ", ".join(f"{count} {kind}" for kind, count in counts.items())
+
+
+def aims(e: Expectation) -> str:
+    """The duties for which an expectation compares."""
+    match e:
+        case Relays():
+            return e.duty + (" D19" if e.to else "") + (" D22" if e.after else "")
+        case Silence():
+            return "D11"
+        case Deliveries():
+            return "delivery"
+        case Asked():
+            return "request D12" if e.to else "request"
+        case Numbers():
+            return "D6"
+        case Quiet():
+            return "D10"
+        case Position():
+            return "D9"
+
+
+def by_the_tester(purpose: Purpose) -> str:
+    words = " ".join(aims(e) for e in purpose.expectations).split()
+    return " ".join(dict.fromkeys(words))
+
+
+def row(p: Purpose) -> str:
+    verdict = "reported" if p.report else " ".join(p.duties)
+    cells = [p.name, p.group, p.clause, p.title, frames(p), p.expected, str(seconds(p)), verdict]
+    return "| " + " | ".join([*cells, by_the_tester(p)]) + " |\n"
+
+
+def table(purposes: list[Purpose]) -> str:
+    return HEAD + "".join(map(row, purposes))
+
+
+def page(purposes: list[Purpose]) -> str:
+    return TOP + table(purposes)

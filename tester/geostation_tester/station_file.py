@@ -1,0 +1,85 @@
+"""The station file of `geostation verdict`: what a purpose asks of it, and the copy with the claims
+of a bench. `geostation verdict` says what a claim means, and refuses wrong keys."""
+
+from __future__ import annotations
+
+import json
+from dataclasses import dataclass
+from pathlib import Path
+
+from .areas import Place
+from .tables import Table, read_file
+
+CONTENTION, OTHER = "cbf", "other"  # values of `area`
+# What a purpose may need of the station: without it the purpose is not applicable.
+NEEDS = {
+    "simple": lambda claims: claims.get("area") == "simple",
+    "contention": lambda claims: claims.get("area") == CONTENTION,
+    "greedy": lambda claims: claims.get("elsewhere") == "greedy",
+    "remember 8": lambda claims: claims.get("remember", 8) == 8,
+    "capacity 16": lambda claims: claims.get("capacity", 0) >= 16,
+    "life 20000": lambda claims: claims.get("life", 20_000) == 20_000,
+    "unlimited": lambda claims: claims.get("unlimited", False) is True,
+    "gapless": lambda claims: claims.get("gapless", False) is True,
+    "profile": lambda claims: claims.get("profile", False) is True,
+}
+UPPER = "upper"  # of these needs, the one that isn't a claim: an upper tester
+# The tester made every frame, and its own port is the tap.
+BENCH = {"sent": True, "received": True, "delivered": True}
+
+
+@dataclass(frozen=True)
+class StationFile:
+    """`within` is the greatest time from a reception to the frame that it causes, `life` that of a
+    location table entry, both in ms."""
+
+    address: bytes
+    mac: bytes
+    place: Place
+    within: int
+    life: int
+    station: dict
+    claims: dict
+    capture: dict
+
+    def lacks(self, needs: tuple[str, ...], has_upper: bool) -> list[str]:
+        claims = (need for need in needs if need != UPPER)
+        lacking = [need for need in claims if not NEEDS[need](self.claims)]
+        return lacking + ([UPPER] if UPPER in needs and not has_upper else [])
+
+    def text(self, until: int) -> str:
+        """The file with the claims of a bench, and the time up to which its recording is complete,
+        in ms since 1970. `geostation verdict` does not know contention yet."""
+        contends = self.claims.get("area") == CONTENTION
+        parts = {
+            "station": self.station,
+            "claims": {**self.claims, "area": OTHER} if contends else self.claims,
+            "capture": {**self.capture, **BENCH, "until": until},
+        }
+        lines = (f"[{name}]\n" + "".join(map(line, part.items())) for name, part in parts.items())
+        return "\n".join(lines)
+
+
+def line(item: tuple[str, object]) -> str:
+    """Strings, whole numbers and truth values are written as in JSON."""
+    return f"{item[0]} = {json.dumps(item[1])}\n"
+
+
+def read_station_file(path: Path) -> StationFile:
+    t = read_file(path)
+    tables = {name: t.table(name) for name in ("station", "claims", "capture")}
+    kept = {name: dict(part.values) if part else {} for name, part in tables.items()}
+    station = tables["station"]
+    if station is None:
+        raise t.wrong("station is missing")
+    address = station.octets("address")
+    if len(address) != 8:
+        raise station.wrong("address is not 16 hexadecimal digits")
+    mac = station.mac("mac", address[2:].hex())
+    place = (
+        station.whole("lat", -900_000_000, 900_000_000),
+        station.whole("lon", -1_800_000_000, 1_800_000_000),
+    )
+    within = kept["capture"].get("within", 50)
+    life = kept["claims"].get("life", 20_000)
+    return StationFile(address, mac, place, within, life, *kept.values())

@@ -1,0 +1,154 @@
+"""An upper tester: it makes the station under test send, and sees what it delivers.
+
+Two kinds: the lines of JSON of `geostation-link --listen`, and the datagrams of TR 103 099, from
+memory, as examples/upper-tester has them.
+"""
+
+from __future__ import annotations
+
+import json
+import select
+import socket
+import struct
+from typing import NamedTuple, Protocol
+
+from .actions import Action
+from .areas import SHAPES, Place, moved
+from .frames import lifetime_of
+
+PATIENCE = 5.0  # s
+TRIGGERS = {"gbc": 0x51, "gac": 0x52, "shb": 0x53}
+CHANGE_POSITION, EVENT = 0x02, b"\x55"
+RESULTS = (b"\x03\x01", b"\x41\x01")
+HOPS = 10
+
+
+class NoUpper(Exception):
+    """The upper tester does not answer, or refuses."""
+
+
+class Delivered(NamedTuple):
+    port: int
+    payload: bytes
+
+
+class Upper(Protocol):
+    def ask(self, action: Action, home: Place) -> None: ...
+
+    def events(self) -> list[Delivered]:
+        """What was delivered since the last call."""
+        ...
+
+
+def place_of(action: Action, home: Place) -> Place:
+    return moved(home, action.fields.north or 0, action.fields.east or 0)
+
+
+class JsonUpper:
+    """`geostation-link --listen PATH`."""
+
+    def __init__(self, path: str):
+        self.socket = socket.socket(socket.AF_UNIX)
+        self.socket.settimeout(PATIENCE)
+        self.socket.connect(path)
+        self.rest, self.delivered = b"", []
+
+    def read(self) -> list[dict]:
+        """The answers among the lines that have arrived."""
+        got = self.socket.recv(65536)
+        if not got:
+            raise NoUpper("the upper tester closed its socket")
+        *lines, self.rest = (self.rest + got).split(b"\n")
+        found = [json.loads(line) for line in lines]
+        self.delivered += [
+            Delivered(line["port"], bytes.fromhex(line["payload"]))
+            for line in found
+            if line.get("event") == "delivered"
+        ]
+        return [line for line in found if "event" not in line]
+
+    def ask(self, action: Action, home: Place) -> None:
+        self.socket.sendall(json.dumps(request_of(action, home)).encode() + b"\n")
+        while not (answers := self.read()):
+            pass
+        if answers[0].get("result") not in ("sent", "opened", "moved"):
+            raise NoUpper(f"{action.ask}: {answers[0]}")
+
+    def events(self) -> list[Delivered]:
+        while select.select([self.socket], [], [], 0)[0]:
+            self.read()
+        found, self.delivered = self.delivered, []
+        return found
+
+
+def request_of(action: Action, home: Place) -> dict:
+    fields, area = action.fields, action.area
+    if action.ask == "open":
+        return {"do": "open", "port": action.port}
+    if action.ask == "move":
+        latitude, longitude = place_of(action, home)
+        keys = {"do": "move", "lat": latitude, "lon": longitude}
+        return {**keys, "pai": True, "speed": 0, "heading": 0}
+    keys = {"do": action.ask, "port": action.port, "info": 0, "tc": fields.traffic_class}
+    if area is not None:
+        latitude, longitude = moved(home, area.north, area.east)
+        hops = HOPS if fields.hops is None else fields.hops
+        keys |= {"lt": fields.lifetime, "hops": hops, "shape": SHAPES[area.shape]}
+        keys |= {"alat": latitude, "alon": longitude, "a": area.a, "b": area.b}
+        keys |= {"angle": area.angle}
+    return {**keys, "payload": action.payload.hex()}
+
+
+class UdpUpper:
+    """A service of TR 103 099 at HOST:PORT. It has its ports open."""
+
+    def __init__(self, host: str, port: int):
+        self.socket = socket.socket(socket.AF_INET, socket.SOCK_DGRAM)
+        self.socket.settimeout(PATIENCE)
+        self.socket.connect((host, port))
+        self.place: Place | None = None
+        self.delivered: list[Delivered] = []
+
+    def read(self) -> bytes:
+        """The next message, or nothing if it is an event."""
+        message = self.socket.recv(65536)
+        if message[:1] != EVENT:
+            return message
+        if len(message) >= 5:
+            self.delivered.append(Delivered(*struct.unpack_from(">H", message, 3), message[7:]))
+        return b""
+
+    def message_of(self, action: Action, home: Place) -> bytes:
+        """A port is open already. A move by nothing says where events go."""
+        if action.ask in ("move", "open"):
+            before = self.place or home
+            self.place = place_of(action, home) if action.ask == "move" else before
+            north, east = (a - b for a, b in zip(self.place, before))
+            return struct.pack(">Biib", CHANGE_POSITION, north, east, 0)
+        return trigger_of(action, home)
+
+    def ask(self, action: Action, home: Place) -> None:
+        self.socket.send(self.message_of(action, home))
+        while not (answer := self.read()):
+            pass
+        if answer not in RESULTS:
+            raise NoUpper(f"{action.ask}: {answer.hex()}")
+
+    def events(self) -> list[Delivered]:
+        while select.select([self.socket], [], [], 0)[0]:
+            self.read()
+        found, self.delivered = self.delivered, []
+        return found
+
+
+def trigger_of(action: Action, home: Place) -> bytes:
+    fields, area = action.fields, action.area
+    payload = struct.pack(">HH", action.port, 0) + action.payload
+    code = TRIGGERS[action.ask]
+    if area is None:
+        return struct.pack(">BBH", code, fields.traffic_class, len(payload)) + payload
+    lifetime = lifetime_of(fields.lifetime)
+    head = struct.pack(">BBHB3x", code, area.shape, lifetime, fields.traffic_class)
+    where = struct.pack(">ii", *moved(home, area.north, area.east))
+    size = struct.pack(">HHHH", area.a, area.b, area.angle, len(payload))
+    return head + where + size + payload
