@@ -1,6 +1,8 @@
 """The pages that are written from the sources: one for each crate, which the repository has in
-docs/proof, and one of all definitions, which it does not have.
+docs/proof, one of the purposes of the tester, and one of all definitions, which it does not have.
 """
+
+import sys
 
 import proved
 import specs
@@ -8,6 +10,8 @@ from program import TOP, crate_names
 
 WRITTEN = TOP / "out"
 PROOF = TOP / "docs/proof"
+TESTER, PURPOSES = TOP / "tester", TOP / "docs/PURPOSES.md"
+MARKS = (proved.MARK, "<!-- Written by checks/docs --write from the purposes in tester/suite. -->")
 
 
 def write_pages(top):
@@ -34,18 +38,31 @@ def crate_pages():
 
 def is_written(path):
     """Whether a page is written from the sources."""
-    return proved.MARK in path.read_text()
+    text = path.read_text()
+    return any(mark in text for mark in MARKS)
+
+
+def page_of_purposes():
+    """The text of the page of purposes."""
+    sys.path.insert(1, str(TESTER))
+    from geostation_tester.pages import page
+    from geostation_tester.purposes import read_purpose
+
+    return page([read_purpose(path) for path in sorted((TESTER / "suite").glob("*.toml"))])
 
 
 def stale(pages):
     """The kept pages that are not what the sources say."""
     kept = {path for path in PROOF.glob("*.md") if is_written(path)}
     fresh = {path for path, page in pages.items() if path in kept and path.read_text() == page.text}
+    if not PURPOSES.exists() or PURPOSES.read_text() != page_of_purposes():
+        kept.add(PURPOSES)
     return sorted(str(path.relative_to(TOP)) for path in {*kept, *pages} - fresh)
 
 
 def write_crate_pages(pages):
-    """Writes the pages of the crates, and removes those of crates that are gone."""
+    """Writes the pages of the crates and of the purposes. Removes those of crates that are gone."""
+    PURPOSES.write_text(page_of_purposes())
     for path in PROOF.glob("*.md"):
         if is_written(path) and path not in pages:
             path.unlink()

@@ -89,6 +89,13 @@ def constants():
     link_sizes = {name: number_in(f"{link}/arguments.c", rf"o->station\.{name} = (\d+);")
                   for name in ("capacity", "remember")}
 
+    rule = re.search(r"const DEFAULT: ContentionRule = ContentionRule \{(.*?)\};",
+                     (TOP / "crates/its_contention/src/rule.rt").read_text(), re.S)[1]
+    least, most, reach = (re.search(rf"{name}: (\d+)", rule)[1]
+                          for name in ("min_wait", "max_wait", "range"))
+    in_scenarios = [constant("crates/sim_settings/src/air_keys.rt", f"USUAL_{name}")
+                    for name in ("MIN_WAIT", "MAX_WAIT", "RANGE")]
+
     def alike(text):
         return (str(text),) * 3
 
@@ -113,6 +120,9 @@ def constants():
         "the same per source": (*[rate("CHANNEL_SOURCE")] * 2, "none"),
         "own packets per second, at once": (*[rate("CHANNEL_OWN")] * 2, "none"),
         "greatest RHL that is forwarded": (hops, hops, "none"),
+        "itsGnCbfMinTime, CbfMaxTime, DefaultMaxCommunicationRange, BroadcastCBFDefSectorAngle":
+            (*[f"{least} ms, {most} ms, {reach} m, none"] * 2,
+             "{} ms, {} ms, {} m, none".format(*in_scenarios)),
     }  # fmt: skip
 
 

@@ -17,7 +17,7 @@ from failing import DATA, NO_MEMORY, Run, make, map_all
 # So many of the first allocations fail in turn, and behind them as many more, evenly spread.
 FIRST = 200
 # These print as they go, so the first of their lines may stand there where memory runs out.
-STREAM = {"show", "check", "stats", "sim", "view", "mesh", "replay", "station"}
+STREAM = {"show", "check", "stats", "sim", "view", "mesh", "replay", "verdict", "station"}
 # These have all the memory that they need before they print the last line.
 EARLY = {"show", "check"}
 
@@ -128,6 +128,8 @@ RUNS = [
     Run(f"replay data/gbc.cap {SECOND} --port 2002"),
     Run(f"replay hi.cap {SECOND} --port 2002 --frames made.cap", REPLAYED, makes="made.cap"),
     Run(f"replay --signed --count 2 data/signed.pcap {SECOND} --port 2002"),
+    Run("verdict --all data/verdict/iut.toml data/verdict/iut.cap", status=1),
+    Run("verdict --json data/verdict/iut.toml empty"),
     Run(f"station {SECOND} --capacity 1 --remember 1", ANSWERS, 1, typed=TYPED),
 ]
 

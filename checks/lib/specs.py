@@ -14,8 +14,8 @@ HEAD = """# Definitions, by crate
 <!-- Written by checks/docs from the sources. -->
 
 These are the definitions that the clauses of the crates use, in the words of their comments.
-[DEFINITIONS.md]({proof}/DEFINITIONS.md) explains the notation, and how to read those of the
-protocol and of geometry.
+[READING.md]({proof}/READING.md) explains the notation,
+[DEFINITIONS.md]({proof}/DEFINITIONS.md) how to read those of the protocol and of geometry.
 """
 KEYWORDS = {"abbrev", "unfoldable", "pub", "record", "data"}
 
