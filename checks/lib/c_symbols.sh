@@ -60,15 +60,7 @@ $cc $flags -o "$work/linked" "$work/own.c" $(pkg-config --libs geostation) || fa
 LD_LIBRARY_PATH="$prefix/lib" "$work/linked" || fail "a program over the shared library"
 readelf -d "$work/linked" | grep -q "NEEDED.*$soname" || fail "not the shared library"
 
-# What docs/C.md says that the archive needs, and no more. Compilers may add to it with a stack
-# protector or the like, which is the C library's.
-needed="calloc free malloc memcpy memmove memset realloc snprintf"
-nm -u "$prefix/lib/libgeostation.a" | awk 'NF == 2 && $1 == "U" { print $2 }' | sort -u \
-    > "$work/undefined"
-for name in $(grep -v '^_' "$work/undefined"); do
-    case " $needed " in *" $name "*) ;; *) fail "the archive needs $name" ;; esac
-    grep -q "\`$name\`" "$top/docs/C.md" || fail "docs/C.md doesn't say that it needs $name"
-done
+check_needs nm "$prefix/lib/libgeostation.a"
 
 # The compile lines of docs/C.md, with the program of that page. The static one needs a libc.a.
 mkdir "$work/page"
