@@ -1,8 +1,8 @@
 # shellcheck shell=sh disable=SC2154
-# What the archive for C needs is what docs/C.md says, and no more: `check_needs NM ARCHIVE`. Compilers
-# may add to it with a stack protector or the like, which is the C library's: such names begin with an
-# underscore. What one compiler calls another writes out, so an archive may need less. A part of
-# checks/c and checks/arm, which set $top and $work, and have the function `fail`.
+# What the archive for C needs is what docs/C.md says, and no more: `check_needs NM ARCHIVE`. Names that
+# begin with an underscore are of the compiler's own library, as the 128-bit division, or come with a
+# stack protector or the like. What one compiler calls another writes out, so an archive may need less.
+# A part of checks/c and checks/arm, which set $top and $work, and have the function `fail`.
 check_needs() {
     "$1" -u "$2" | awk 'NF == 2 && $1 == "U" { print $2 }' | sort -u > "$work/undefined"
     grep -q '^malloc$' "$work/undefined" || fail "the archive needs no malloc"
