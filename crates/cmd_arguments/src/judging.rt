@@ -6,7 +6,7 @@ use cmd_verdict::{Claim, ClaimSet, DutyFault, DutySet, Printing};
 
 /// The claims that `--assume` names. The fault is that of the first unknown one.
 pub fn claims_of<'a>(matches: &ArgMatches<'a>) -> Result<ClaimSet, BadArgument<'a>> {
-    let mut claims = ClaimSet::default();
+    let mut claims = ClaimSet::none();
     for name in matches.get_strs("assume").unwrap_or(&[]) {
         match Claim::named(name) {
             Some(claim) => claims = claims.with(claim),

@@ -37,6 +37,11 @@ impl Outcome {
     }
 }
 
+/// Whether a verdict is a fail.
+pub(crate) fn is_fail(verdict: &Verdict) -> bool {
+    matches!(verdict, Verdict::Fail(_))
+}
+
 /// The claims and keys with which a verdict would be a pass or a fail.
 #[derive(Clone, Copy, Default)]
 pub(crate) struct Needs {

@@ -73,105 +73,73 @@ impl Claim {
             Claim::Profile => claims.profile,
         }
     }
+
+    /// These claims with this one true.
+    fn made_in(self, claims: &Claims) -> Claims {
+        let mut made = *claims;
+        match self {
+            Claim::Sent => made.sent = true,
+            Claim::Received => made.received = true,
+            Claim::Delivered => made.delivered = true,
+            Claim::Fresh => made.fresh = true,
+            Claim::Steady => made.steady = true,
+            Claim::Gapless => made.gapless = true,
+            Claim::Unlimited => made.unlimited = true,
+            Claim::Unbuffered => made.unbuffered = true,
+            Claim::Profile => made.profile = true,
+        }
+        made
+    }
 }
 
-/// Claims that are assumed.
-#[derive(Clone, Copy, Debug, Default, PartialEq, Eq)]
-pub struct ClaimSet {
-    sent: bool,
-    received: bool,
-    delivered: bool,
-    fresh: bool,
-    steady: bool,
-    gapless: bool,
-    unlimited: bool,
-    unbuffered: bool,
-    profile: bool,
-}
+/// Claims that are assumed: whether each is, at its place in `CLAIMS`.
+#[derive(Clone, Copy, Debug, PartialEq, Eq)]
+pub struct ClaimSet([bool; 9]);
 
 impl ClaimSet {
+    /// No claim.
+    pub fn none() -> ClaimSet {
+        ClaimSet([false; 9])
+    }
+
     /// The same claims and this one.
     pub fn with(self, claim: Claim) -> ClaimSet {
-        match claim {
-            Claim::Sent => ClaimSet { sent: true, ..self },
-            Claim::Received => ClaimSet {
-                received: true,
-                ..self
-            },
-            Claim::Delivered => ClaimSet {
-                delivered: true,
-                ..self
-            },
-            Claim::Fresh => ClaimSet {
-                fresh: true,
-                ..self
-            },
-            Claim::Steady => ClaimSet {
-                steady: true,
-                ..self
-            },
-            Claim::Gapless => ClaimSet {
-                gapless: true,
-                ..self
-            },
-            Claim::Unlimited => ClaimSet {
-                unlimited: true,
-                ..self
-            },
-            Claim::Unbuffered => ClaimSet {
-                unbuffered: true,
-                ..self
-            },
-            Claim::Profile => ClaimSet {
-                profile: true,
-                ..self
-            },
+        let mut set = self;
+        for (place, other) in CLAIMS.iter().enumerate() {
+            if *other == claim
+                && let Some(made) = set.0.get_mut(place)
+            {
+                *made = true;
+            }
         }
+        set
     }
 
     /// Whether a claim is one of them.
     pub(crate) fn has(self, claim: Claim) -> bool {
-        match claim {
-            Claim::Sent => self.sent,
-            Claim::Received => self.received,
-            Claim::Delivered => self.delivered,
-            Claim::Fresh => self.fresh,
-            Claim::Steady => self.steady,
-            Claim::Gapless => self.gapless,
-            Claim::Unlimited => self.unlimited,
-            Claim::Unbuffered => self.unbuffered,
-            Claim::Profile => self.profile,
-        }
+        let place = CLAIMS.iter().position(|other| *other == claim);
+        place.is_some_and(|place| self.0.get(place) == Some(&true))
     }
 
     /// Those that these claims don't have, each true.
     pub(crate) fn beyond(self, claims: &Claims) -> ClaimSet {
-        ClaimSet {
-            sent: self.sent && !claims.sent,
-            received: self.received && !claims.received,
-            delivered: self.delivered && !claims.delivered,
-            fresh: self.fresh && !claims.fresh,
-            steady: self.steady && !claims.steady,
-            gapless: self.gapless && !claims.gapless,
-            unlimited: self.unlimited && !claims.unlimited,
-            unbuffered: self.unbuffered && !claims.unbuffered,
-            profile: self.profile && !claims.profile,
+        let mut set = ClaimSet::none();
+        for claim in CLAIMS {
+            if self.has(claim) && !claim.is_made(claims) {
+                set = set.with(claim);
+            }
         }
+        set
     }
 
     /// These claims with each of the set true.
     pub(crate) fn assumed_in(self, claims: &Claims) -> Claims {
-        Claims {
-            sent: claims.sent || self.sent,
-            received: claims.received || self.received,
-            delivered: claims.delivered || self.delivered,
-            fresh: claims.fresh || self.fresh,
-            steady: claims.steady || self.steady,
-            gapless: claims.gapless || self.gapless,
-            unlimited: claims.unlimited || self.unlimited,
-            unbuffered: claims.unbuffered || self.unbuffered,
-            profile: claims.profile || self.profile,
-            ..*claims
+        let mut all = *claims;
+        for claim in CLAIMS {
+            if self.has(claim) {
+                all = claim.made_in(&all);
+            }
         }
+        all
     }
 }

@@ -1,7 +1,7 @@
 //! The first line: what is claimed and assumed, and with which values.
 
 use crate::claim::{CLAIMS, ClaimSet};
-use crate::station_file::{StampClock, StationFile};
+use crate::station_file::{StampClock, StationFile, USUAL_CLOCK_ERROR, usual_claims};
 use its_duties::{AreaForwarding, BeaconReset, Claims, NonAreaForwarding, SequenceModulus};
 use std::fmt;
 
@@ -198,10 +198,12 @@ impl KeyValue {
 
 /// The values of all keys of claims and of the capture, with these claims.
 fn values_of(file: &StationFile, claims: &Claims) -> [KeyValue; 28] {
-    let [area, elsewhere, remember, life, capacity, profile, interval] = forwarding_values(claims);
-    let [jitter, reset, lifetime, modulus, gapless, rate] = sending_values(claims);
+    let usual = usual_claims(claims.address);
+    let [area, elsewhere, remember, life, capacity, profile, interval] =
+        forwarding_values(claims, &usual);
+    let [jitter, reset, lifetime, modulus, gapless, rate] = sending_values(claims, &usual);
     let [steady, fresh, unlimited, unbuffered] = claim_values(claims);
-    let [sent, received, delivered, within, queue, skew] = capture_values(claims);
+    let [sent, received, delivered, within, queue, skew] = capture_values(claims, &usual);
     let [clock, clock_error, until, tap, interface] = clock_values(file, claims);
     [
         area,
@@ -235,8 +237,8 @@ fn values_of(file: &StationFile, claims: &Claims) -> [KeyValue; 28] {
     ]
 }
 
-/// The values of what a station forwards.
-fn forwarding_values(claims: &Claims) -> [KeyValue; 7] {
+/// The values of what a station forwards, beside the defaults.
+fn forwarding_values(claims: &Claims, usual: &Claims) -> [KeyValue; 7] {
     let area = match claims.area {
         AreaForwarding::Simple => "simple",
         AreaForwarding::Other => "other",
@@ -254,16 +256,16 @@ fn forwarding_values(claims: &Claims) -> [KeyValue; 7] {
             model: Some(Shown::Word("greedy")),
             ..KeyValue::word("elsewhere", elsewhere, "other")
         },
-        KeyValue::number("remember", claims.remember, 8),
-        KeyValue::constant("life", claims.life, 20_000),
+        KeyValue::number("remember", claims.remember, usual.remember),
+        KeyValue::constant("life", claims.life, usual.life),
         KeyValue::optional("capacity", claims.capacity.map(u64::from)),
         KeyValue::claim("profile", claims.profile),
-        KeyValue::constant("interval", claims.interval, 3000),
+        KeyValue::constant("interval", claims.interval, usual.interval),
     ]
 }
 
-/// The values of what a station sends by itself.
-fn sending_values(claims: &Claims) -> [KeyValue; 6] {
+/// The values of what a station sends by itself, beside the defaults.
+fn sending_values(claims: &Claims, usual: &Claims) -> [KeyValue; 6] {
     let reset = match claims.reset {
         Some(BeaconReset::Any) => Shown::Word("any"),
         Some(BeaconReset::Shb) => Shown::Word("shb"),
@@ -275,20 +277,20 @@ fn sending_values(claims: &Claims) -> [KeyValue; 6] {
         None => None,
     };
     [
-        KeyValue::constant("jitter", claims.jitter, 750),
+        KeyValue::constant("jitter", claims.jitter, usual.jitter),
         KeyValue {
             key: "reset",
             shown: reset,
             default: Usual::Absent,
             model: None,
         },
-        KeyValue::constant("lifetime", claims.lifetime, 60_000),
+        KeyValue::constant("lifetime", claims.lifetime, usual.lifetime),
         KeyValue {
             model: Some(Shown::Number(65536)),
             ..KeyValue::optional("modulus", modulus)
         },
         KeyValue::claim("gapless", claims.gapless),
-        KeyValue::number("rate", claims.rate, 1000),
+        KeyValue::number("rate", claims.rate, usual.rate),
     ]
 }
 
@@ -302,15 +304,15 @@ fn claim_values(claims: &Claims) -> [KeyValue; 4] {
     ]
 }
 
-/// The values of a capture.
-fn capture_values(claims: &Claims) -> [KeyValue; 6] {
+/// The values of a capture, beside the defaults.
+fn capture_values(claims: &Claims, usual: &Claims) -> [KeyValue; 6] {
     [
         KeyValue::claim("sent", claims.sent),
         KeyValue::claim("received", claims.received),
         KeyValue::claim("delivered", claims.delivered),
-        KeyValue::number("within", claims.within, 50),
-        KeyValue::number("queue", claims.queue, 5),
-        KeyValue::number("skew", claims.skew, 1),
+        KeyValue::number("within", claims.within, usual.within),
+        KeyValue::number("queue", claims.queue, usual.queue),
+        KeyValue::number("skew", claims.skew, usual.skew),
     ]
 }
 
@@ -322,7 +324,7 @@ fn clock_values(file: &StationFile, claims: &Claims) -> [KeyValue; 5] {
     };
     [
         KeyValue::word("clock", clock, "none"),
-        KeyValue::number("clock_error", file.clock_error, 50),
+        KeyValue::number("clock_error", file.clock_error, USUAL_CLOCK_ERROR),
         KeyValue::optional("until", claims.until),
         KeyValue::number("tap", 0, 0),
         KeyValue::optional("interface", claims.interface.map(u64::from)),

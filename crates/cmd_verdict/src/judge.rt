@@ -1,21 +1,24 @@
 //! The verdicts on the records of a capture, in the order of the records.
 
 use crate::arrivals::Arrivals;
-use crate::case::{Case, Needs};
+use crate::case::{Case, Needs, is_fail};
+use crate::frame_cases::{
+    form_case, hops_case, kind_case, lifetime_case, link_target_case, mobile_case,
+};
 use crate::heard::HeardPackets;
 use crate::own_packets::{OwnPackets, StepFrom};
-use crate::relays::{FoundOrigin, Nearest, Relay, find_origin};
+use crate::relay_cases::{faithful_case, in_time_case};
+use crate::relays::{Relay, find_origin};
 use crate::repeats::{RETRY_TIME, Repeats};
 use crate::reporter::CaseSink;
 use crate::role::{Role, may_be_own, role_of};
 use crate::seen_record::SeenRecord;
 use crate::text::Text;
-use crate::unread::{UnreadIn, UnreadRecord, UnreadRecords};
+use crate::unread::{UnreadRecord, UnreadRecords};
 use cmd_reporting::Fault;
 use its_duties::{
-    AreaForwarding, BeaconGap, Claims, Doubt, Duty, PacketOrigin, Verdict, doubt_between,
-    judge_beacon, judge_faithful, judge_form, judge_hops, judge_in_time, judge_kind,
-    judge_lifetime, judge_link_target, judge_mobile, judge_numbers, longest, slack, wait,
+    BeaconGap, Claims, Doubt, Duty, Verdict, doubt_between, judge_beacon, judge_faithful,
+    judge_numbers, longest, slack, wait,
 };
 use its_headers::Kind;
 use its_linkframe::{FrameFault, FrameView};
@@ -384,75 +387,6 @@ impl Judge {
     }
 }
 
-/// Whether a verdict is a fail.
-fn is_fail(verdict: &Verdict) -> bool {
-    matches!(verdict, Verdict::Fail(_))
-}
-
-/// The verdict on the form of a record.
-fn form_case(claims: &Claims, record: &SeenRecord) -> Case {
-    let octets = record.octets.as_slice();
-    let verdict = judge_form(claims, record.cut, octets);
-    let text = match (verdict, record.frame()) {
-        (Verdict::Pass, _) => Text::Packet,
-        _ if record.cut => Text::Cut,
-        (Verdict::Fail(_), Err(fault)) => Text::Fault(fault),
-        (Verdict::Inconclusive(doubt), Err(fault)) => form_doubt(doubt, fault),
-        (_, Ok(_)) => Text::Packet,
-    };
-    Case::of(Duty::Form, verdict, text)
-}
-
-/// Why the form of octets with this fault isn't known.
-fn form_doubt(doubt: Doubt, fault: FrameFault) -> Text {
-    match doubt {
-        Doubt::NotRead(_) => Text::NotReadFault(fault),
-        _ => Text::OutsideProfile(fault),
-    }
-}
-
-/// The verdict on a link target.
-fn link_target_case(frame: &FrameView<'_>, known_target: bool) -> Case {
-    let verdict = judge_link_target(frame, known_target);
-    let text = match verdict {
-        Verdict::Pass => Text::LinkAddresses,
-        Verdict::Fail(_) => Text::SentTo(frame.packet.kind(), frame.to),
-        Verdict::Inconclusive(_) => Text::NoLinkTarget,
-    };
-    Case::of(Duty::LinkTarget, verdict, text)
-}
-
-/// The verdict on the mobile bit.
-fn mobile_case(claims: &Claims, frame: &FrameView<'_>) -> Case {
-    let verdict = judge_mobile(claims, frame);
-    let text = match verdict {
-        Verdict::Pass | Verdict::Fail(_) => Text::MobileBit(frame.packet.mobile()),
-        Verdict::Inconclusive(_) => Text::NoMobile,
-    };
-    Case::of(Duty::Mobile, verdict, text).needing(Needs {
-        mobile: true,
-        ..Needs::default()
-    })
-}
-
-/// The verdict on hops.
-fn hops_case(frame: &FrameView<'_>) -> Case {
-    let hops = frame.packet.hops();
-    let text = Text::Hops(hops.left(), hops.max());
-    Case::of(Duty::Hops, judge_hops(frame), text)
-}
-
-/// The verdict on a lifetime.
-fn lifetime_case(claims: &Claims, frame: &FrameView<'_>) -> Case {
-    let verdict = judge_lifetime(claims, frame);
-    let millis = frame.packet.lifetime().millis();
-    let text = match verdict {
-        Verdict::Pass | Verdict::Fail(_) => Text::Lifetime(millis),
-        Verdict::Inconclusive(_) => Text::LifetimeDiffers(millis),
-    };
-    Case::of(Duty::Lifetime, verdict, text)
-}
-
 /// How many numbers were not seen.
 fn not_seen(doubt: Doubt) -> Text {
     match doubt {
@@ -481,114 +415,4 @@ fn beacon_needs(claims: &Claims, gap: BeaconGap) -> Needs {
         sent: judge_beacon(&sent, gap) == Verdict::Pass,
         ..Needs::default()
     }
-}
-
-/// The verdict on the kind of a forwarded packet.
-fn kind_case(frame: &FrameView<'_>) -> Case {
-    let verdict = judge_kind(frame);
-    let kind = frame.packet.kind();
-    let text = match verdict {
-        Verdict::Fail(_) => Text::Forwarded(kind, frame.packet.vector().address()),
-        Verdict::Pass | Verdict::Inconclusive(_) => Text::OfKind(kind),
-    };
-    Case::of(Duty::Kind, verdict, text)
-}
-
-/// The verdict on what a forwarded packet with this number was made from.
-fn faithful_case(
-    claims: &Claims,
-    frame: &FrameView<'_>,
-    number: u16,
-    found: &FoundOrigin,
-    verdict: Verdict,
-) -> Case {
-    if matches!(verdict, Verdict::Pass) {
-        return Case::of(Duty::Faithful, verdict, Text::OfRecord(found.cause));
-    }
-    let is_claimed = claims.received && claims.unbuffered && found.search.late;
-    let is_doubt = is_claimed && !is_fail(&verdict);
-    let text = doubt_of(found, is_doubt).unwrap_or(nearest_text(frame, number, found.nearest));
-    let case = Case::of(Duty::Faithful, verdict, text);
-    if is_claimed || !found.search.late || found.too_many {
-        return case;
-    }
-    if stays_unread(found.unread) {
-        return case;
-    }
-    case.needing(Needs {
-        profile: found.unread.is_some(),
-        unbuffered: !claims.unbuffered,
-        received: !claims.received,
-        ..Needs::default()
-    })
-}
-
-/// Why it isn't known what a forwarded packet was made from, though all is claimed that a fail needs.
-fn doubt_of(found: &FoundOrigin, is_doubt: bool) -> Option<Text> {
-    if !is_doubt {
-        return None;
-    }
-    match found.unread {
-        Some(unread) => Some(Text::NotRead(unread.first)),
-        None => found.too_many.then_some(Text::TooMany),
-    }
-}
-
-/// How a forwarded packet with this number differs from the nearest one that was heard.
-fn nearest_text(frame: &FrameView<'_>, number: u16, nearest: Nearest) -> Text {
-    match nearest {
-        Nearest::OtherHops(record, left, max) => {
-            Text::WrongHops(frame.packet.left(), left, max, record)
-        }
-        Nearest::Changed(record, octet) => Text::Changed(octet, record),
-        Nearest::None => Text::NeverReceived(frame.packet.vector().address(), number),
-    }
-}
-
-/// Whether something stays unread though the station processes only frames of the profile.
-fn stays_unread(unread: Option<UnreadIn>) -> bool {
-    match unread {
-        Some(unread) => unread.despite_profile,
-        None => false,
-    }
-}
-
-/// The verdict on the time of a forwarded packet.
-fn in_time_case(claims: &Claims, found: &FoundOrigin) -> Case {
-    let verdict = judge_in_time(claims, found.search);
-    let text = match found.search.origin {
-        PacketOrigin::InTime(since) => Text::After(since, found.cause),
-        PacketOrigin::Late(since) => Text::Late(since, found.cause),
-        PacketOrigin::NotHeard => Text::NotHeard,
-    };
-    let case = Case::of(Duty::InTime, verdict, text);
-    let is_late = matches!(found.search.origin, PacketOrigin::Late(_));
-    if !is_late || !found.search.sure {
-        return case;
-    }
-    late_case(claims, found, case)
-}
-
-/// The verdict on a late packet: with what it needs, or what isn't read.
-fn late_case(claims: &Claims, found: &FoundOrigin, case: Case) -> Case {
-    let is_simple = claims.area == AreaForwarding::Simple;
-    let is_claimed = claims.received && claims.unbuffered && is_simple;
-    if let Some(unread) = found.near_unread
-        && is_claimed
-    {
-        return Case {
-            text: Text::NotRead(unread.first),
-            ..case
-        };
-    }
-    if stays_unread(found.near_unread) {
-        return case;
-    }
-    case.needing(Needs {
-        area: !is_simple,
-        profile: found.near_unread.is_some(),
-        unbuffered: !claims.unbuffered,
-        received: !claims.received,
-        ..Needs::default()
-    })
 }

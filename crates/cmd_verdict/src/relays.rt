@@ -139,9 +139,7 @@ impl Sources {
             ..self
         }
     }
-}
 
-impl Sources {
     /// How a packet with this stamp was made from these, and the record that it was made from.
     fn origin(self, stamp: u64) -> (PacketOrigin, u64) {
         match (self.in_time, self.last) {

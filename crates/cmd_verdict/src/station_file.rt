@@ -38,6 +38,9 @@ const MOST_LIFETIME: u32 = 6_300_000;
 
 const MOST_WAIT: u32 = 60_000;
 
+/// How far stamps may be from their clock without a value, in milliseconds.
+pub(crate) const USUAL_CLOCK_ERROR: u32 = 50;
+
 const MOST_UNTIL: i64 = 9_223_372_036_854;
 
 /// A table of a station file, or none in its place.
@@ -193,7 +196,7 @@ impl StationFile {
         let capture = Keys::of(alloc, document, TableName::Capture)?;
         let claims = with_capture(&capture, claims)?;
         let clock = clock_of(&capture)?;
-        let clock_error = capture.number_or("clock_error", 0, MOST_WAIT, 50)?;
+        let clock_error = capture.number_or("clock_error", 0, MOST_WAIT, USUAL_CLOCK_ERROR)?;
         let claims = with_records(&capture, claims)?;
         Ok(StationFile {
             claims,
@@ -230,8 +233,8 @@ fn not_table<'f>(alloc: Global, name: &str) -> Result<StationFault<'f>, AllocErr
     Ok(StationFault::NotTable(String::from_str(alloc, name)?))
 }
 
-/// The claims of a station with this address, of which nothing else is claimed.
-fn no_claims(address: GnAddress) -> Claims {
+/// The claims of a station with this address, of which nothing else is claimed: each key has its default.
+pub(crate) fn usual_claims(address: GnAddress) -> Claims {
     Claims {
         address,
         mac: address.mid(),
@@ -270,14 +273,14 @@ fn no_claims(address: GnAddress) -> Claims {
 
 /// What the table of the station says.
 fn with_station<'f>(keys: &Keys<'_>) -> Result<Claims, StationFault<'f>> {
-    let claims = no_claims(address_of(keys)?);
+    let claims = usual_claims(address_of(keys)?);
     let mac = mac_of(keys)?.unwrap_or(claims.mac);
     let place = place_of(keys)?;
     Ok(Claims {
         mac,
         place,
-        accuracy: keys.number_or("accuracy", 0, 65535, 10)?,
-        tolerance: keys.number_or("tolerance", 0, 1000, 10)?,
+        accuracy: keys.number_or("accuracy", 0, 65535, claims.accuracy)?,
+        tolerance: keys.number_or("tolerance", 0, 1000, claims.tolerance)?,
         age: keys.number("age", 0, MOST_AGE)?,
         mobile: keys.truth_if_any("mobile")?,
         ..claims
@@ -345,8 +348,8 @@ fn with_forwarding<'f>(keys: &Keys<'_>, claims: Claims) -> Result<Claims, Statio
     Ok(Claims {
         area,
         elsewhere,
-        remember: keys.number_or("remember", 1, 256, 8)?,
-        life: keys.number_or("life", 1, MOST_LIFE, 20_000)?,
+        remember: keys.number_or("remember", 1, 256, claims.remember)?,
+        life: keys.number_or("life", 1, MOST_LIFE, claims.life)?,
         capacity: keys.number("capacity", 1, 4096)?,
         profile: keys.truth("profile")?,
         ..claims
@@ -355,8 +358,8 @@ fn with_forwarding<'f>(keys: &Keys<'_>, claims: Claims) -> Result<Claims, Statio
 
 /// What the table of claims says of what the station sends by itself.
 fn with_sending<'f>(keys: &Keys<'_>, claims: Claims) -> Result<Claims, StationFault<'f>> {
-    let interval = keys.number_or("interval", 0, MOST_LIFE, 3000)?;
-    let jitter = keys.number_or("jitter", 0, MOST_LIFE, 750)?;
+    let interval = keys.number_or("interval", 0, MOST_LIFE, claims.interval)?;
+    let jitter = keys.number_or("jitter", 0, MOST_LIFE, claims.jitter)?;
     let reset = match keys.is_first("reset", "any", "shb", "any, shb")? {
         Some(true) => Some(BeaconReset::Any),
         Some(false) => Some(BeaconReset::Shb),
@@ -366,10 +369,10 @@ fn with_sending<'f>(keys: &Keys<'_>, claims: Claims) -> Result<Claims, StationFa
         interval,
         jitter,
         reset,
-        lifetime: keys.number_or("lifetime", 0, MOST_LIFETIME, 60_000)?,
+        lifetime: keys.number_or("lifetime", 0, MOST_LIFETIME, claims.lifetime)?,
         modulus: modulus_of(keys)?,
         gapless: keys.truth("gapless")?,
-        rate: keys.number_or("rate", 1, 1_000_000, 1000)?,
+        rate: keys.number_or("rate", 1, 1_000_000, claims.rate)?,
         steady: keys.truth("steady")?,
         fresh: keys.truth("fresh")?,
         unlimited: keys.truth("unlimited")?,
@@ -396,9 +399,9 @@ fn with_capture<'f>(keys: &Keys<'_>, claims: Claims) -> Result<Claims, StationFa
         sent: keys.truth("sent")?,
         received: keys.truth("received")?,
         delivered: keys.truth("delivered")?,
-        within: keys.number_or("within", 0, MOST_WAIT, 50)?,
-        queue: keys.number_or("queue", 0, MOST_WAIT, 5)?,
-        skew: keys.number_or("skew", 0, MOST_WAIT, 1)?,
+        within: keys.number_or("within", 0, MOST_WAIT, claims.within)?,
+        queue: keys.number_or("queue", 0, MOST_WAIT, claims.queue)?,
+        skew: keys.number_or("skew", 0, MOST_WAIT, claims.skew)?,
         ..claims
     })
 }
