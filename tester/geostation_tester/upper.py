@@ -10,7 +10,8 @@ import json
 import select
 import socket
 import struct
-from typing import NamedTuple, Protocol
+from abc import ABC, abstractmethod
+from typing import NamedTuple
 
 from .actions import Action
 from .areas import SHAPES, Place, moved
@@ -32,29 +33,44 @@ class Delivered(NamedTuple):
     payload: bytes
 
 
-class Upper(Protocol):
-    def ask(self, action: Action, home: Place) -> None: ...
+class Upper(ABC):
+    """An upper tester at the other end of a socket. `delivered` has what it reported."""
+
+    def __init__(self, family: int, kind: int, address: str | tuple[str, int]):
+        self.socket = socket.socket(family, kind)
+        self.socket.settimeout(PATIENCE)
+        self.socket.connect(address)
+        self.delivered: list[Delivered] = []
+
+    @abstractmethod
+    def read(self) -> list[dict] | bytes:
+        """Waits for what arrives next. Adds what was delivered, and returns the answers."""
+
+    @abstractmethod
+    def ask(self, action: Action, home: Place) -> None:
+        """Asks for an action, and waits until it is done."""
 
     def events(self) -> list[Delivered]:
         """What was delivered since the last call."""
-        ...
+        while select.select([self.socket], [], [], 0)[0]:
+            self.read()
+        found, self.delivered = self.delivered, []
+        return found
 
 
 def place_of(action: Action, home: Place) -> Place:
     return moved(home, action.fields.north or 0, action.fields.east or 0)
 
 
-class JsonUpper:
+class JsonUpper(Upper):
     """`geostation-link --listen PATH`."""
 
     def __init__(self, path: str):
-        self.socket = socket.socket(socket.AF_UNIX)
-        self.socket.settimeout(PATIENCE)
-        self.socket.connect(path)
-        self.rest, self.delivered = b"", []
+        super().__init__(socket.AF_UNIX, socket.SOCK_STREAM, path)
+        self.rest = b""
 
     def read(self) -> list[dict]:
-        """The answers among the lines that have arrived."""
+        """Returns the answers among the lines that have arrived."""
         got = self.socket.recv(65536)
         if not got:
             raise NoUpper("the upper tester closed its socket")
@@ -73,12 +89,6 @@ class JsonUpper:
             pass
         if answers[0].get("result") not in ("sent", "opened", "moved"):
             raise NoUpper(f"{action.ask}: {answers[0]}")
-
-    def events(self) -> list[Delivered]:
-        while select.select([self.socket], [], [], 0)[0]:
-            self.read()
-        found, self.delivered = self.delivered, []
-        return found
 
 
 def request_of(action: Action, home: Place) -> dict:
@@ -99,18 +109,15 @@ def request_of(action: Action, home: Place) -> dict:
     return {**keys, "payload": action.payload.hex()}
 
 
-class UdpUpper:
+class UdpUpper(Upper):
     """A service of TR 103 099 at HOST:PORT. It has its ports open."""
 
     def __init__(self, host: str, port: int):
-        self.socket = socket.socket(socket.AF_INET, socket.SOCK_DGRAM)
-        self.socket.settimeout(PATIENCE)
-        self.socket.connect((host, port))
+        super().__init__(socket.AF_INET, socket.SOCK_DGRAM, (host, port))
         self.place: Place | None = None
-        self.delivered: list[Delivered] = []
 
     def read(self) -> bytes:
-        """The next message, or nothing if it is an event."""
+        """Returns the next message, or nothing if it is an event."""
         message = self.socket.recv(65536)
         if message[:1] != EVENT:
             return message
@@ -133,12 +140,6 @@ class UdpUpper:
             pass
         if answer not in RESULTS:
             raise NoUpper(f"{action.ask}: {answer.hex()}")
-
-    def events(self) -> list[Delivered]:
-        while select.select([self.socket], [], [], 0)[0]:
-            self.read()
-        found, self.delivered = self.delivered, []
-        return found
 
 
 def trigger_of(action: Action, home: Place) -> bytes:
