@@ -25,8 +25,8 @@ from .expected import (
     Silence,
 )
 from .frames import (
+    AREA_TYPES,
     BROADCAST,
-    FOR_AREAS,
     HOPS_AT,
     LINK,
     TYPE_AT,
@@ -171,7 +171,7 @@ def of_asked(e: Asked, observed: Observed) -> Iterator[str]:
 
 def of_numbers(e: Numbers, observed: Observed) -> Iterator[str]:
     """65535 may be left out."""
-    found = [r for r in observed.own if r.frame[TYPE_AT] >> 4 in FOR_AREAS]
+    found = [r for r in observed.own if r.frame[TYPE_AT] >> 4 in AREA_TYPES]
     if len(found) < e.least:
         yield f"request: {len(found)} own packets for areas, not {e.least}"
     numbers = [key_of(r.frame).number for r in found]

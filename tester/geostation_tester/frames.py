@@ -17,7 +17,7 @@ HOPS_IN_PACKET = 3
 HOPS_AT, TYPE_AT, NUMBER_AT = LINK + HOPS_IN_PACKET, LINK + 5, LINK + 12
 BASIC, BTP_B, MOBILE = 0x11, 0x20, 0x80
 TYPES = {"beacon": 0x10, "shb": 0x50, "gac": 0x30, "gbc": 0x40}
-FOR_AREAS = (3, 4)  # header types
+AREA_TYPES = (3, 4)  # header types of packets for areas
 UNITS = (50, 1_000, 10_000, 100_000)  # ms, by the two lowest bits of a lifetime
 
 
@@ -78,7 +78,7 @@ def key_of(frame: bytes) -> Key | None:
 
 def place_of(frame: bytes) -> tuple[int, int] | None:
     """The position of the packet's source."""
-    at = NUMBER_AT + (16 if frame[TYPE_AT] >> 4 in FOR_AREAS else 12)
+    at = NUMBER_AT + (16 if frame[TYPE_AT] >> 4 in AREA_TYPES else 12)
     return struct.unpack_from(">ii", frame, at) if len(frame) >= at + 8 else None
 
 
@@ -86,5 +86,5 @@ def source_of(frame: bytes) -> int | None:
     """The address of the packet's source, where its header type says that it is."""
     if len(frame) < NUMBER_AT + 12:
         return None
-    at = NUMBER_AT + 4 if frame[TYPE_AT] >> 4 in FOR_AREAS else NUMBER_AT
+    at = NUMBER_AT + 4 if frame[TYPE_AT] >> 4 in AREA_TYPES else NUMBER_AT
     return int.from_bytes(frame[at : at + 8], "big")

@@ -15,7 +15,7 @@ from typing import NamedTuple
 
 from .actions import Action
 from .areas import SHAPES, Place, moved
-from .frames import lifetime_of
+from .frames import btp, lifetime_of
 
 PATIENCE = 5.0  # s
 TRIGGERS = {"gbc": 0x51, "gac": 0x52, "shb": 0x53}
@@ -58,7 +58,8 @@ class Upper(ABC):
         return found
 
 
-def place_of(action: Action, home: Place) -> Place:
+def asked_place(action: Action, home: Place) -> Place:
+    """The position that a move asks for."""
     return moved(home, action.fields.north or 0, action.fields.east or 0)
 
 
@@ -96,7 +97,7 @@ def request_of(action: Action, home: Place) -> dict:
     if action.ask == "open":
         return {"do": "open", "port": action.port}
     if action.ask == "move":
-        latitude, longitude = place_of(action, home)
+        latitude, longitude = asked_place(action, home)
         keys = {"do": "move", "lat": latitude, "lon": longitude}
         return {**keys, "pai": True, "speed": 0, "heading": 0}
     keys = {"do": action.ask, "port": action.port, "info": 0, "tc": fields.traffic_class}
@@ -129,7 +130,7 @@ class UdpUpper(Upper):
         """A port is open already. A move by nothing says where events go."""
         if action.ask in ("move", "open"):
             before = self.place or home
-            self.place = place_of(action, home) if action.ask == "move" else before
+            self.place = asked_place(action, home) if action.ask == "move" else before
             north, east = (a - b for a, b in zip(self.place, before))
             return struct.pack(">Biib", CHANGE_POSITION, north, east, 0)
         return trigger_of(action, home)
@@ -144,7 +145,7 @@ class UdpUpper(Upper):
 
 def trigger_of(action: Action, home: Place) -> bytes:
     fields, area = action.fields, action.area
-    payload = struct.pack(">HH", action.port, 0) + action.payload
+    payload = btp(action.port, action.payload)
     code = TRIGGERS[action.ask]
     if area is None:
         return struct.pack(">BBH", code, fields.traffic_class, len(payload)) + payload
