@@ -24,11 +24,11 @@ TOP = Path(__file__).resolve().parents[2]
 sys.path[1:1] = [str(TOP / "tester")]
 
 from geostation_tester import campaign
-from geostation_tester.actions import PORT
+from geostation_tester.actions import PORT, UPPER
 from geostation_tester.bench import LostFrames
 from geostation_tester.purposes import Purpose, read_purpose
 from geostation_tester.results import Result
-from geostation_tester.station_file import UPPER, read_station_file
+from geostation_tester.station_file import read_station_file
 from geostation_tester.upper import JsonUpper, UdpUpper
 from geostation_tester.verdicts import NoVerdict
 from liar import lie

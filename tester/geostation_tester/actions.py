@@ -9,11 +9,13 @@ from .tables import Table
 
 FOR_AREAS = ("gbc", "gac")
 KINDS = ("beacon", "shb", *FOR_AREAS)
-ACTIONS = (*KINDS, "copy", "raw", "upper", "wait")
+UPPER = "upper"  # the action that asks an upper tester, and the need of one
+ACTIONS = (*KINDS, "copy", "raw", UPPER, "wait")
 # What an upper tester is asked for: packets, an open port, and a new position. A restart would make
 # the claim `steady` wrong.
 ASKED = ("shb", *FOR_AREAS, "open", "move")
 LONGEST = 3_600_000  # ms
+HOPS = 10  # itsGnDefaultHopLimit
 OCTETS = 1_468  # of a frame
 PORT = 20_001  # which no message of ETSI has, so that Wireshark does not read one
 LONGEST_PAYLOAD = 1_394  # octets, after the BTP-B header
@@ -36,7 +38,7 @@ class Neighbour:
 class Fields:
     """What a frame of an action has otherwise than a new packet of its neighbour."""
 
-    hops: int | None = None  # 10; of a copy, as they were
+    hops: int | None = None  # of a new packet HOPS, of a copy as they were
     max_hops: int | None = None
     number: int | None = None
     lifetime: int = 0x1A
@@ -51,6 +53,10 @@ class Fields:
     octet: int | None = None
     xor: int = 0
     cut: int | None = None
+
+    def first_hops(self) -> int:
+        """The hops left of a new packet for an area."""
+        return HOPS if self.hops is None else self.hops
 
 
 @dataclass(frozen=True)
@@ -133,8 +139,8 @@ def read_raw(t: Table) -> str:
 
 def read_action(t: Table, neighbours: tuple[Neighbour, ...]) -> Action:
     do, at = t.one_of("do", ACTIONS), t.whole("at", 0, LONGEST)
-    names = () if do in ("upper", "wait") else chosen_names(t, neighbours)
-    ask = t.one_of("ask", ASKED) if do == "upper" else ""
+    names = () if do in (UPPER, "wait") else chosen_names(t, neighbours)
+    ask = t.one_of("ask", ASKED) if do == UPPER else ""
     area = read_area(t)
     if ((ask or do) in FOR_AREAS) != (area is not None):
         raise t.wrong("a gbc or gac has an area, and nothing else")

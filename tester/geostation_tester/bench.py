@@ -14,9 +14,10 @@ import time
 from collections import deque
 from typing import NamedTuple
 
+from .actions import UPPER
 from .frames import GEONETWORKING, Key
 from .neighbours import Packet, Played
-from .play import UPPER, Step, steps
+from .play import Step, steps
 from .purposes import Purpose
 from .recording import Recording
 from .station_file import StationFile

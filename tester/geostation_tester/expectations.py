@@ -40,7 +40,6 @@ from .frames import (
     place_of,
     source_of,
 )
-from .neighbours import HOPS
 from .purposes import Purpose
 from .station_file import StationFile
 from .upper import Delivered
@@ -147,7 +146,7 @@ def requested_in(frame: bytes) -> Requested:
 
 def requested_by(action: Action, observed: Observed) -> Requested:
     fields, body = action.fields, btp(action.port, action.payload)
-    hops = HOPS if fields.hops is None else fields.hops
+    hops = fields.first_hops()
     area = action.area.encode(observed.station.place) if action.area else b""
     kind = TYPES[action.ask] | (action.area.shape if action.area else 0)
     left = Hops(hops, hops) if action.area else Hops(1, 1)

@@ -4,7 +4,7 @@ from __future__ import annotations
 
 from dataclasses import dataclass
 
-from .actions import FOR_AREAS, LONGEST, Action
+from .actions import FOR_AREAS, LONGEST, UPPER, Action
 from .tables import Table
 
 # The duty of a packet that is not forwarded.
@@ -108,7 +108,7 @@ def read_expectation(t: Table, actions: tuple[Action, ...], names: set[str]) -> 
     own = {key: t.whole(key, n, n) for key, n in OWN.items() if key in t.values}
     if not own:
         return read_relays(t, actions, names)
-    of = name_of(t, actions, ("upper",))
+    of = name_of(t, actions, (UPPER,))
     if "moved" in own:
         return Position(of)
     if "beacons" in own:

@@ -11,7 +11,6 @@ from .actions import Action, Fields, Neighbour
 from .station_file import StationFile
 
 STAMPS = 1 << 32
-HOPS = 10  # itsGnDefaultHopLimit
 
 
 class Packet(NamedTuple):
@@ -54,7 +53,7 @@ class Played:
         fields, number = action.fields, self.take_number(action.fields)
         extended = struct.pack(">HH", number, 0) + self.vector(now, fields).encode()
         extended += action.area.encode(self.station.place)
-        left = HOPS if fields.hops is None else fields.hops
+        left = fields.first_hops()
         hops = Hops(left, left if fields.max_hops is None else fields.max_hops)
         octets = self.packet(action, hops, extended, btp(action.port, action.payload))
         return Packet(octets, Key(self.source(fields), number))

@@ -5,10 +5,8 @@ from __future__ import annotations
 from collections.abc import Iterator
 from typing import NamedTuple
 
-from .actions import Action
+from .actions import UPPER, Action
 from .purposes import Purpose
-
-UPPER = "upper"
 
 
 class Step(NamedTuple):

@@ -6,9 +6,9 @@ from __future__ import annotations
 from dataclasses import dataclass
 from pathlib import Path
 
-from .actions import Action, Neighbour, read_action, read_neighbours
+from .actions import UPPER, Action, Neighbour, read_action, read_neighbours
 from .expected import Expectation, read_expectation
-from .station_file import NEEDS, UPPER
+from .station_file import NEEDS
 from .tables import Table, read_file
 
 # The duties that `geostation verdict` judges. For the others a purpose has an [[expect]].

@@ -7,6 +7,7 @@ import json
 from dataclasses import dataclass
 from pathlib import Path
 
+from .actions import UPPER
 from .areas import Place
 from .tables import Table, read_file
 
@@ -23,7 +24,6 @@ NEEDS = {
     "gapless": lambda claims: claims.get("gapless", False) is True,
     "profile": lambda claims: claims.get("profile", False) is True,
 }
-UPPER = "upper"  # of these needs, the one that isn't a claim: an upper tester
 # The tester made every frame, and its own port is the tap.
 BENCH = {"sent": True, "received": True, "delivered": True}
 

@@ -21,7 +21,6 @@ PATIENCE = 5.0  # s
 TRIGGERS = {"gbc": 0x51, "gac": 0x52, "shb": 0x53}
 CHANGE_POSITION, EVENT = 0x02, b"\x55"
 RESULTS = (b"\x03\x01", b"\x41\x01")
-HOPS = 10
 
 
 class NoUpper(Exception):
@@ -103,8 +102,8 @@ def request_of(action: Action, home: Place) -> dict:
     keys = {"do": action.ask, "port": action.port, "info": 0, "tc": fields.traffic_class}
     if area is not None:
         latitude, longitude = moved(home, area.north, area.east)
-        hops = HOPS if fields.hops is None else fields.hops
-        keys |= {"lt": fields.lifetime, "hops": hops, "shape": SHAPES[area.shape]}
+        keys |= {"lt": fields.lifetime, "hops": fields.first_hops()}
+        keys |= {"shape": SHAPES[area.shape]}
         keys |= {"alat": latitude, "alon": longitude, "a": area.a, "b": area.b}
         keys |= {"angle": area.angle}
     return {**keys, "payload": action.payload.hex()}
