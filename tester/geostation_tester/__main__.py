@@ -16,7 +16,8 @@ from pathlib import Path
 
 from . import pages
 from .bench import LostFrames
-from .campaign import Setting, run
+from .campaign import Setting, claims_of, run
+from .outputs import expect_apart
 from .purposes import Purpose, read_purpose
 from .reports import junit, line, tap
 from .station_file import read_station_file
@@ -66,7 +67,15 @@ def upper_of(a: argparse.Namespace) -> Upper | None:
     return UdpUpper(host, int(port))
 
 
+def check_outputs(a: argparse.Namespace) -> None:
+    """Fails before anything is written if a file would be written over."""
+    outputs = {"--record": a.record, "the claims beside --record": claims_of(a.record)}
+    more = {"--junit": a.junit, "--tap": a.tap}
+    expect_apart({"--iut": a.iut}, outputs | {name: path for name, path in more.items() if path})
+
+
 def test(a: argparse.Namespace, purposes: list[Purpose]) -> int:
+    check_outputs(a)
     setting = Setting(a.interface, read_station_file(a.iut), a.record, a.program, upper_of(a))
     results = run(setting, purposes)
     for result in results:

@@ -19,8 +19,13 @@ MILLISECOND = 1_000_000  # ns
 NOTHING_SENT = "the station under test sent nothing in the preamble"
 
 
+def claims_of(record: Path) -> Path:
+    """The path of the station file with the claims of a bench, beside its recording."""
+    return record.with_suffix(".iut.toml")
+
+
 class Setting(NamedTuple):
-    """The bench. The recording is `record`, and the station file with its claims beside it."""
+    """The bench, and the path of the recording."""
 
     interface: str
     station: StationFile
@@ -30,7 +35,7 @@ class Setting(NamedTuple):
 
     @property
     def claims(self) -> Path:
-        return self.record.with_suffix(".iut.toml")
+        return claims_of(self.record)
 
 
 def play(bench: Bench, purpose: Purpose) -> Played:

@@ -1,0 +1,87 @@
+"""No output of the tester may be its station file, or another output."""
+
+import contextlib
+import io
+import os
+import sys
+import tempfile
+import unittest
+from pathlib import Path
+from unittest import mock
+
+from geostation_tester.__main__ import main
+
+STATION = '[station]\naddress = "3c00020000000100"\nlat = 514776500\nlon = -10000\n'
+
+
+class Outputs(unittest.TestCase):
+    def setUp(self):
+        room = tempfile.TemporaryDirectory()
+        self.addCleanup(room.cleanup)
+        self.room = Path(room.name)
+        self.iut = self.room / "run.iut.toml"
+        self.iut.write_text(STATION)
+
+    def refusal(self, *words):
+        """What is printed. The interface is none, so that nothing is ever played."""
+        command = ["geostation-tester", "--iut", str(self.iut), "--interface", "no interface"]
+        command += ["--program", "no program", *words]
+        errors = io.StringIO()
+        with mock.patch.object(sys, "argv", command), contextlib.redirect_stderr(errors):
+            self.assertEqual(main(), 2)
+        self.assertEqual(self.iut.read_text(), STATION)
+        return errors.getvalue()
+
+    def path(self, name):
+        return str(self.room / name)
+
+    def assert_refused(self, message, *words):
+        before = sorted(self.room.iterdir())
+        self.assertEqual(self.refusal(*words), f"geostation-tester: {message}\n")
+        self.assertEqual(sorted(self.room.iterdir()), before)
+
+    def test_no_output_is_the_station_file(self):
+        iut, other = str(self.iut), self.path("other.pcapng")
+        run = self.path("run.pcapng")
+        self.assert_refused(f"--record {iut}: is also the file of --iut", "--record", iut)
+        claims = f"the claims beside --record {iut}: is also the file of --iut"
+        self.assert_refused(claims, "--record", run)
+        for option in ("--junit", "--tap"):
+            message = f"{option} {iut}: is also the file of --iut"
+            self.assert_refused(message, "--record", other, option, iut)
+
+    def test_no_output_is_another_one(self):
+        run, claims = self.path("a.pcapng"), self.path("a.iut.toml")
+        same, beside = self.path("a.xml"), "the claims beside --record"
+        for words, message in (
+            (("--junit", run), f"--junit {run}: is also the file of --record"),
+            (("--tap", run), f"--tap {run}: is also the file of --record"),
+            (("--junit", claims), f"--junit {claims}: is also the file of {beside}"),
+            (("--tap", claims), f"--tap {claims}: is also the file of {beside}"),
+            (("--junit", same, "--tap", same), f"--tap {same}: is also the file of --junit"),
+        ):
+            with self.subTest(message):
+                self.assert_refused(message, "--record", run, *words)
+
+    def test_another_path_of_a_file_is_the_file(self):
+        link, hard = self.path("link.toml"), self.path("hard.toml")
+        os.symlink(self.iut, link)
+        os.link(self.iut, hard)
+        other = self.path("other.pcapng")
+        for path in (link, hard, self.path("../" + self.room.name + "/run.iut.toml")):
+            with self.subTest(path):
+                message = f"--tap {path}: is also the file of --iut"
+                self.assert_refused(message, "--record", other, "--tap", path)
+
+    def test_devices_may_be_named_twice(self):
+        words = ("--record", self.path("a.pcapng"), "--junit", "/dev/null", "--tap", "/dev/null")
+        command = ["geostation-tester", "--iut", str(self.iut), "--interface", "none", *words]
+        command += ["--program", "no program"]
+        errors = io.StringIO()
+        with mock.patch.object(sys, "argv", command), contextlib.redirect_stderr(errors):
+            self.assertEqual(main(), 3)
+        self.assertIn("cannot run no program", errors.getvalue())
+
+
+if __name__ == "__main__":
+    unittest.main()
