@@ -8,6 +8,7 @@ and one purpose, so that they can be played side by side. How long a run takes i
 
 import multiprocessing
 import os
+import socket
 import subprocess
 import sys
 import tempfile
@@ -21,16 +22,19 @@ from typing import NamedTuple
 from xml.etree import ElementTree
 
 TOP = Path(__file__).resolve().parents[2]
-sys.path[1:1] = [str(TOP / "tester")]
+EXAMPLE = TOP / "examples/security"
+sys.path[1:1] = [str(TOP / "tester"), str(EXAMPLE)]
 
 from geostation_tester import campaign
 from geostation_tester.actions import PORT, UPPER
-from geostation_tester.bench import LostFrames
+from geostation_tester.bench import Helpers, LostFrames
+from geostation_tester.entity import Entity
 from geostation_tester.purposes import Purpose, read_purpose
 from geostation_tester.results import Result
-from geostation_tester.station_file import read_station_file
+from geostation_tester.station_file import SECURED, read_station_file
 from geostation_tester.upper import JsonUpper, UdpUpper
 from geostation_tester.verdicts import NoVerdict
+from entity import make_key
 from liar import lie
 from liar_faults import FAULTS
 
@@ -70,7 +74,8 @@ STANDARD = ["--forward-spread", "0", "--forward-rate", "0", "--source-rate", "0"
             "--hop-cap", "0", "--deliver-once", "0", "--remember", "8"]  # fmt: skip
 CONTENDS = ["--area-forwarding", "contention", "--contention-max", "1000",
             "--contention-copies", "1"]  # fmt: skip
-DAEMONS = ("standard", "defaults", "udp", "contention")
+SECURES = ["--security-timeout", "2000"]
+DAEMONS = ("standard", "defaults", "udp", "contention", "secured")
 # The purposes in which the daemon's defaults differ from the standard, with the duty.
 OF_DEFAULTS = {"DPD-02": ("D20",), "CAP-01": ("D20",)}
 # Purposes of which the second needs the first to be forgotten.
@@ -78,6 +83,19 @@ CAMPAIGN = ("GBC-05", "GBC-06", "GAC-01")
 # What is reported to be otherwise than by the standard, and what only the defaults have otherwise.
 OF_PROFILE = ("FDV-12", "GBC-07", "GBC-09", "GBC-11", "SHB-02")
 OF_LIMITS = ("LIM-01", "LIM-02")
+# What the daemon does with a security entity. A bench for signed packets plays no others.
+OF_SECURED = {
+    "SEC-01": "pass",
+    "SEC-02": "pass",
+    "SEC-03": "pass",
+    "SEC-04": "pass",
+    "SEC-05": "pass",
+    "SEC-06": "pass",
+    "GBC-01": "none",
+    "FDV-01": "none",
+}
+# The names of keys, and which of them each security entity trusts.
+TRUSTED = {"bench": ["station"], "stranger": [], "station": ["bench"]}
 # Those that the upper tester of examples/ starts, over UDP.
 OVER_UDP = ("FDV-04", "FDV-07", "MGT-05", "GBC-02")
 UPPER_TESTER = TOP / "examples/upper-tester/upper_tester.py"
@@ -87,6 +105,7 @@ FIGURES = {
     "udp": "with an upper tester over UDP",
     "defaults": "with its defaults",
     "contention": "with contention",
+    "secured": "with signed packets",
     "": "a station of the standard",
     "mistake": "with a mistake each",
 }
@@ -122,6 +141,11 @@ def contends(run: Run) -> bool:
     return run.station == "contention" or run.purpose.startswith("CBF") and run.station in FAULTS
 
 
+def secures(run: Run) -> bool:
+    """Whether the station sends and accepts signed packets only."""
+    return run.station == "secured" or run.purpose.startswith("SEC") and run.station not in DAEMONS
+
+
 def station_file(run: Run) -> str:
     area, within = ("cbf", 1_600) if contends(run) else ("simple", 500)
     address = ADDRESS.format(run.wire)
@@ -142,6 +166,65 @@ def wait_for(path: str) -> None:
         time.sleep(0.01)
 
 
+def keys_of(room: str, name: str) -> list[Path]:
+    """The paths of a key, and of the public keys that are trusted with it."""
+    return [Path(room, f"{name}.pem"), *(Path(room, f"{other}.pem.pub") for other in TRUSTED[name])]
+
+
+@contextmanager
+def entity_on(room: str, name: str, path: str):
+    """The security entity of examples/ with this key, at a socket."""
+    key, *trusted = keys_of(room, name)
+    command = [sys.executable, str(EXAMPLE / "entity.py"), "--key", key]
+    command += [word for public in trusted for word in ("--trust", public)]
+    process = subprocess.Popen([*command, path])
+    try:
+        wait_until_it_listens(path)
+        yield
+    finally:
+        process.kill()
+        process.wait()
+
+
+def wait_until_it_listens(path: str) -> None:
+    latest = time.monotonic() + PATIENCE
+    while True:
+        with socket.socket(socket.AF_UNIX, socket.SOCK_SEQPACKET) as trial:
+            if trial.connect_ex(path) == 0:
+                return
+        assert time.monotonic() < latest, path
+        time.sleep(0.01)
+
+
+@contextmanager
+def bench_entities(room: str):
+    """The security entities of all benches, at the sockets that `entities_of` names."""
+    for name in TRUSTED:
+        make_key(keys_of(room, name)[0])
+    with (
+        entity_on(room, "bench", f"{room}/bench.sock"),
+        entity_on(room, "stranger", f"{room}/stranger.sock"),
+    ):
+        yield
+
+
+def entities_of(run: Run) -> list[Entity]:
+    """Those of the bench of a run."""
+    names = ("bench", "stranger") if secures(run) else ()
+    return [Entity(f"{run.room}/{name}.sock") for name in names]
+
+
+@contextmanager
+def station_entity_on(run: Run):
+    """The security entity of the daemon, if it has one. Yields the daemon's options."""
+    if run.station != "secured":
+        yield []
+        return
+    path = str(run.folder / "entity.sock")
+    with entity_on(run.room, "station", path):
+        yield ["--security", path, *SECURES]
+
+
 @contextmanager
 def daemon_on(run: Run):
     """The daemon, once it is ready."""
@@ -149,6 +232,13 @@ def daemon_on(run: Run):
     limits = [*limits, *(CONTENDS if run.station == "contention" else [])]
     command = [run.daemon, "--interface", f"s{run.wire}", "--position", DEGREES, *limits]
     command += ["--listen", run.upper]
+    with station_entity_on(run) as options, process_on([*command, *options]):
+        yield
+
+
+@contextmanager
+def process_on(command: list[str]):
+    """A program, once it is ready."""
     pipe = subprocess.PIPE
     process = subprocess.Popen(command, stdin=pipe, stdout=pipe, stderr=subprocess.DEVNULL)
     try:
@@ -171,19 +261,15 @@ def upper_on(run: Run, purpose: Purpose):
     port = 4300 + run.wire
     command = [sys.executable, str(UPPER_TESTER), "--link", run.upper, "--position", DEGREES]
     command += ["--port", str(PORT), "--udp", f"127.0.0.1:{port}"]
-    process = subprocess.Popen(command, stdout=subprocess.PIPE)
-    try:
-        assert b"ready" in process.stdout.readline(), command
+    with process_on(command):
         yield UdpUpper("127.0.0.1", port)
-    finally:
-        process.kill()
-        process.communicate()
 
 
 @contextmanager
 def liar_on(run: Run, seconds: float):
     address = int(ADDRESS.format(run.wire), 16)
-    arguments = (f"s{run.wire}", address, HOME, run.station, run.upper, seconds)
+    keys = keys_of(run.room, "station") if secures(run) else None
+    arguments = (f"s{run.wire}", address, HOME, run.station, run.upper, seconds, keys)
     process = multiprocessing.Process(target=lie, args=arguments)
     process.start()
     try:
@@ -211,8 +297,9 @@ def result_of(run: Run, purpose: Purpose) -> Result:
     seconds = purpose.length() / 1000 + PATIENCE
     station = daemon_on(run) if run.station in DAEMONS else liar_on(run, seconds)
     with station, upper_on(run, purpose) as upper:
+        helpers, record = Helpers(upper, *entities_of(run)), run.folder / "run.pcapng"
         setting = campaign.Setting(
-            f"t{run.wire}", read_station_file(iut), run.folder / "run.pcapng", run.program, upper
+            f"t{run.wire}", read_station_file(iut), record, run.program, helpers
         )
         with open(os.devnull, "w") as nowhere:
             return campaign.run(setting, [purpose], nowhere)[0]
@@ -245,7 +332,8 @@ def is_right_report(station: str, name: str, result: Result) -> bool:
 def wrong_without_mistake(outcome: Outcome, purpose: Purpose) -> bool:
     """It passes, reports, or does not apply to how the station forwards."""
     result = outcome.result
-    if ("simple" if contends(outcome.run) else "contention") in purpose.needs:
+    other = "simple" if contends(outcome.run) else "contention"
+    if other in purpose.needs or SECURED in purpose.needs and not secures(outcome.run):
         return result.verdict != "none"
     if purpose.report:
         return not is_right_report(outcome.run.station, purpose.name, result)
@@ -275,7 +363,9 @@ def is_wrong(outcome: Outcome, purposes: dict[str, Purpose]) -> bool:
     purpose = purposes[outcome.run.purpose]
     if outcome.run.station == "defaults":
         return wrong_of_defaults(outcome, purpose)
-    if outcome.run.station in ("", "standard", "udp", "contention"):
+    if outcome.run.station == "secured":
+        return outcome.result.verdict != OF_SECURED[purpose.name]
+    if outcome.run.station in ("", *DAEMONS):
         return wrong_without_mistake(outcome, purpose)
     return wrong_of_mistake(outcome)
 
@@ -285,6 +375,7 @@ def plan(purposes: dict[str, Purpose], program: str, daemon: str, room: str) -> 
     kinds = ["", *(["standard", "defaults", "contention"] if daemon else [])]
     pairs = [(kind, name) for kind in kinds for name in purposes]
     pairs += [("udp", name) for name in OVER_UDP if daemon]
+    pairs += [("secured", name) for name in OF_SECURED if daemon]
     pairs += [(fault, found.purpose) for fault, found in FAULTS.items()]
     chosen = os.environ.get("CONFORMANCE_ONLY")
     if chosen:
@@ -353,9 +444,10 @@ def play_campaign(wire: int, program: str, room: str, attempt: int = 0) -> str:
 
 def wrong_in_readme(outcomes: list[Outcome]) -> list[str]:
     """README.md has the number of purposes that the daemon passes."""
-    verdicts = [o.result.verdict for o in outcomes if o.run.station == "standard"]
-    figure = f"{verdicts.count('pass')} of {len(verdicts)} test purposes"
-    is_whole = bool(verdicts) and "CONFORMANCE_ONLY" not in os.environ
+    of_daemon = [o for o in outcomes if o.run.station in ("standard", "secured")]
+    passed = {o.run.purpose for o in of_daemon if o.result.verdict == "pass"}
+    figure = f"{len(passed)} of {len({o.run.purpose for o in of_daemon})} test purposes"
+    is_whole = bool(of_daemon) and "CONFORMANCE_ONLY" not in os.environ
     if not is_whole or figure in (TOP / "README.md").read_text():
         return []
     return [f"README.md does not say {figure}"]
@@ -377,8 +469,9 @@ def main():
     began = time.monotonic()
     with tempfile.TemporaryDirectory() as room:
         runs = plan(purposes, program, daemon, room)
-        first, campaign_wrong = play_all(runs)
-        outcomes, again = play_again(first, purposes)
+        with bench_entities(room):
+            first, campaign_wrong = play_all(runs)
+            outcomes, again = play_again(first, purposes)
         for attempt in range(1, 1 + len(AGAIN)):
             if campaign_wrong:
                 campaign_wrong = play_campaign(len(runs), program, room, attempt)

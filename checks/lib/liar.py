@@ -12,7 +12,9 @@ import socket
 import time
 from dataclasses import replace
 
+from entity import read_keys
 from liar_faults import FAULTS
+from liar_secured import SecuredStation
 from standard.areas import Area
 from standard.packets import Packet
 from standard.station import BEACON_JITTER, Station
@@ -132,11 +134,15 @@ class Liar:
                     self.requests.write(result=self.answer(request))
 
 
-def lie(interface, address, place, fault, path, seconds):
+def lie(interface, address, place, fault, path, seconds, keys):
     """A station with a mistake of this name, or none if it is empty, for so many seconds. Its upper
-    tester is at `path`."""
-    kind = FAULTS[fault].station if fault else Station
+    tester is at `path`. `keys` has the paths of its key and of the one that it trusts, if it sends
+    and accepts signed packets."""
+    usual = SecuredStation if keys else Station
+    kind = FAULTS[fault].station if fault else usual
     station = kind(address, place, mobile=False, capacity=64, remember=8)
+    if keys:
+        station.entity = read_keys(keys[0], keys[1:])
     station.vector = station.vector.__class__(address, 0, *place, accurate=True)
     liar = Liar(interface, station, random.Random(fault), Requests(path))
     liar.run(time.monotonic() + seconds)

@@ -9,6 +9,7 @@ from __future__ import annotations
 from dataclasses import replace
 from typing import NamedTuple
 
+import liar_secured as secured
 from standard import faults
 from standard.areas import Area
 from standard.packets import BROADCAST, LINK, Packet, Rejected, read
@@ -389,5 +390,18 @@ TABLE = [
     Found(faults.MoreHopsThanAtMost, "FDV-11", ("D13",), ("D21",)),
     Found(faults.StopsAfterMalformed, "FDV-11", (), ("D20",)),
     Found(DiesOfTruncated, "FDV-11", (), ("D20",)),
+    Found(secured.SignatureChanged, "SEC-01", (), ("D13",)),
+    Found(secured.SignedAgain, "SEC-01", (), ("D13",)),
+    Found(secured.Stripped, "SEC-01", (), ("D13",)),
+    Found(secured.SecuredHopsKept, "SEC-01", (), ("D15",)),
+    Found(secured.SignatureIgnored, "SEC-02", (), ("D21",)),
+    Found(secured.AnyKey, "SEC-02", (), ("D21",)),
+    Found(secured.UnsecuredTaken, "SEC-02", (), ("D21",)),
+    Found(secured.LearnsUnsecured, "SEC-03", (), ("D19",)),
+    Found(secured.LearnsRefused, "SEC-03", (), ("D19",)),
+    Found(secured.BeaconUnsecured, "SEC-04", (), ("secured",)),
+    Found(secured.SignedLongAgo, "SEC-04", (), ("secured",)),
+    Found(secured.DeliversRefused, "SEC-05", (), ("delivery",)),
+    Found(secured.ShbUnsecured, "SEC-06", (), ("secured",)),
 ]
 FAULTS = {found.station.__doc__.rstrip("."): found for found in TABLE}

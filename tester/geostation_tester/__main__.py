@@ -2,7 +2,8 @@
 recording by `geostation verdict`.
 
     geostation-tester --iut FILE --interface IFACE [--record FILE] [--junit FILE] [--tap FILE]
-        [--upper HOST:PORT | --upper-json PATH] [--program PATH] [--suite FOLDER] [PURPOSE ..]
+        [--upper HOST:PORT | --upper-json PATH] [--security PATH [--stranger PATH]]
+        [--program PATH] [--suite FOLDER] [PURPOSE ..]
 
 The status is 0 if no purpose fails, 1 if one does, 2 for wrong arguments, files or purposes, and 3
 if there is no recording or no verdict.
@@ -12,17 +13,19 @@ from __future__ import annotations
 
 import argparse
 import sys
+from collections.abc import Callable
 from pathlib import Path
 
 from . import pages
-from .bench import LostFrames
+from .bench import Helpers, LostFrames
 from .campaign import Setting, claims_of, run
+from .entity import Entity
 from .outputs import expect_apart
 from .purposes import Purpose, read_purpose
 from .reports import junit, line, tap
 from .station_file import read_station_file
 from .tables import BadFile
-from .upper import JsonUpper, UdpUpper, Upper
+from .upper import JsonUpper, UdpUpper
 from .verdicts import NoVerdict
 
 SUITE = Path(__file__).resolve().parents[1] / "suite"
@@ -42,6 +45,10 @@ def parser() -> argparse.ArgumentParser:
     found.add_argument("--program", default="geostation", help="the program [default: geostation]")
     found.add_argument("--upper", metavar="HOST:PORT", help="upper tester of TR 103 099")
     found.add_argument("--upper-json", metavar="PATH", help="socket of geostation-link --listen")
+    found.add_argument("--security", metavar="PATH",
+                       help="security entity: a key that the station trusts")  # fmt: skip
+    found.add_argument("--stranger", metavar="PATH",
+                       help="security entity: a key that it does not know")  # fmt: skip
     found.add_argument("--suite", type=Path, default=SUITE, metavar="FOLDER",
                        help="folder of the purposes [default: that of the tester]")  # fmt: skip
     found.add_argument("--list", action="store_true", help="print a table of the purposes, and end")
@@ -56,15 +63,30 @@ def purposes_of(suite: Path, names: list[str]) -> list[Purpose]:
     return [read_purpose(path) for path in paths]
 
 
-def upper_of(a: argparse.Namespace) -> Upper | None:
-    if a.upper_json:
-        return JsonUpper(a.upper_json)
-    if not a.upper:
-        return None
-    host, _, port = a.upper.rpartition(":")
+def udp_upper(address: str) -> UdpUpper:
+    host, _, port = address.rpartition(":")
     if not host or not port.isdigit():
-        raise BadFile(f"--upper {a.upper}: not HOST:PORT")
+        raise BadFile(f"--upper {address}: not HOST:PORT")
     return UdpUpper(host, int(port))
+
+
+def connected(option: str, connect: Callable, address: str | None):
+    """The program at an address, or None if the option has none."""
+    if address is None:
+        return None
+    try:
+        return connect(address)
+    except OSError as why:
+        raise BadFile(f"{option} {address}: {why.strerror or why}") from None
+
+
+def helpers_of(a: argparse.Namespace) -> Helpers:
+    by_json = connected("--upper-json", JsonUpper, a.upper_json)
+    return Helpers(
+        by_json or connected("--upper", udp_upper, a.upper),
+        connected("--security", Entity, a.security),
+        connected("--stranger", Entity, a.stranger),
+    )
 
 
 def check_outputs(a: argparse.Namespace) -> None:
@@ -76,7 +98,7 @@ def check_outputs(a: argparse.Namespace) -> None:
 
 def test(a: argparse.Namespace, purposes: list[Purpose]) -> int:
     check_outputs(a)
-    setting = Setting(a.interface, read_station_file(a.iut), a.record, a.program, upper_of(a))
+    setting = Setting(a.interface, read_station_file(a.iut), a.record, a.program, helpers_of(a))
     results = run(setting, purposes)
     for result in results:
         print(line(result, str(a.record)))

@@ -10,6 +10,7 @@ from .tables import Table
 FOR_AREAS = ("gbc", "gac")
 KINDS = ("beacon", "shb", *FOR_AREAS)
 UPPER = "upper"  # the action that asks an upper tester, and the need of one
+UNSIGNED, TRUSTED, UNKNOWN = "no", "trusted", "unknown"  # by which key a packet is signed
 ACTIONS = (*KINDS, "copy", "raw", UPPER, "wait")
 # What an upper tester is asked for: packets, an open port, and a new position. A restart would make
 # the claim `steady` wrong.
@@ -47,10 +48,11 @@ class Fields:
     north: int | None = None
     east: int | None = None
     pai: bool | None = None
+    signed: str = UNSIGNED
     sender: str = ""
     to: str = "all"
     source: str = "neighbour"
-    octet: int | None = None
+    octet: int | None = None  # of the packet as it is sent; a negative one counts from its end
     xor: int = 0
     cut: int | None = None
 
@@ -93,7 +95,7 @@ def read_neighbours(t: Table) -> list[Neighbour]:
 
 
 def read_fields(t: Table, names: set[str]) -> Fields:
-    octet = t.optional("octet", 0, OCTETS)
+    octet = t.optional("octet", -OCTETS, OCTETS)
     found = Fields(
         hops=t.optional("hops", 0, 255),
         max_hops=t.optional("max_hops", 0, 255),
@@ -104,6 +106,7 @@ def read_fields(t: Table, names: set[str]) -> Fields:
         north=t.optional("north", -FAR, FAR),
         east=t.optional("east", -FAR, FAR),
         pai=t.take("pai", bool) if "pai" in t.values else None,
+        signed=t.one_of("signed", (UNSIGNED, TRUSTED, UNKNOWN), UNSIGNED),
         sender=t.take("sender", str, ""),
         to=t.take("to", str, "all"),
         source=t.one_of("source", ("neighbour", "station"), "neighbour"),

@@ -14,13 +14,15 @@ import time
 from collections import deque
 from typing import NamedTuple
 
-from .actions import UPPER
-from .frames import GEONETWORKING, Key
+from .actions import TRUSTED, UNKNOWN, UPPER
+from .entity import Entity, NoEntity
+from .frames import GEONETWORKING, Key, source_of
 from .neighbours import Packet, Played
 from .play import Step, steps
 from .purposes import Purpose
 from .recording import Recording
-from .station_file import StationFile
+from .secured import is_secured, opened
+from .station_file import SECURED, STRANGER, StationFile
 from .upper import Upper
 
 EPOCH, TAI = 1_072_915_200_000, 5_000  # ms
@@ -37,6 +39,24 @@ class LostFrames(Exception):
     """The kernel had no room for frames: the recording isn't whole."""
 
 
+class Helpers(NamedTuple):
+    """Other programs that a bench may have: an upper tester, a security entity with a key that the
+    station under test trusts, and one with a key that it does not know."""
+
+    upper: Upper | None = None
+    entity: Entity | None = None
+    stranger: Entity | None = None
+
+    def names(self) -> set[str]:
+        """Those that there are, as purposes need them."""
+        named = {UPPER: self.upper, SECURED: self.entity, STRANGER: self.stranger}
+        return {name for name, helper in named.items() if helper is not None}
+
+    def signers(self) -> dict[str, Entity]:
+        """By the words of an action."""
+        return {TRUSTED: self.entity, UNKNOWN: self.stranger}
+
+
 class Sent(NamedTuple):
     """What the tester played, and the key of a packet for an area."""
 
@@ -45,17 +65,28 @@ class Sent(NamedTuple):
 
 
 class Record(NamedTuple):
-    """`sent` is None for a frame that arrived."""
+    """`sent` is None for a frame that arrived. `refusal` says why the security entity refuses the
+    message of an own packet of the station under test."""
 
     number: int
     stamp: int  # ns since 1970
     frame: bytes
     sent: Sent | None
+    refusal: str = ""
+
+    @property
+    def packet_frame(self) -> bytes:
+        """The frame with the plain part in place of a message."""
+        return opened(self.frame)
+
+
+def tai_ms(nanoseconds: int) -> int:
+    """Ms of TAI since 2004-01-01 at a time in ns since 1970."""
+    return nanoseconds // 1_000_000 - EPOCH + TAI
 
 
 def now_ms() -> int:
-    """Ms of TAI since 2004-01-01."""
-    return time.time_ns() // 1_000_000 - EPOCH + TAI
+    return tai_ms(time.time_ns())
 
 
 def open_socket(interface: str, protocol: int) -> socket.socket:
@@ -72,10 +103,10 @@ def open_socket(interface: str, protocol: int) -> socket.socket:
 
 class Bench:
     def __init__(
-        self, interface: str, station: StationFile, recording: Recording, upper: Upper | None
+        self, interface: str, station: StationFile, recording: Recording, helpers: Helpers
     ):
         self.interface, self.station, self.recording = interface, station, recording
-        self.upper = upper
+        self.helpers = helpers
         self.tap = open_socket(interface, ALL_PROTOCOLS)
         self.out = open_socket(interface, 0)
         self.last_sent = -math.inf  # by the monotonic clock
@@ -107,7 +138,19 @@ class Bench:
     def record(self, frame: bytes, stamp: int, is_outgoing: bool) -> Record:
         sent = self.sent.popleft() if is_outgoing and self.sent else None
         comment = sent.step.comment() if sent else self.origin(frame)
-        return Record(self.recording.put(stamp, frame, comment), stamp, frame, sent)
+        refusal = "" if is_outgoing else self.refusal(frame, stamp)
+        return Record(self.recording.put(stamp, frame, comment), stamp, frame, sent, refusal)
+
+    def refusal(self, frame: bytes, stamp: int) -> str:
+        """Why the security entity refuses the message of an own packet of the station under test,
+        or nothing. It is asked at once, since it looks at the time."""
+        is_own = source_of(opened(frame)) == self.station.source
+        if self.helpers.entity is None or not is_secured(frame) or not is_own:
+            return ""
+        try:
+            return self.helpers.entity.refusal(frame, tai_ms(stamp))
+        except NoEntity as why:
+            return str(why)
 
     def origin(self, frame: bytes) -> str:
         """Who sent a frame that arrived."""
@@ -133,7 +176,7 @@ class Bench:
 
     def do(self, step: Step, played: dict[str, Played], macs: dict[str, bytes]) -> None:
         if step.name == UPPER:
-            self.upper.ask(step.action, self.station.place)
+            self.helpers.upper.ask(step.action, self.station.place)
             return
         frame, key = played[step.name].frame(now_ms(), step.action, macs)
         self.sent.append(Sent(step, key))
@@ -143,7 +186,8 @@ class Bench:
     def play(self, purpose: Purpose, records: list[Record]) -> None:
         """Plays a purpose, and waits for what its last frames cause. Adds its records."""
         made: dict[str, Packet] = {}
-        played = {n.name: Played(n, self.station, made) for n in purpose.neighbours}
+        signers = self.helpers.signers()
+        played = {n.name: Played(n, self.station, made, signers) for n in purpose.neighbours}
         macs = {n.name: n.mac for n in purpose.neighbours} | {"station": self.station.mac}
         # A forwarded packet that was received before the recording begins proves nothing.
         start = time.monotonic() + (self.station.within + MARGIN) / 1000

@@ -7,12 +7,13 @@ import time
 from pathlib import Path
 from typing import NamedTuple, TextIO
 
-from .bench import Bench
+from .bench import Bench, Helpers
+from .entity import NoEntity
 from .purposes import JUDGED, Purpose
 from .recording import Recording
 from .results import Played, Result, result_of
 from .station_file import StationFile
-from .upper import NoUpper, Upper
+from .upper import NoUpper
 from .verdicts import NoVerdict, duties_judged, verdicts_on
 
 MILLISECOND = 1_000_000  # ns
@@ -31,7 +32,7 @@ class Setting(NamedTuple):
     station: StationFile
     record: Path
     program: str
-    upper: Upper | None = None
+    helpers: Helpers = Helpers()
 
     @property
     def claims(self) -> Path:
@@ -39,7 +40,7 @@ class Setting(NamedTuple):
 
 
 def play(bench: Bench, purpose: Purpose) -> Played:
-    lacks = bench.station.lacks(purpose.needs, bench.upper is not None)
+    lacks = bench.station.lacks(purpose.needs, bench.helpers.names())
     if lacks:
         return Played(purpose, [], [], f"needs {', '.join(lacks)}", False, 0.0)
     began = time.monotonic()
@@ -50,7 +51,10 @@ def play(bench: Bench, purpose: Purpose) -> Played:
             bench.play(purpose, records)
         except NoUpper as refusal:
             why = f"the upper tester: {refusal}"
-    delivered = bench.upper.events() if bench.upper else []
+        except NoEntity as refusal:
+            why = f"the security entity: {refusal}"
+    upper = bench.helpers.upper
+    delivered = upper.events() if upper else []
     return Played(purpose, records, delivered, why, True, time.monotonic() - began)
 
 
@@ -69,7 +73,7 @@ def record(setting: Setting, purposes: list[Purpose], progress: TextIO) -> list[
     with open(setting.record, "wb") as out:
         recording = Recording(out)
         expect_judge(setting)
-        bench = Bench(setting.interface, setting.station, recording, setting.upper)
+        bench = Bench(setting.interface, setting.station, recording, setting.helpers)
         for k, purpose in enumerate(purposes, 1):
             print(f"{k} of {len(purposes)}: {purpose.name}", file=progress, flush=True)
             played.append(play(bench, purpose))

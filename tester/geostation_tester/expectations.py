@@ -9,6 +9,7 @@ from __future__ import annotations
 import struct
 from collections import defaultdict
 from collections.abc import Iterator
+from itertools import zip_longest
 from typing import NamedTuple
 
 from .actions import Action
@@ -22,12 +23,14 @@ from .expected import (
     Position,
     Quiet,
     Relays,
+    Secured,
     Silence,
 )
 from .frames import (
     AREA_TYPES,
     BROADCAST,
     HOPS_AT,
+    LIFETIME_AT,
     LINK,
     TYPE_AT,
     TYPES,
@@ -41,12 +44,13 @@ from .frames import (
     source_of,
 )
 from .purposes import Purpose
+from .secured import is_secured
 from .station_file import StationFile
 from .upper import Delivered
 
 MILLISECOND = 1_000_000  # ns
 # Octets of a frame. `AFTER_VECTOR` is the area, or the payload of an SHB.
-LIFETIME_AT, FLAGS_AT, AFTER_VECTOR = LINK + 2, LINK + 7, LINK + 40
+FLAGS_AT, AFTER_VECTOR = LINK + 7, LINK + 40
 
 
 class Observed:
@@ -63,12 +67,11 @@ class Observed:
         self.delivered = delivered
         self.macs = {n.name: n.mac for n in purpose.neighbours} | {"all": BROADCAST}
         self.names = {mac: name for name, mac in self.macs.items()}
-        own = int.from_bytes(station.address, "big")
         from_station = [r for r in records if r.frame[6:12] == station.mac]
-        self.own = [r for r in from_station if source_of(r.frame) == own]
+        self.own = [r for r in from_station if source_of(r.packet_frame) == station.source]
         self.relays: dict[Key, list[Record]] = defaultdict(list)
         for r in from_station:
-            if (key := key_of(r.frame)) is not None:
+            if (key := key_of(r.packet_frame)) is not None:
                 self.relays[key].append(r)
 
     def action(self, name: str) -> Action:
@@ -88,7 +91,18 @@ class Observed:
 
     def own_of(self, kind: int) -> list[Record]:
         """Own packets of this header type, without its subtype."""
-        return [r for r in self.own if r.frame[TYPE_AT] >> 4 == kind >> 4]
+        return [r for r in self.own if type_of(r) == kind >> 4]
+
+
+def type_of(r: Record) -> int:
+    """The header type of its packet, without the subtype."""
+    return r.packet_frame[TYPE_AT] >> 4
+
+
+def changed_octet(one: bytes, two: bytes) -> int | None:
+    """The first octet of a packet, except that of RHL, that another frame has otherwise."""
+    pairs = enumerate(zip_longest(one[LINK:], two[LINK:]))
+    return next((at for at, (a, b) in pairs if a != b and at != HOPS_AT - LINK), None)
 
 
 def of_relays(e: Relays, observed: Observed) -> Iterator[str]:
@@ -113,6 +127,14 @@ def of_packet(
         if e.times and len(r.frame) < len(packet.frame):
             octets = f"{len(r.frame)} octets, not {len(packet.frame)}"
             yield f"D13: {e.of} has {octets} #{r.number}"
+        elif is_secured(packet.frame) and e.times:
+            yield from of_message(e, packet, r)
+
+
+def of_message(e: Relays, packet: Record, relay: Record) -> Iterator[str]:
+    """`geostation verdict` reads no secured frames."""
+    if (at := changed_octet(packet.frame, relay.frame)) is not None:
+        yield f"D13: octet {at} of {e.of} is changed #{relay.number}"
 
 
 def of_silence(e: Silence, observed: Observed) -> Iterator[str]:
@@ -158,11 +180,12 @@ def requested_by(action: Action, observed: Observed) -> Requested:
 def of_asked(e: Asked, observed: Observed) -> Iterator[str]:
     action = observed.action(e.of)
     wanted = requested_by(action, observed)
-    found = [r for r in observed.own_of(TYPES[action.ask]) if r.frame.endswith(action.payload)]
+    own = observed.own_of(TYPES[action.ask])
+    found = [r for r in own if r.packet_frame.endswith(action.payload)]
     if len(found) != 1:
         yield f"request: {e.of} was sent {len(found)} times, not once"
     for r in found:
-        if requested_in(r.frame) != wanted:
+        if requested_in(r.packet_frame) != wanted:
             yield f"request: {e.of} has other fields than were asked for #{r.number}"
         if e.to and observed.target(r) != e.to:
             yield f"D12: {e.of} was sent to {observed.target(r)}, not to {e.to} #{r.number}"
@@ -170,10 +193,10 @@ def of_asked(e: Asked, observed: Observed) -> Iterator[str]:
 
 def of_numbers(e: Numbers, observed: Observed) -> Iterator[str]:
     """65535 may be left out."""
-    found = [r for r in observed.own if r.frame[TYPE_AT] >> 4 in AREA_TYPES]
+    found = [r for r in observed.own if type_of(r) in AREA_TYPES]
     if len(found) < e.least:
         yield f"request: {len(found)} own packets for areas, not {e.least}"
-    numbers = [key_of(r.frame).number for r in found]
+    numbers = [key_of(r.packet_frame).number for r in found]
     for one, two, r in zip(numbers, numbers[1:], found[1:]):
         if (two - one) % (1 << 16) != 1 and (two - one) % 65_535 != 1:
             yield f"D6: number {two} after {one} #{r.number}"
@@ -194,8 +217,18 @@ def of_quiet(e: Quiet, observed: Observed) -> Iterator[str]:
 def of_position(e: Position, observed: Observed) -> Iterator[str]:
     fields = observed.action(e.of).fields
     place = moved(observed.station.place, fields.north or 0, fields.east or 0)
-    if place not in map(place_of, (r.frame for r in observed.own)):
+    if place not in map(place_of, (r.packet_frame for r in observed.own)):
         yield f"D9: no packet with the position of {e.of}"
+
+
+def of_secured(e: Secured, observed: Observed) -> Iterator[str]:
+    if len(observed.own) < e.least:
+        yield f"secured: {len(observed.own)} own packets, not {e.least}"
+    for r in observed.own:
+        if not is_secured(r.frame):
+            yield f"secured: an own packet is not secured #{r.number}"
+        if r.refusal:
+            yield f"secured: the security entity refuses an own packet: {r.refusal} #{r.number}"
 
 
 def of_one(e: Expectation, observed: Observed) -> Iterator[str]:
@@ -214,6 +247,8 @@ def of_one(e: Expectation, observed: Observed) -> Iterator[str]:
             return of_quiet(e, observed)
         case Position():
             return of_position(e, observed)
+        case Secured():
+            return of_secured(e, observed)
 
 
 def differences(purpose: Purpose, observed: Observed) -> list[str]:

@@ -71,7 +71,15 @@ class Position:
     of: str
 
 
-Expectation = Relays | Silence | Deliveries | Asked | Numbers | Quiet | Position
+@dataclass(frozen=True)
+class Secured:
+    """At least so many own packets, each secured, with a message that the security entity
+    accepts."""
+
+    least: int
+
+
+Expectation = Relays | Silence | Deliveries | Asked | Numbers | Quiet | Position | Secured
 
 
 def name_of(t: Table, actions: tuple[Action, ...], kinds: tuple[str, ...]) -> str:
@@ -102,6 +110,8 @@ def read_expectation(t: Table, actions: tuple[Action, ...], names: set[str]) -> 
         return Silence(t.whole("gap", 1, LONGEST))
     if "numbers" in t.values:
         return Numbers(t.whole("numbers", 2, 65_536))
+    if "secured" in t.values:
+        return Secured(t.whole("secured", 1, 65_536))
     if "delivered" in t.values:
         times = t.whole("delivered", 0, 64)
         return Deliveries(name_of(t, actions, ("shb", *FOR_AREAS)), times)

@@ -3,11 +3,14 @@
 from __future__ import annotations
 
 import struct
+from collections.abc import Mapping
 from typing import NamedTuple
 
 from .areas import moved
 from .frames import BROADCAST, HOPS_IN_PACKET, TYPES, Hops, Key, Vector, btp, headers, link
-from .actions import Action, Fields, Neighbour
+from .actions import UNSIGNED, Action, Fields, Neighbour
+from .entity import Entity
+from .secured import plain_part, secured_with
 from .station_file import StationFile
 
 STAMPS = 1 << 32
@@ -23,9 +26,17 @@ class Packet(NamedTuple):
 class Played:
     """A neighbour, from its first frame on."""
 
-    def __init__(self, neighbour: Neighbour, station: StationFile, made: dict[str, Packet]):
-        """`made` has the last packet of each action that has a name, of all neighbours."""
+    def __init__(
+        self,
+        neighbour: Neighbour,
+        station: StationFile,
+        made: dict[str, Packet],
+        signers: Mapping[str, Entity],
+    ):
+        """`made` has the last packet of each action that has a name, of all neighbours. `signers`
+        has who signs, by the word of an action."""
         self.neighbour, self.station, self.made = neighbour, station, made
+        self.signers = signers
         self.address = neighbour.type << 58 | int.from_bytes(neighbour.mac, "big")
         self.number = 0  # of the next packet for an area
 
@@ -41,7 +52,7 @@ class Played:
 
     def source(self, fields: Fields) -> int:
         if fields.source == "station":
-            return int.from_bytes(self.station.address, "big")
+            return self.station.source
         return self.address
 
     def take_number(self, fields: Fields) -> int:
@@ -69,7 +80,14 @@ class Played:
         fields = action.fields
         kind = TYPES[action.do] | (action.area.shape if action.area else 0)
         head = headers(kind, len(body), hops, fields.lifetime, fields.traffic_class)
-        return damaged(head + extended + body, fields)
+        return damaged(self.signed(action, head + extended + body), fields)
+
+    def signed(self, action: Action, packet: bytes) -> bytes:
+        """The packet, secured if the action says by whom it is signed."""
+        if action.fields.signed == UNSIGNED:
+            return packet
+        signer = self.signers[action.fields.signed]
+        return secured_with(packet, signer.sign(action.do, action.port, plain_part(packet)))
 
     def copy(self, action: Action) -> Packet:
         packet, hops = self.made[action.of], action.fields.hops
@@ -103,7 +121,7 @@ class Played:
 
 def damaged(packet: bytes, fields: Fields) -> bytes:
     """A packet with one octet changed, or cut."""
-    if fields.octet is not None and fields.octet < len(packet):
-        changed = bytes([packet[fields.octet] ^ fields.xor])
-        packet = packet[: fields.octet] + changed + packet[fields.octet + 1 :]
-    return packet if fields.cut is None else packet[: fields.cut]
+    octets = bytearray(packet)
+    if fields.octet is not None and -len(octets) <= fields.octet < len(octets):
+        octets[fields.octet] ^= fields.xor
+    return bytes(octets if fields.cut is None else octets[: fields.cut])

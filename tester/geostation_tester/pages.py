@@ -4,6 +4,7 @@ from __future__ import annotations
 
 from collections import Counter
 
+from .actions import UNSIGNED
 from .expected import (
     Asked,
     Deliveries,
@@ -12,6 +13,7 @@ from .expected import (
     Position,
     Quiet,
     Relays,
+    Secured,
     Silence,
 )
 from .play import steps
@@ -62,11 +64,20 @@ def aims(e: Expectation) -> str:
             return "D10"
         case Position():
             return "D9"
+        case Secured():
+            return "secured"
+
+
+def has_message(purpose: Purpose, e: Expectation) -> bool:
+    """Whether a forwarded message is compared octet by octet."""
+    signed = {a.name for a in purpose.actions if a.fields.signed != UNSIGNED}
+    return isinstance(e, Relays) and e.times > 0 and e.of in signed
 
 
 def by_the_tester(purpose: Purpose) -> str:
-    words = " ".join(aims(e) for e in purpose.expectations).split()
-    return " ".join(dict.fromkeys(words))
+    aimed = [aims(e) for e in purpose.expectations]
+    aimed += ["D13" for e in purpose.expectations if has_message(purpose, e)]
+    return " ".join(dict.fromkeys(" ".join(aimed).split()))
 
 
 def row(p: Purpose) -> str:

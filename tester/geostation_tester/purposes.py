@@ -6,9 +6,9 @@ from __future__ import annotations
 from dataclasses import dataclass
 from pathlib import Path
 
-from .actions import UPPER, Action, Neighbour, read_action, read_neighbours
+from .actions import TRUSTED, UNKNOWN, UPPER, Action, Neighbour, read_action, read_neighbours
 from .expected import Expectation, read_expectation
-from .station_file import NEEDS
+from .station_file import HELP, NEEDS, SECURED, STRANGER
 from .tables import Table, read_file
 
 # The duties that `geostation verdict` judges. For the others a purpose has an [[expect]].
@@ -51,8 +51,8 @@ def read_duties(t: Table | None) -> dict[str, int]:
 def read_needs(t: Table) -> tuple[str, ...]:
     found = tuple(t.take("needs", list, []))
     for need in found:
-        if need not in (*NEEDS, UPPER):
-            raise t.wrong(f"needs is not of {', '.join((*NEEDS, UPPER))}")
+        if need not in (*NEEDS, *HELP):
+            raise t.wrong(f"needs is not of {', '.join((*NEEDS, *HELP))}")
     return found
 
 
@@ -67,6 +67,9 @@ def check(t: Table, found: Purpose) -> None:
         raise t.wrong("two actions with one name")
     if UPPER not in found.needs and any(a.do == UPPER for a in found.actions):
         raise t.wrong("needs has no upper, and an action asks it")
+    for signer, need in ((TRUSTED, SECURED), (UNKNOWN, STRANGER)):
+        if need not in found.needs and any(a.fields.signed == signer for a in found.actions):
+            raise t.wrong(f"needs has no {need}, and a packet is signed by it")
     for a in found.actions:
         if a.do == "copy" and not any(b.name == a.of and b.at <= a.at for b in found.actions):
             raise t.wrong(f"{a.of or 'of'} names no action before its copy")

@@ -24,6 +24,10 @@ NEEDS = {
     "gapless": lambda claims: claims.get("gapless", False) is True,
     "profile": lambda claims: claims.get("profile", False) is True,
 }
+# What it may need of the bench besides an upper tester: a security entity with a key that the
+# station trusts, and one with a key that it does not know.
+SECURED, STRANGER = "secured", "stranger"
+HELP = (UPPER, SECURED, STRANGER)
 # The tester made every frame, and its own port is the tap.
 BENCH = {"sent": True, "received": True, "delivered": True}
 
@@ -42,10 +46,18 @@ class StationFile:
     claims: dict
     capture: dict
 
-    def lacks(self, needs: tuple[str, ...], has_upper: bool) -> list[str]:
-        claims = (need for need in needs if need != UPPER)
+    @property
+    def source(self) -> int:
+        """Its address as the source of a packet."""
+        return int.from_bytes(self.address, "big")
+
+    def lacks(self, needs: tuple[str, ...], there: set[str]) -> list[str]:
+        """`there` is the help that the bench has. A station whose packets are signed accepts no
+        others."""
+        claims = (need for need in needs if need in NEEDS)
         lacking = [need for need in claims if not NEEDS[need](self.claims)]
-        return lacking + ([UPPER] if UPPER in needs and not has_upper else [])
+        lacking += [need for need in HELP if need in needs and need not in there]
+        return lacking + (["unsecured"] if SECURED in there and SECURED not in needs else [])
 
     def text(self, until: int) -> str:
         """The file with the claims of a bench, and the time up to which its recording is complete,

@@ -91,7 +91,7 @@ class Results(unittest.TestCase):
         self.station = read_station_file(written(self.room, "iut.toml", STATION))
         made = {}
         macs = {n.name: n.mac for n in self.purpose.neighbours}
-        neighbours = {n.name: Neighbour(n, self.station, made) for n in self.purpose.neighbours}
+        neighbours = {n.name: Neighbour(n, self.station, made, {}) for n in self.purpose.neighbours}
         self.records = []
         for step in steps(self.purpose):
             frame, key = neighbours[step.name].frame(7, step.action, macs)
@@ -159,7 +159,7 @@ class Results(unittest.TestCase):
         self.assertEqual((found.verdict, found.why), ("inconc", "nothing was sent"))
 
     def test_a_claim_that_is_missing_makes_it_not_applicable(self):
-        self.assertEqual(self.station.lacks(("simple", "greedy"), True), ["greedy"])
+        self.assertEqual(self.station.lacks(("simple", "greedy"), {"upper"}), ["greedy"])
         played = Played(self.purpose, [], [], "needs greedy", False, 0.0)
         self.assertEqual(result_of(played, self.station, [])[1:4], ("none", "needs greedy", None))
 
@@ -180,7 +180,7 @@ class Results(unittest.TestCase):
     def test_contention_is_another_area_forwarding_for_the_verdict(self):
         text = STATION.replace('"simple"', '"cbf"')
         station = read_station_file(written(self.room, "cbf.toml", text))
-        self.assertEqual(station.lacks(("contention", "simple"), False), ["simple"])
+        self.assertEqual(station.lacks(("contention", "simple"), set()), ["simple"])
         self.assertEqual(tomllib.loads(station.text(9))["claims"]["area"], "other")
 
     def test_a_program_without_a_total_gives_no_verdict(self):
