@@ -81,7 +81,7 @@ OF_DEFAULTS = {"DPD-02": ("D20",), "CAP-01": ("D20",)}
 # Purposes of which the second needs the first to be forgotten.
 CAMPAIGN = ("GBC-05", "GBC-06", "GAC-01")
 # What is reported to be otherwise than by the standard, and what only the defaults have otherwise.
-OF_PROFILE = ("FDV-12", "GBC-07", "GBC-09", "GBC-11", "SHB-02")
+OF_PROFILE = ("FDV-12", "GBC-07", "GBC-09", "GBC-10", "GBC-11", "SHB-02")
 OF_LIMITS = ("LIM-01", "LIM-02")
 # What the daemon does with a security entity. A bench for signed packets plays no others.
 OF_SECURED = {
