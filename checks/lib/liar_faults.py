@@ -246,6 +246,14 @@ class AnycastKept(Station):
         return None if packet.kind == "gac" else super().delivery(packet)
 
 
+class FewPorts(Station):
+    """it has room for 63 open ports."""
+
+    def open_port(self, port: int) -> None:
+        if len(self.ports) < 63:
+            super().open_port(port)
+
+
 class DoesNotContend(Station):
     """a station that says that it contends forwards at once."""
 
@@ -390,6 +398,7 @@ TABLE = [
     Found(faults.MoreHopsThanAtMost, "FDV-11", ("D13",), ("D21",)),
     Found(faults.StopsAfterMalformed, "FDV-11", (), ("D20",)),
     Found(DiesOfTruncated, "FDV-11", (), ("D20",)),
+    Found(FewPorts, "CAP-02", (), ("delivery",)),
     Found(secured.SignatureChanged, "SEC-01", (), ("D13",)),
     Found(secured.SignedAgain, "SEC-01", (), ("D13",)),
     Found(secured.Stripped, "SEC-01", (), ("D13",)),

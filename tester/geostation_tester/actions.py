@@ -72,7 +72,8 @@ class Action:
     every: int
     until: int
     area: Area | None
-    port: int
+    port: int  # of the first time; each of `ports` times has the next one
+    ports: int
     payload: bytes
     fields: Fields
     ask: str  # of `upper`
@@ -149,6 +150,7 @@ def read_action(t: Table, neighbours: tuple[Neighbour, ...]) -> Action:
         raise t.wrong("a gbc or gac has an area, and nothing else")
     every = t.optional("every", 1, LONGEST) or 0
     size = t.optional("size", 0, LONGEST_PAYLOAD)
+    port = t.whole("port", 0, 65_535, PORT)
     return Action(
         name=t.take("name", str, ""),
         at=at,
@@ -157,7 +159,8 @@ def read_action(t: Table, neighbours: tuple[Neighbour, ...]) -> Action:
         every=every,
         until=t.whole("until", at, LONGEST) if every else at,
         area=area,
-        port=t.whole("port", 0, 65_535, PORT),
+        port=port,
+        ports=t.whole("ports", 1, 65_536 - port, 1),
         payload=t.octets("payload", "") if size is None else bytes(size),
         fields=read_fields(t, {n.name for n in neighbours}),
         ask=ask,

@@ -22,7 +22,7 @@ from .play import Step, steps
 from .purposes import Purpose
 from .recording import Recording
 from .secured import is_secured, opened
-from .station_file import SECURED, STRANGER, StationFile
+from .station_file import PORTS, SECURED, STRANGER, StationFile
 from .upper import Upper
 
 EPOCH, TAI = 1_072_915_200_000, 5_000  # ms
@@ -50,7 +50,8 @@ class Helpers(NamedTuple):
     def names(self) -> set[str]:
         """Those that there are, as purposes need them."""
         named = {UPPER: self.upper, SECURED: self.entity, STRANGER: self.stranger}
-        return {name for name, helper in named.items() if helper is not None}
+        found = {name for name, helper in named.items() if helper is not None}
+        return found | ({PORTS} if self.upper is not None and self.upper.opens_ports else set())
 
     def signers(self) -> dict[str, Entity]:
         """By the words of an action."""

@@ -79,11 +79,10 @@ class Observed:
 
     def packets(self, name: str) -> dict[Key, Record]:
         """Those that an action sent, each once."""
-        action = self.action(name)
         return {
             r.sent.key: r
             for r in self.records
-            if r.sent and r.sent.key and r.sent.step.action is action
+            if r.sent and r.sent.key and r.sent.step.action.name == name
         }
 
     def target(self, r: Record) -> str:
@@ -147,9 +146,10 @@ def of_silence(e: Silence, observed: Observed) -> Iterator[str]:
 
 def of_deliveries(e: Deliveries, observed: Observed) -> Iterator[str]:
     action = observed.action(e.of)
-    times = observed.delivered.count(Delivered(action.port, action.payload))
-    if times != e.times:
-        yield f"delivery: {e.of} was delivered {times} times, not {e.times}"
+    for port in range(action.port, action.port + action.ports):
+        times = observed.delivered.count(Delivered(port, action.payload))
+        if times != e.times:
+            yield f"delivery: {e.of} was delivered {times} times at port {port}, not {e.times}"
 
 
 class Requested(NamedTuple):

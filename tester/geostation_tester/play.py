@@ -3,6 +3,7 @@
 from __future__ import annotations
 
 from collections.abc import Iterator
+from dataclasses import replace
 from typing import NamedTuple
 
 from .actions import UPPER, Action
@@ -27,6 +28,11 @@ def names_of(action: Action) -> tuple[str, ...]:
     return (UPPER,) if action.do == UPPER else action.names
 
 
+def at_port(action: Action, count: int) -> Action:
+    """The action as it is done after so many times."""
+    return replace(action, port=action.port + count % action.ports)
+
+
 def times(action: Action) -> Iterator[int]:
     yield action.at
     at = action.at + action.every
@@ -38,9 +44,9 @@ def times(action: Action) -> Iterator[int]:
 def steps(purpose: Purpose) -> list[Step]:
     """In the order of their times, and of the file for equal ones."""
     found = [
-        Step(at, index, name, action)
+        Step(at, index, name, at_port(action, count))
         for index, action in enumerate(purpose.actions)
-        for at in times(action)
+        for count, at in enumerate(times(action))
         for name in names_of(action)
     ]
     return sorted(found, key=lambda step: (step.at, step.index))

@@ -24,10 +24,10 @@ NEEDS = {
     "gapless": lambda claims: claims.get("gapless", False) is True,
     "profile": lambda claims: claims.get("profile", False) is True,
 }
-# What it may need of the bench besides an upper tester: a security entity with a key that the
-# station trusts, and one with a key that it does not know.
-SECURED, STRANGER = "secured", "stranger"
-HELP = (UPPER, SECURED, STRANGER)
+# What it may need of the bench besides an upper tester: one that opens ports, a security entity
+# with a key that the station trusts, and one with a key that it does not know.
+PORTS, SECURED, STRANGER = "ports", "secured", "stranger"
+HELP = (UPPER, PORTS, SECURED, STRANGER)
 # The tester made every frame, and its own port is the tap.
 BENCH = {"sent": True, "received": True, "delivered": True}
 

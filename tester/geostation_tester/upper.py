@@ -35,6 +35,8 @@ class Delivered(NamedTuple):
 class Upper(ABC):
     """An upper tester at the other end of a socket. `delivered` has what it reported."""
 
+    opens_ports: bool  # whether it can be asked for it
+
     def __init__(self, family: int, kind: int, address: str | tuple[str, int]):
         self.socket = socket.socket(family, kind)
         self.socket.settimeout(PATIENCE)
@@ -64,6 +66,8 @@ def asked_place(action: Action, home: Place) -> Place:
 
 class JsonUpper(Upper):
     """`geostation-link --listen PATH`."""
+
+    opens_ports = True
 
     def __init__(self, path: str):
         super().__init__(socket.AF_UNIX, socket.SOCK_STREAM, path)
@@ -111,6 +115,8 @@ def request_of(action: Action, home: Place) -> dict:
 
 class UdpUpper(Upper):
     """A service of TR 103 099 at HOST:PORT. It has its ports open."""
+
+    opens_ports = False
 
     def __init__(self, host: str, port: int):
         super().__init__(socket.AF_INET, socket.SOCK_DGRAM, (host, port))

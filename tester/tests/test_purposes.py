@@ -64,6 +64,7 @@ WRONG = [
     ('of = "gbc"', "secured = 0", "expect 0: secured is not from 1 to 65536"),
     ('from = "A"', 'from = "A"\nhops = 256', "play 0: hops is not from 0 to 255"),
     ('from = "A"', 'from = "A"\noctet = 3', "play 0: xor is missing"),
+    ('from = "A"', 'from = "A"\nport = 65535\nports = 2', "play 0: ports is not from 1 to 1"),
     ('from = "A"', 'from = "A"\nxor = 3', "play 0: unknown key xor"),
     ('from = "A"', 'from = "A"\nevery = 10', "play 0: until is missing"),
     ("circle = { a = 300 }", "", "play 0: a gbc or gac has an area, and nothing else"),

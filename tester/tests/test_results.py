@@ -5,10 +5,11 @@ import tempfile
 import tomllib
 import unittest
 from pathlib import Path
+from unittest import mock
 from xml.etree import ElementTree
 
 from geostation_tester.areas import moved
-from geostation_tester.bench import Record, Sent
+from geostation_tester.bench import Helpers, Record, Sent
 from geostation_tester.campaign import Setting, expect_judge
 from geostation_tester.frames import Key
 from geostation_tester.neighbours import Played as Neighbour
@@ -18,6 +19,7 @@ from geostation_tester.recording import Recording
 from geostation_tester.reports import junit, line, tap
 from geostation_tester.results import Played, result_of
 from geostation_tester.station_file import read_station_file
+from geostation_tester.upper import Delivered, JsonUpper, UdpUpper
 from geostation_tester.verdicts import NoVerdict, Verdict, verdicts_on
 
 PURPOSE = """title = "a relay"
@@ -125,6 +127,29 @@ class Results(unittest.TestCase):
         self.assertEqual(
             found.why, "passed by the verdict: D13 1; 1 checked by the tester, not proved"
         )
+
+    def test_each_of_some_ports_has_to_deliver(self):
+        play = 'name = "gbc"\nat = 0\nevery = 5\nuntil = 25\nports = 3'
+        text = PURPOSE.replace('name = "gbc"\nat = 0', play).partition("[[expect]]")[0]
+        text += '[[expect]]\nof = "gbc"\ndelivered = 2\n'
+        purpose = read_purpose(written(self.room, "P-02.toml", text))
+        ports = [step.action.port for step in steps(purpose) if step.action.name]
+        self.assertEqual(ports, [20001, 20002, 20003, 20001, 20002, 20003])
+        delivered = [Delivered(port, b"\x0a\x0b") for port in ports]
+        for found, verdict, why in (
+            (delivered, "pass", "no duty of the verdict; 1 checked by the tester, not proved"),
+            (delivered[:-1], "fail", "checked by the tester, not proved:"
+             " delivery: gbc was delivered 1 times at port 20003, not 2"),
+        ):  # fmt: skip
+            result = result_of(Played(purpose, [], found, "", True, 1.0), self.station, [])
+            self.assertEqual((result.verdict, result.why), (verdict, why))
+
+    def test_an_upper_tester_over_udp_opens_no_ports(self):
+        helpers = Helpers(mock.Mock(opens_ports=UdpUpper.opens_ports))
+        self.assertEqual(helpers.names(), {"upper"})
+        self.assertEqual(self.station.lacks(("upper", "ports"), helpers.names()), ["ports"])
+        helpers = Helpers(mock.Mock(opens_ports=JsonUpper.opens_ports))
+        self.assertEqual(self.station.lacks(("upper", "ports"), helpers.names()), [])
 
     def test_a_fail_of_any_duty_is_a_fail(self):
         fail = Verdict("fail", "D1", 2, "G4 at 1")
