@@ -23,7 +23,7 @@ from .purposes import Purpose
 from .recording import Recording
 from .secured import is_secured, opened
 from .station_file import PORTS, SECURED, STRANGER, StationFile
-from .upper import Upper
+from .upper import Delivered, Upper
 
 EPOCH, TAI = 1_072_915_200_000, 5_000  # ms
 ALL_PROTOCOLS, OUTGOING = 3, 4
@@ -198,6 +198,10 @@ class Bench:
         wait = max(purpose.settle, 2 * self.station.within + MARGIN)
         records += self.listen(start + (purpose.length() + wait) / 1000)
         self.complain_of_lost_frames()
+
+    def delivered(self) -> list[Delivered]:
+        """What the upper tester has reported since the last call."""
+        return self.helpers.upper.events() if self.helpers.upper else []
 
     def complain_of_lost_frames(self) -> None:
         _, lost = struct.unpack("II", self.tap.getsockopt(PACKET, STATISTICS, 8))

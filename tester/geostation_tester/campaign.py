@@ -45,16 +45,15 @@ def play(bench: Bench, purpose: Purpose) -> Played:
         return Played(purpose, [], [], f"needs {', '.join(lacks)}", False, 0.0)
     began = time.monotonic()
     is_there, records = bench.preamble(purpose)
-    why = "" if is_there else NOTHING_SENT
-    if is_there:
-        try:
+    why, delivered = "" if is_there else NOTHING_SENT, []
+    try:
+        if is_there:
             bench.play(purpose, records)
-        except NoUpper as refusal:
-            why = f"the upper tester: {refusal}"
-        except NoEntity as refusal:
-            why = f"the security entity: {refusal}"
-    upper = bench.helpers.upper
-    delivered = upper.events() if upper else []
+        delivered = bench.delivered()
+    except NoUpper as refusal:
+        why = f"the upper tester: {refusal}"
+    except NoEntity as refusal:
+        why = f"the security entity: {refusal}"
     return Played(purpose, records, delivered, why, True, time.monotonic() - began)
 
 

@@ -29,7 +29,7 @@ def secured_with(packet: bytes, message: bytes) -> bytes:
 
 
 def after_length(octets: bytes) -> bytes | None:
-    """The octets that follow their length: one below 80, or 81 and one octet, or 82 and two. None if
+    """The octets after their length: one octet below 80, or 81 and one, or 82 and two. None if
     some are missing."""
     head = octets[:1]
     size = 0 if head < b"\x80" else {b"\x81": 1, b"\x82": 2}.get(head)

@@ -43,6 +43,12 @@ class Upper(ABC):
         self.socket.connect(address)
         self.delivered: list[Delivered] = []
 
+    def receive(self) -> bytes:
+        try:
+            return self.socket.recv(65536)
+        except OSError as why:
+            raise NoUpper(f"no answer: {why}") from None
+
     @abstractmethod
     def read(self) -> list[dict] | bytes:
         """Waits for what arrives next. Adds what was delivered, and returns the answers."""
@@ -75,7 +81,7 @@ class JsonUpper(Upper):
 
     def read(self) -> list[dict]:
         """Returns the answers among the lines that have arrived."""
-        got = self.socket.recv(65536)
+        got = self.receive()
         if not got:
             raise NoUpper("the upper tester closed its socket")
         *lines, self.rest = (self.rest + got).split(b"\n")
@@ -124,7 +130,7 @@ class UdpUpper(Upper):
 
     def read(self) -> bytes:
         """Returns the next message, or nothing if it is an event."""
-        message = self.socket.recv(65536)
+        message = self.receive()
         if message[:1] != EVENT:
             return message
         if len(message) >= 5:
