@@ -97,7 +97,7 @@ OF_SECURED = {
 # The names of keys, and which of them each security entity trusts.
 TRUSTED = {"bench": ["station"], "stranger": [], "station": ["bench"]}
 # Those that the upper tester of examples/ starts, over UDP.
-OVER_UDP = ("FDV-04", "FDV-07", "MGT-05", "GBC-02")
+OVER_UDP = ("FDV-04", "FDV-07", "MGT-03", "MGT-05", "GBC-02")
 UPPER_TESTER = TOP / "examples/upper-tester/upper_tester.py"
 
 FIGURES = {
@@ -349,11 +349,11 @@ def wrong_of_defaults(outcome: Outcome, purpose: Purpose) -> bool:
     return found.verdict != "fail" or found.proved != () or found.checked != expected
 
 
-def wrong_of_mistake(outcome: Outcome) -> bool:
-    """The duties of the table fail, and no others."""
+def wrong_of_mistake(outcome: Outcome, purpose: Purpose) -> bool:
+    """The duties of the table fail, and no others. A purpose that reports has no fail."""
     found, result = FAULTS[outcome.run.station], outcome.result
     return (
-        result.verdict != "fail"
+        result.verdict != ("none" if purpose.report else "fail")
         or set(result.proved) != set(found.proved)
         or set(result.checked) != set(found.checked)
     )
@@ -367,7 +367,7 @@ def is_wrong(outcome: Outcome, purposes: dict[str, Purpose]) -> bool:
         return outcome.result.verdict != OF_SECURED[purpose.name]
     if outcome.run.station in ("", *DAEMONS):
         return wrong_without_mistake(outcome, purpose)
-    return wrong_of_mistake(outcome)
+    return wrong_of_mistake(outcome, purpose)
 
 
 def plan(purposes: dict[str, Purpose], program: str, daemon: str, room: str) -> list[Run]:

@@ -113,6 +113,9 @@ class Liar:
         if request["do"] == "open":
             station.open_port(request["port"])
             return "opened"
+        if request["do"] == "restart":
+            station.restart(now, request["number"])
+            return "restarted"
         if request["do"] == "move":
             place = {"latitude": request["lat"], "longitude": request["lon"]}
             station.move(now, replace(station.vector, **place))

@@ -246,6 +246,13 @@ class AnycastKept(Station):
         return None if packet.kind == "gac" else super().delivery(packet)
 
 
+class NumbersGoOn(Station):
+    """sequence numbers go on after an initialization."""
+
+    def restart(self, now: int, number: int) -> None:
+        super().restart(now, self.number)
+
+
 class FewPorts(Station):
     """it has room for 63 open ports."""
 
@@ -398,6 +405,7 @@ TABLE = [
     Found(faults.MoreHopsThanAtMost, "FDV-11", ("D13",), ("D21",)),
     Found(faults.StopsAfterMalformed, "FDV-11", (), ("D20",)),
     Found(DiesOfTruncated, "FDV-11", (), ("D20",)),
+    Found(NumbersGoOn, "MGT-03", (), ("D6",)),
     Found(FewPorts, "CAP-02", (), ("delivery",)),
     Found(secured.SignatureChanged, "SEC-01", (), ("D13",)),
     Found(secured.SignedAgain, "SEC-01", (), ("D13",)),

@@ -18,7 +18,7 @@ from pathlib import Path
 
 from . import pages
 from .bench import Helpers, LostFrames
-from .campaign import Setting, claims_of, run
+from .campaign import Setting, claims_of, recording_of, run
 from .entity import Entity
 from .outputs import expect_apart
 from .purposes import Purpose, read_purpose
@@ -57,7 +57,8 @@ def parser() -> argparse.ArgumentParser:
 
 
 def purposes_of(suite: Path, names: list[str]) -> list[Purpose]:
-    paths = [suite / f"{name}.toml" for name in names] or sorted(suite.glob("*.toml"))
+    chosen = [suite / f"{name}.toml" for name in dict.fromkeys(names)]
+    paths = chosen or sorted(suite.glob("*.toml"))
     if not paths:
         raise BadFile(f"{suite}: no purposes")
     return [read_purpose(path) for path in paths]
@@ -89,19 +90,22 @@ def helpers_of(a: argparse.Namespace) -> Helpers:
     )
 
 
-def check_outputs(a: argparse.Namespace) -> None:
+def check_outputs(a: argparse.Namespace, purposes: list[Purpose]) -> None:
     """Fails before anything is written if a file would be written over."""
-    outputs = {"--record": a.record, "the claims beside --record": claims_of(a.record)}
+    own = {f"the recording of {p.name}": p for p in purposes if p.restarts()}
+    records = {"--record": a.record} | {k: recording_of(a.record, p) for k, p in own.items()}
+    claims = {f"the claims beside {name}": claims_of(path) for name, path in records.items()}
     more = {"--junit": a.junit, "--tap": a.tap}
-    expect_apart({"--iut": a.iut}, outputs | {name: path for name, path in more.items() if path})
+    reports = {name: path for name, path in more.items() if path}
+    expect_apart({"--iut": a.iut}, records | claims | reports)
 
 
 def test(a: argparse.Namespace, purposes: list[Purpose]) -> int:
-    check_outputs(a)
+    check_outputs(a, purposes)
     setting = Setting(a.interface, read_station_file(a.iut), a.record, a.program, helpers_of(a))
     results = run(setting, purposes)
     for result in results:
-        print(line(result, str(a.record)))
+        print(line(result))
     if a.junit:
         a.junit.write_bytes(junit(results))
     if a.tap:

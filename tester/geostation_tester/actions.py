@@ -12,9 +12,9 @@ KINDS = ("beacon", "shb", *FOR_AREAS)
 UPPER = "upper"  # the action that asks an upper tester, and the need of one
 UNSIGNED, TRUSTED, UNKNOWN = "no", "trusted", "unknown"  # by which key a packet is signed
 ACTIONS = (*KINDS, "copy", "raw", UPPER, "wait")
-# What an upper tester is asked for: packets, an open port, and a new position. A restart would make
-# the claim `steady` wrong.
-ASKED = ("shb", *FOR_AREAS, "open", "move")
+INITIALIZE = "initialize"
+# What an upper tester is asked for: packets, an open port, a new position, and the initial state.
+ASKED = ("shb", *FOR_AREAS, "open", "move", INITIALIZE)
 LONGEST = 3_600_000  # ms
 HOPS = 10  # itsGnDefaultHopLimit
 OCTETS = 1_468  # of a frame

@@ -25,6 +25,14 @@ def claims_of(record: Path) -> Path:
     return record.with_suffix(".iut.toml")
 
 
+def recording_of(record: Path, purpose: Purpose) -> Path:
+    """The path of the recording of a purpose. One that restarts the station has its own, since the
+    claims on the others do not hold over a restart."""
+    if not purpose.restarts():
+        return record
+    return record.with_name(f"{record.stem}.{purpose.name}{record.suffix or '.pcapng'}")
+
+
 class Setting(NamedTuple):
     """The bench, and the path of the recording."""
 
@@ -37,6 +45,11 @@ class Setting(NamedTuple):
     @property
     def claims(self) -> Path:
         return claims_of(self.record)
+
+    def with_restarts(self, purpose: Purpose) -> Setting:
+        """That of a purpose which restarts the station: with a recording of its own."""
+        record = recording_of(self.record, purpose)
+        return self._replace(record=record, station=self.station.restarted())
 
 
 def play(bench: Bench, purpose: Purpose) -> Played:
@@ -81,7 +94,21 @@ def record(setting: Setting, purposes: list[Purpose], progress: TextIO) -> list[
     return played
 
 
-def run(setting: Setting, purposes: list[Purpose], progress: TextIO = sys.stderr) -> list[Result]:
+def judged(setting: Setting, purposes: list[Purpose], progress: TextIO) -> list[Result]:
+    """The results of purposes that are in one recording."""
+    if not purposes:
+        return []
+    path = str(setting.record)
     played = record(setting, purposes, progress)
-    verdicts = verdicts_on(str(setting.record), str(setting.claims), setting.program)
-    return [result_of(p, setting.station, verdicts) for p in played]
+    verdicts = verdicts_on(path, str(setting.claims), setting.program)
+    return [result_of(p, setting.station, verdicts)._replace(recording=path) for p in played]
+
+
+def run(setting: Setting, purposes: list[Purpose], progress: TextIO = sys.stderr) -> list[Result]:
+    """The results, in the order of the purposes. Those that restart the station are played last."""
+    found = judged(setting, [p for p in purposes if not p.restarts()], progress)
+    for purpose in purposes:
+        if purpose.restarts():
+            found += judged(setting.with_restarts(purpose), [purpose], progress)
+    by_name = {result.name: result for result in found}
+    return [by_name[purpose.name] for purpose in purposes]

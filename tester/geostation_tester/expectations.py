@@ -19,6 +19,7 @@ from .expected import (
     Asked,
     Deliveries,
     Expectation,
+    Numbered,
     Numbers,
     Position,
     Quiet,
@@ -91,6 +92,11 @@ class Observed:
     def own_of(self, kind: int) -> list[Record]:
         """Own packets of this header type, without its subtype."""
         return [r for r in self.own if type_of(r) == kind >> 4]
+
+    def requested(self, action: Action) -> list[Record]:
+        """Own packets of the kind and with the payload that an action asks for."""
+        own = self.own_of(TYPES[action.ask])
+        return [r for r in own if r.packet_frame.endswith(action.payload)]
 
 
 def type_of(r: Record) -> int:
@@ -180,8 +186,7 @@ def requested_by(action: Action, observed: Observed) -> Requested:
 def of_asked(e: Asked, observed: Observed) -> Iterator[str]:
     action = observed.action(e.of)
     wanted = requested_by(action, observed)
-    own = observed.own_of(TYPES[action.ask])
-    found = [r for r in own if r.packet_frame.endswith(action.payload)]
+    found = observed.requested(action)
     if len(found) != 1:
         yield f"request: {e.of} was sent {len(found)} times, not once"
     for r in found:
@@ -200,6 +205,15 @@ def of_numbers(e: Numbers, observed: Observed) -> Iterator[str]:
     for one, two, r in zip(numbers, numbers[1:], found[1:]):
         if (two - one) % (1 << 16) != 1 and (two - one) % 65_535 != 1:
             yield f"D6: number {two} after {one} #{r.number}"
+
+
+def of_numbered(e: Numbered, observed: Observed) -> Iterator[str]:
+    found = observed.requested(observed.action(e.of))
+    if not found:
+        yield f"request: {e.of} was not sent"
+    for r in found:
+        if (number := key_of(r.packet_frame).number) != e.number:
+            yield f"D6: {e.of} has number {number}, not {e.number} #{r.number}"
 
 
 def of_quiet(e: Quiet, observed: Observed) -> Iterator[str]:
@@ -243,6 +257,8 @@ def of_one(e: Expectation, observed: Observed) -> Iterator[str]:
             return of_asked(e, observed)
         case Numbers():
             return of_numbers(e, observed)
+        case Numbered():
+            return of_numbered(e, observed)
         case Quiet():
             return of_quiet(e, observed)
         case Position():

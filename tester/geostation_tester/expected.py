@@ -58,6 +58,14 @@ class Numbers:
 
 
 @dataclass(frozen=True)
+class Numbered:
+    """The own packet that an action asks for has this number."""
+
+    of: str
+    number: int
+
+
+@dataclass(frozen=True)
 class Quiet:
     """No beacon while an action is repeated."""
 
@@ -79,7 +87,9 @@ class Secured:
     least: int
 
 
-Expectation = Relays | Silence | Deliveries | Asked | Numbers | Quiet | Position | Secured
+Expectation = (
+    Relays | Silence | Deliveries | Asked | Numbers | Numbered | Quiet | Position | Secured
+)
 
 
 def name_of(t: Table, actions: tuple[Action, ...], kinds: tuple[str, ...]) -> str:
@@ -110,6 +120,9 @@ def read_expectation(t: Table, actions: tuple[Action, ...], names: set[str]) -> 
         return Silence(t.whole("gap", 1, LONGEST))
     if "numbers" in t.values:
         return Numbers(t.whole("numbers", 2, 65_536))
+    if "number" in t.values:
+        asked = tuple(a for a in actions if a.ask in FOR_AREAS)
+        return Numbered(name_of(t, asked, (UPPER,)), t.whole("number", 0, 65_535))
     if "secured" in t.values:
         return Secured(t.whole("secured", 1, 65_536))
     if "delivered" in t.values:

@@ -9,6 +9,7 @@ from .expected import (
     Asked,
     Deliveries,
     Expectation,
+    Numbered,
     Numbers,
     Position,
     Quiet,
@@ -58,7 +59,7 @@ def aims(e: Expectation) -> str:
             return "delivery"
         case Asked():
             return "request D12" if e.to else "request"
-        case Numbers():
+        case Numbers() | Numbered():
             return "D6"
         case Quiet():
             return "D10"

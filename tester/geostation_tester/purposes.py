@@ -6,7 +6,16 @@ from __future__ import annotations
 from dataclasses import dataclass
 from pathlib import Path
 
-from .actions import TRUSTED, UNKNOWN, UPPER, Action, Neighbour, read_action, read_neighbours
+from .actions import (
+    INITIALIZE,
+    TRUSTED,
+    UNKNOWN,
+    UPPER,
+    Action,
+    Neighbour,
+    read_action,
+    read_neighbours,
+)
 from .expected import Expectation, read_expectation
 from .station_file import HELP, NEEDS, SECURED, STRANGER
 from .tables import Table, read_file
@@ -37,6 +46,10 @@ class Purpose:
     def length(self) -> int:
         """Ms from the first action to the last one."""
         return max(max(a.at, a.until) for a in self.actions)
+
+    def restarts(self) -> bool:
+        """Whether it makes the station start again, so that no claim holds over that."""
+        return any(a.ask == INITIALIZE for a in self.actions)
 
 
 def read_duties(t: Table | None) -> dict[str, int]:

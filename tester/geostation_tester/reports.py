@@ -9,11 +9,12 @@ from .results import Result
 SKIPPED = ("inconc", "none")
 
 
-def line(result: Result, path: str) -> str:
+def line(result: Result) -> str:
     if result.records is None:
         return f"{result.name} {result.verdict}: {result.why}"
     first, last = result.records
-    return f"{result.name} {result.verdict} (records {first}..{last} of {path}): {result.why}"
+    where = f"records {first}..{last} of {result.recording}"
+    return f"{result.name} {result.verdict} ({where}): {result.why}"
 
 
 def tap(results: list[Result]) -> str:

@@ -30,7 +30,8 @@ class Played(NamedTuple):
 
 class Result(NamedTuple):
     """`records` are the numbers of the first and the last one. `proved` are the duties that failed
-    by `geostation verdict`, `checked` those that the tester found to fail."""
+    by `geostation verdict`, `checked` those that the tester found to fail. `recording` is the path
+    of the recording."""
 
     name: str
     verdict: str
@@ -39,6 +40,7 @@ class Result(NamedTuple):
     proved: tuple[str, ...]
     checked: tuple[str, ...]
     seconds: float
+    recording: str = ""
 
 
 def duties_of(lines: list[str]) -> tuple[str, ...]:

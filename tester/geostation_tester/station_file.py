@@ -4,7 +4,7 @@ of a bench. `geostation verdict` says what a claim means, and refuses wrong keys
 from __future__ import annotations
 
 import json
-from dataclasses import dataclass
+from dataclasses import dataclass, replace
 from pathlib import Path
 
 from .actions import UPPER
@@ -28,6 +28,7 @@ NEEDS = {
 # with a key that the station trusts, and one with a key that it does not know.
 PORTS, SECURED, STRANGER = "ports", "secured", "stranger"
 HELP = (UPPER, PORTS, SECURED, STRANGER)
+OVER_RESTARTS = ("steady", "fresh")
 # The tester made every frame, and its own port is the tap.
 BENCH = {"sent": True, "received": True, "delivered": True}
 
@@ -58,6 +59,11 @@ class StationFile:
         lacking = [need for need in claims if not NEEDS[need](self.claims)]
         lacking += [need for need in HELP if need in needs and need not in there]
         return lacking + (["unsecured"] if SECURED in there and SECURED not in needs else [])
+
+    def restarted(self) -> StationFile:
+        """The file without the claims that a restart makes wrong."""
+        kept = {name: v for name, v in self.claims.items() if name not in OVER_RESTARTS}
+        return replace(self, claims=kept)
 
     def text(self, until: int) -> str:
         """The file with the claims of a bench, and the time up to which its recording is complete,

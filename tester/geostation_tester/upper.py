@@ -13,14 +13,15 @@ import struct
 from abc import ABC, abstractmethod
 from typing import NamedTuple
 
-from .actions import Action
+from .actions import INITIALIZE, Action
 from .areas import SHAPES, Place, moved
 from .frames import btp, lifetime_of
 
 PATIENCE = 5.0  # s
 TRIGGERS = {"gbc": 0x51, "gac": 0x52, "shb": 0x53}
-CHANGE_POSITION, EVENT = 0x02, b"\x55"
-RESULTS = (b"\x03\x01", b"\x41\x01")
+INITIALIZATION, CHANGE_POSITION, EVENT = 0x00, 0x02, b"\x55"
+RESULTS = (b"\x01\x01", b"\x03\x01", b"\x41\x01")
+DONE = ("sent", "opened", "moved", "restarted")
 
 
 class NoUpper(Exception):
@@ -94,21 +95,32 @@ class JsonUpper(Upper):
         return [line for line in found if "event" not in line]
 
     def ask(self, action: Action, home: Place) -> None:
-        self.socket.sendall(json.dumps(request_of(action, home)).encode() + b"\n")
-        while not (answers := self.read()):
-            pass
-        if answers[0].get("result") not in ("sent", "opened", "moved"):
-            raise NoUpper(f"{action.ask}: {answers[0]}")
+        for request in requests_of(action, home):
+            self.socket.sendall(json.dumps(request).encode() + b"\n")
+            while not (answers := self.read()):
+                pass
+            if answers[0].get("result") not in DONE:
+                raise NoUpper(f"{action.ask}: {answers[0]}")
 
 
-def request_of(action: Action, home: Place) -> dict:
-    fields, area = action.fields, action.area
+def requests_of(action: Action, home: Place) -> list[dict]:
     if action.ask == "open":
-        return {"do": "open", "port": action.port}
+        return [{"do": "open", "port": action.port}]
     if action.ask == "move":
-        latitude, longitude = asked_place(action, home)
-        keys = {"do": "move", "lat": latitude, "lon": longitude}
-        return {**keys, "pai": True, "speed": 0, "heading": 0}
+        return [move_to(asked_place(action, home))]
+    if action.ask == INITIALIZE:
+        return [{"do": "restart", "number": 0}, move_to(home)]
+    return [packet_request(action, home)]
+
+
+def move_to(place: Place) -> dict:
+    latitude, longitude = place
+    keys = {"do": "move", "lat": latitude, "lon": longitude}
+    return {**keys, "pai": True, "speed": 0, "heading": 0}
+
+
+def packet_request(action: Action, home: Place) -> dict:
+    fields, area = action.fields, action.area
     keys = {"do": action.ask, "port": action.port, "info": 0, "tc": fields.traffic_class}
     if area is not None:
         latitude, longitude = moved(home, area.north, area.east)
@@ -139,6 +151,9 @@ class UdpUpper(Upper):
 
     def message_of(self, action: Action, home: Place) -> bytes:
         """A port is open already. A move by nothing says where events go."""
+        if action.ask == INITIALIZE:
+            self.place = home
+            return struct.pack(">B8x", INITIALIZATION)
         if action.ask in ("move", "open"):
             before = self.place or home
             self.place = asked_place(action, home) if action.ask == "move" else before

@@ -22,22 +22,22 @@ class Outputs(unittest.TestCase):
         self.iut = self.room / "run.iut.toml"
         self.iut.write_text(STATION)
 
-    def refusal(self, *words):
-        """What is printed. The interface is none, so that nothing is ever played."""
+    def run_tester(self, *words):
+        """The status, and what is printed. There is no such program, so that nothing is played."""
         command = ["geostation-tester", "--iut", str(self.iut), "--interface", "no interface"]
         command += ["--program", "no program", *words]
         errors = io.StringIO()
         with mock.patch.object(sys, "argv", command), contextlib.redirect_stderr(errors):
-            self.assertEqual(main(), 2)
+            status = main()
         self.assertEqual(self.iut.read_text(), STATION)
-        return errors.getvalue()
+        return status, errors.getvalue()
 
     def path(self, name):
         return str(self.room / name)
 
     def assert_refused(self, message, *words):
         before = sorted(self.room.iterdir())
-        self.assertEqual(self.refusal(*words), f"geostation-tester: {message}\n")
+        self.assertEqual(self.run_tester(*words), (2, f"geostation-tester: {message}\n"))
         self.assertEqual(sorted(self.room.iterdir()), before)
 
     def test_no_output_is_the_station_file(self):
@@ -63,6 +63,19 @@ class Outputs(unittest.TestCase):
             with self.subTest(message):
                 self.assert_refused(message, "--record", run, *words)
 
+    def test_no_output_is_that_of_a_purpose_with_a_recording_of_its_own(self):
+        run, own = self.path("a.pcapng"), self.path("a.MGT-03.pcapng")
+        claims, name = self.path("a.MGT-03.iut.toml"), "the recording of MGT-03"
+        for words, message in (
+            (("--tap", own), f"--tap {own}: is also the file of {name}"),
+            (("--tap", claims), f"--tap {claims}: is also the file of the claims beside {name}"),
+        ):
+            with self.subTest(message):
+                self.assert_refused(message, "--record", run, *words)
+                self.assertEqual(self.run_tester("--record", run, *words, "MGT-01")[0], 3)
+                for path in self.room.glob("a.*"):
+                    path.unlink()
+
     def test_another_path_of_a_file_is_the_file(self):
         link, hard = self.path("link.toml"), self.path("hard.toml")
         os.symlink(self.iut, link)
@@ -75,12 +88,9 @@ class Outputs(unittest.TestCase):
 
     def test_devices_may_be_named_twice(self):
         words = ("--record", self.path("a.pcapng"), "--junit", "/dev/null", "--tap", "/dev/null")
-        command = ["geostation-tester", "--iut", str(self.iut), "--interface", "none", *words]
-        command += ["--program", "no program"]
-        errors = io.StringIO()
-        with mock.patch.object(sys, "argv", command), contextlib.redirect_stderr(errors):
-            self.assertEqual(main(), 3)
-        self.assertIn("cannot run no program", errors.getvalue())
+        status, printed = self.run_tester(*words)
+        self.assertEqual(status, 3)
+        self.assertIn("cannot run no program", printed)
 
 
 if __name__ == "__main__":

@@ -190,7 +190,8 @@ class Results(unittest.TestCase):
 
     def test_the_reports_have_each_result(self):
         results = [self.result(self.relay()), self.result(), self.result(lacks="nothing")]
-        self.assertIn("P-01 pass (records 0..2 of run.pcapng): ", line(results[0], "run.pcapng"))
+        shown = line(results[0]._replace(recording="run.pcapng"))
+        self.assertIn("P-01 pass (records 0..2 of run.pcapng): ", shown)
         skipped = "ok 3 - P-01 # SKIP inconc: nothing"
         self.assertIn(f"ok 1 - P-01\nnot ok 2 - P-01\n{skipped}", tap(results))
         suite = ElementTree.fromstring(junit(results))

@@ -68,6 +68,12 @@ class Station:
         """The vector gets its time stamp here."""
         self.vector = replace(vector, timestamp=self.stamp(now))
 
+    def restart(self, now: int, number: int) -> None:
+        """The initial state, with this number for the next packet. A beacon is due."""
+        self.table.clear()
+        self.ports.clear()
+        self.number, self.quiet_from = number, now
+
     def open_port(self, port: int) -> None:
         self.ports.add(port)
 
