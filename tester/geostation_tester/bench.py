@@ -91,6 +91,14 @@ def now_ms() -> int:
 
 
 def open_socket(interface: str, protocol: int) -> socket.socket:
+    """A socket that sends on an interface, or sees all of its frames. An error names it."""
+    try:
+        return raw_socket(interface, protocol)
+    except OSError as why:
+        raise OSError(why.errno, why.strerror, interface) from None
+
+
+def raw_socket(interface: str, protocol: int) -> socket.socket:
     found = socket.socket(socket.AF_PACKET, socket.SOCK_RAW, 0)
     found.setsockopt(socket.SOL_SOCKET, SO_TIMESTAMPNS, 1)
     found.setsockopt(socket.SOL_SOCKET, socket.SO_RCVBUF, BUFFER)

@@ -1,4 +1,4 @@
-"""No output of the tester may be its station file, or another output."""
+"""Wrong arguments: no output may be the station file, or another output."""
 
 import contextlib
 import io
@@ -10,6 +10,7 @@ from pathlib import Path
 from unittest import mock
 
 from geostation_tester.__main__ import main
+from geostation_tester.purposes import JUDGED
 
 STATION = '[station]\naddress = "3c00020000000100"\nlat = 514776500\nlon = -10000\n'
 
@@ -85,6 +86,16 @@ class Outputs(unittest.TestCase):
             with self.subTest(path):
                 message = f"--tap {path}: is also the file of --iut"
                 self.assert_refused(message, "--record", other, "--tap", path)
+
+    def test_an_interface_that_is_missing_is_named(self):
+        duties = ",".join(f'"{duty}"' for duty in JUDGED)
+        fake = self.room / "fake"
+        fake.write_text(f"#!/bin/sh\necho '{{\"total\":{{}},\"unexercised\":[{duties}]}}'\n")
+        fake.chmod(0o700)
+        words = ("--record", self.path("a.pcapng"), "--program", str(fake))
+        status, printed = self.run_tester(*words, "MGT-01")
+        self.assertEqual(status, 2)
+        self.assertRegex(printed, "geostation-tester: .*: 'no interface'\n")
 
     def test_devices_may_be_named_twice(self):
         words = ("--record", self.path("a.pcapng"), "--junit", "/dev/null", "--tap", "/dev/null")
