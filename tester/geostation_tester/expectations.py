@@ -6,7 +6,6 @@ Each function yields a line for each thing that is not as expected, with the dut
 
 from __future__ import annotations
 
-import struct
 from collections import defaultdict
 from collections.abc import Iterator
 from itertools import zip_longest

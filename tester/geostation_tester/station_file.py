@@ -9,7 +9,7 @@ from pathlib import Path
 
 from .actions import UPPER
 from .areas import Place
-from .tables import Table, read_file
+from .tables import read_file
 
 CONTENTION, OTHER = "cbf", "other"  # values of `area`
 # What a purpose may need of the station: without it the purpose is not applicable.
