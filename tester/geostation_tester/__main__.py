@@ -22,7 +22,7 @@ from .campaign import Setting, claims_of, recording_of, run
 from .entity import Entity
 from .outputs import expect_apart
 from .purposes import Purpose, read_purpose
-from .reports import junit, line, tap
+from .reports import claims_line, junit, line, tap, total_line
 from .station_file import read_station_file
 from .tables import BadFile
 from .upper import JsonUpper, UdpUpper
@@ -103,9 +103,11 @@ def check_outputs(a: argparse.Namespace, purposes: list[Purpose]) -> None:
 def test(a: argparse.Namespace, purposes: list[Purpose]) -> int:
     check_outputs(a, purposes)
     setting = Setting(a.interface, read_station_file(a.iut), a.record, a.program, helpers_of(a))
+    print(claims_line(setting.station), flush=True)
     results = run(setting, purposes)
     for result in results:
         print(line(result))
+    print(total_line(results))
     if a.junit:
         a.junit.write_bytes(junit(results))
     if a.tap:

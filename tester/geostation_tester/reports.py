@@ -2,11 +2,28 @@
 
 from __future__ import annotations
 
+import json
+from collections import Counter
 from xml.etree import ElementTree
 
 from .results import Result
+from .station_file import StationFile
 
 SKIPPED = ("inconc", "none")
+VERDICTS = ("pass", "fail", *SKIPPED)
+
+
+def claims_line(station: StationFile) -> str:
+    """What the results rest on. A claim that is true has its name only."""
+    claims = station.bench_claims().items()
+    parts = [name if value is True else f"{name} {json.dumps(value)}" for name, value in claims]
+    return f"claimed: {', '.join(parts)}"
+
+
+def total_line(results: list[Result]) -> str:
+    counts = Counter(r.verdict for r in results)
+    parts = [f"{counts[verdict]} {verdict}" for verdict in VERDICTS]
+    return f"{len(results)} purposes: {', '.join(parts)}"
 
 
 def line(result: Result) -> str:

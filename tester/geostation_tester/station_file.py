@@ -65,6 +65,11 @@ class StationFile:
         kept = {name: v for name, v in self.claims.items() if name not in OVER_RESTARTS}
         return replace(self, claims=kept)
 
+    def bench_claims(self) -> dict[str, object]:
+        """The claims of the file, and those of a bench, without those that are false."""
+        claims = {**self.claims, **self.capture, **BENCH}
+        return self.station | {name: v for name, v in claims.items() if v is not False}
+
     def text(self, until: int) -> str:
         """The file with the claims of a bench, and the time up to which its recording is complete,
         in ms since 1970. `geostation verdict` does not know contention yet."""

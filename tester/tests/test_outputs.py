@@ -27,8 +27,8 @@ class Outputs(unittest.TestCase):
         """The status, and what is printed. There is no such program, so that nothing is played."""
         command = ["geostation-tester", "--iut", str(self.iut), "--interface", "no interface"]
         command += ["--program", "no program", *words]
-        errors = io.StringIO()
-        with mock.patch.object(sys, "argv", command), contextlib.redirect_stderr(errors):
+        errors, nowhere = io.StringIO(), contextlib.redirect_stdout(io.StringIO())
+        with mock.patch.object(sys, "argv", command), contextlib.redirect_stderr(errors), nowhere:
             status = main()
         self.assertEqual(self.iut.read_text(), STATION)
         return status, errors.getvalue()

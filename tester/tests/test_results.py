@@ -16,7 +16,7 @@ from geostation_tester.neighbours import Played as Neighbour
 from geostation_tester.play import steps
 from geostation_tester.purposes import read_purpose
 from geostation_tester.recording import Recording
-from geostation_tester.reports import junit, line, tap
+from geostation_tester.reports import claims_line, junit, line, tap, total_line
 from geostation_tester.results import Played, result_of
 from geostation_tester.station_file import read_station_file
 from geostation_tester.upper import Delivered, JsonUpper, UdpUpper
@@ -196,6 +196,17 @@ class Results(unittest.TestCase):
         self.assertIn(f"ok 1 - P-01\nnot ok 2 - P-01\n{skipped}", tap(results))
         suite = ElementTree.fromstring(junit(results))
         self.assertEqual([suite.get(k) for k in ("tests", "failures", "skipped")], ["3", "1", "1"])
+
+    def test_a_report_begins_with_the_claims_and_ends_with_a_total(self):
+        claims = 'address "3c00020000000100", lat 514776500, lon -10000, mobile false,'
+        claims += ' area "simple", steady, within 20, sent, received, delivered'
+        text = STATION.replace('id = "a \\"b\\""', "mobile = false")
+        text += "gapless = false\n\n[capture]\nwithin = 20\n"
+        station = read_station_file(written(self.room, "more.toml", text))
+        self.assertEqual(claims_line(station), f"claimed: {claims}")
+        results = [self.result(self.relay()), self.result(), self.result(lacks="nothing")]
+        total = "3 purposes: 1 pass, 1 fail, 1 inconc, 0 none"
+        self.assertEqual(total_line(results), total)
 
     def test_the_claims_of_a_bench_are_added(self):
         found = tomllib.loads(self.station.text(9))
