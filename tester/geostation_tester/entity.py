@@ -39,9 +39,10 @@ class Entity:
         """The message of a plain part. A beacon has no port."""
         keys = {} if kind == "beacon" else {"port": port}
         answer = self.ask(do="sign", kind=kind, plain=plain.hex(), **keys)
-        if "message" not in answer:
-            raise NoEntity(f"{kind}: {answer.get('error')}")
-        return bytes.fromhex(answer["message"])
+        try:
+            return bytes.fromhex(answer["message"])
+        except (KeyError, TypeError, ValueError):
+            raise NoEntity(f"{kind}: {answer.get('error', answer)}") from None
 
     def refusal(self, frame: bytes, at: int) -> str:
         """Why the message of a secured frame is not good, or nothing if it is. `at` is when it was
