@@ -17,6 +17,7 @@ from .expected import (
     Secured,
     Silence,
 )
+from .keys import table as key_table
 from .play import steps
 from .purposes import Purpose
 
@@ -33,6 +34,14 @@ TS 102 871-2, from memory. *Frames*: what the tester sends. *s*: how long it tak
 seconds, with the wait for a first beacon. *By the verdict*: the duties that `geostation verdict`
 has to pass. *By the tester*: the duties for which the tester compares frames with what is expected.
 These are checked, not proved. A purpose that is *reported* never fails by what the tester compares.
+
+"""
+
+
+KEYS = """
+## Keys
+
+A purpose is a TOML file in `tester/suite`. An unknown key is rejected.
 
 """
 
@@ -92,4 +101,4 @@ def table(purposes: list[Purpose]) -> str:
 
 
 def page(purposes: list[Purpose]) -> str:
-    return TOP + table(purposes)
+    return TOP + table(purposes) + KEYS + key_table()

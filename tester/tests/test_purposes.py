@@ -1,9 +1,12 @@
 """Wrong purposes and wrong station files are refused, with the name of what is wrong."""
 
+import re
 import tempfile
 import unittest
 from pathlib import Path
 
+from geostation_tester import actions, areas, expected, purposes
+from geostation_tester.keys import KEYS
 from geostation_tester.purposes import read_purpose
 from geostation_tester.station_file import read_station_file
 from geostation_tester.tables import BadFile
@@ -145,6 +148,17 @@ class WrongFiles(unittest.TestCase):
     def test_all_purposes_of_the_suite_are_read(self):
         for path in SUITE.glob("*.toml"):
             self.assertEqual(read_purpose(path).name, path.stem)
+
+    def test_the_page_has_each_key(self):
+        """The keys that the sources take, by the calls of `Table`."""
+        call = re.compile(r"(?:take|whole|optional|one_of|octets|mac|table|all_of)\(\s*\"(\w+)\"")
+        sources = (purposes, actions, areas, expected)
+        taken = {key for s in sources for key in call.findall(Path(s.__file__).read_text())}
+        taken |= {*areas.SHAPES, *expected.OWN, *purposes.JUDGED}
+        tables = {"tester", "play", "duties", "expect"}
+        of_an_area = {"a", "b", "angle"}
+        shown = {name for key in KEYS for name in key.names}
+        self.assertEqual(taken - tables - of_an_area, shown)
 
     def test_the_neighbours_of_two_purposes_have_different_macs(self):
         macs = [n.mac for path in SUITE.glob("*.toml") for n in read_purpose(path).neighbours]
