@@ -1,6 +1,8 @@
 """The tester against the daemon and against stations with a mistake, each on a wire of its own.
 
-    conformance.py GEOSTATION DAEMON
+    conformance.py GEOSTATION DAEMON [--write]
+
+It compares the results with docs/EVIDENCE.md, or writes that page.
 
 Runs in a network namespace of its own, in which nothing else is. Each run has one station, one wire
 and one purpose, so that they can be played side by side. How long a run takes is no failure.
@@ -32,6 +34,7 @@ from benches import (  # which sets the path of the others
     station_file,
 )
 
+import evidence
 from geostation_tester.purposes import Purpose, read_purpose
 from geostation_tester.results import Result
 from geostation_tester.station_file import SECURED
@@ -202,6 +205,15 @@ def wrong_in_readme(outcomes: list[Outcome]) -> list[str]:
     return [f"README.md does not say {figure}"]
 
 
+def wrong_in_evidence(outcomes: list[Outcome], purposes: dict[str, Purpose]) -> list[str]:
+    """The page of results has these results."""
+    if "CONFORMANCE_ONLY" in os.environ or evidence.PAGE.read_text() == evidence.page(
+        outcomes, purposes
+    ):
+        return []
+    return ["docs/EVIDENCE.md has other results: run checks/conformance --write"]
+
+
 def unit_tests() -> int:
     """The tests of the tester's own parts. Returns how many there are."""
     folder = str(TOP / "tester")
@@ -212,7 +224,7 @@ def unit_tests() -> int:
 
 
 def main():
-    program, daemon = sys.argv[1:3]
+    program, daemon, *words = sys.argv[1:]
     purposes = {path.stem: read_purpose(path) for path in sorted(SUITE.glob("*.toml"))}
     tested = unit_tests()
     began = time.monotonic()
@@ -225,7 +237,10 @@ def main():
             if campaign_wrong:
                 campaign_wrong = play_campaign(len(runs), program, room, attempt)
     wrong = [o.line for o in outcomes if is_wrong(o, purposes)]
-    wrong += wrong_in_readme(outcomes) + ([campaign_wrong] if campaign_wrong else [])
+    if words == ["--write"] and not wrong:
+        evidence.PAGE.write_text(evidence.page(outcomes, purposes))
+    wrong += wrong_in_readme(outcomes) + wrong_in_evidence(outcomes, purposes)
+    wrong += [campaign_wrong] if campaign_wrong else []
     print("".join(f"{line}\n" for line in wrong), end="")
     print(
         f"{len(purposes)} purposes, {tested} tests, {len(outcomes)} runs in"

@@ -1,5 +1,6 @@
 """The pages that are written from the sources: one for each crate, which the repository has in
 docs/proof, one of the purposes of the tester, and one of all definitions, which it does not have.
+`checks/conformance --write` writes another one, of results.
 """
 
 import sys
@@ -11,7 +12,11 @@ from program import TOP, crate_names
 WRITTEN = TOP / "out"
 PROOF = TOP / "docs/proof"
 TESTER, PURPOSES = TOP / "tester", TOP / "docs/PURPOSES.md"
-MARKS = (proved.MARK, "<!-- Written by checks/docs --write from the purposes in tester/suite. -->")
+MARKS = (
+    proved.MARK,
+    "<!-- Written by checks/docs --write from the purposes in tester/suite. -->",
+    "<!-- Written by checks/conformance --write from the results of its runs. -->",
+)
 
 
 def write_pages(top):

@@ -1,13 +1,16 @@
 """What can be computed of docs/PROFILE.md, the PICS and PIXIT: its constants, header types, codes,
-options and names are those of the sources. What is read: tables of rows `| Item | .. |`.
+options and names are those of the sources, and the purposes of the tester name its items. What is
+read: tables of rows `| Item | .. |`.
 """
 
 import re
+import tomllib
 from typing import NamedTuple
 
 from program import TOP
 
 PAGE = TOP / "docs/PROFILE.md"
+EVIDENCE, SUITE = TOP / "docs/EVIDENCE.md", TOP / "tester/suite"
 ITEM = re.compile(r"(CAP|MIB|PKT|FUN|PIX)-(\d+)$")
 STATUS = re.compile(r"[mco-]( \?)?$")
 SUPPORT = re.compile(r"[YNP-](/[YN-]/[YN-])?$")
@@ -197,6 +200,19 @@ def check_names(text):
     return [f"{name}: no definition" for name in sorted(names - words)]
 
 
+def check_purposes(rows):
+    """Each purpose of the tester names rows of the page, and has a row on the page of results."""
+    known, wrong = {row.cells[0] for row in rows}, []
+    results = set(re.findall(r"^\| ([A-Z]+-\d+) \| [A-Z]+-", EVIDENCE.read_text(), re.M))
+    paths = {path.stem: path for path in sorted(SUITE.glob("*.toml"))}
+    for name, path in paths.items():
+        items = tomllib.loads(path.read_text()).get("pics", [])
+        wrong += [] if items else [f"purpose {name} names no row"]
+        wrong += [f"purpose {name}: no row {item}" for item in items if item not in known]
+    wrong += [f"docs/EVIDENCE.md has no result of {name}" for name in paths.keys() - results]
+    return wrong + [f"docs/EVIDENCE.md: no purpose {name}" for name in results - paths.keys()]
+
+
 def check_form(rows):
     """Items are numbered in order; each status and each support is one of those that it explains;
     and what is not plainly supported has a remark."""
@@ -230,5 +246,5 @@ def check(text=None):
     wrong = check_form(rows)
     if not wrong:
         wrong = check_constants(rows) + check_packets(rows)
-    wrong += check_codes(text) + check_options(text) + check_names(text)
+    wrong += check_codes(text) + check_options(text) + check_names(text) + check_purposes(rows)
     return [f"docs/PROFILE.md: {line}" for line in wrong], f"{len(rows)} rows of the PICS and PIXIT"

@@ -22,18 +22,21 @@ from .play import steps
 from .purposes import Purpose
 
 HEAD = (
-    "| Purpose | Group | Clause | What | Frames | Expected | s | By the verdict | By the tester |\n"
-    "|---|---|---|---|---|---|---|---|---|\n"
+    "| Purpose | Group | Clause | PICS | What | Frames | Expected | s | By the verdict"
+    " | By the tester |\n"
+    "|---|---|---|---|---|---|---|---|---|---|\n"
 )
 TOP = """# Test purposes
 
 <!-- Written by checks/docs --write from the purposes in tester/suite. -->
 
-After this page you know which purposes [the tester](TESTER.md) has. *Group* is the nearest one of
-TS 102 871-2, from memory. *Frames*: what the tester sends. *s*: how long it takes at most, in
-seconds, with the wait for a first beacon. *By the verdict*: the duties that `geostation verdict`
-has to pass. *By the tester*: the duties for which the tester compares frames with what is expected.
-These are checked, not proved. A purpose that is *reported* never fails by what the tester compares.
+After this page you know which purposes [the tester](TESTER.md) has. [EVIDENCE.md](EVIDENCE.md) has
+the results. *Group* is the nearest one of TS 102 871-2, from memory. *PICS*: the items of
+[PROFILE.md](PROFILE.md) that are tested. *Frames*: what the tester sends. *s*: how long it takes at
+most, in seconds, with the wait for a first beacon. *By the verdict*: the duties that `geostation
+verdict` has to pass. *By the tester*: the duties for which the tester compares frames with what is
+expected. These are checked, not proved. A purpose that is *reported* never fails by what the tester
+compares.
 
 """
 
@@ -92,7 +95,8 @@ def by_the_tester(purpose: Purpose) -> str:
 
 def row(p: Purpose) -> str:
     verdict = "reported" if p.report else " ".join(p.duties)
-    cells = [p.name, p.group, p.clause, p.title, frames(p), p.expected, str(seconds(p)), verdict]
+    cells = [p.name, p.group, p.clause, " ".join(p.pics), p.title, frames(p), p.expected]
+    cells += [str(seconds(p)), verdict]
     return "| " + " | ".join([*cells, by_the_tester(p)]) + " |\n"
 
 

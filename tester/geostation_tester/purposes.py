@@ -3,6 +3,7 @@ with the name of the file and of the key."""
 
 from __future__ import annotations
 
+import re
 from dataclasses import dataclass
 from pathlib import Path
 
@@ -20,6 +21,7 @@ from .expected import Expectation, read_expectation
 from .station_file import HELP, NEEDS, SECURED, STRANGER
 from .tables import Table, read_file
 
+ITEM = re.compile(r"(CAP|MIB|PKT|FUN)-[0-9]+$")  # of docs/PROFILE.md
 # The duties that `geostation verdict` judges. For the others a purpose has an [[expect]].
 JUDGED = ("D1", "D2", "D3", "D4", "D5", "D6", "D10", "D13", "D14", "D16")
 
@@ -27,12 +29,13 @@ JUDGED = ("D1", "D2", "D3", "D4", "D5", "D6", "D10", "D13", "D14", "D16")
 @dataclass(frozen=True)
 class Purpose:
     """`duties` has how many passes of each duty are needed, at least. `fresh`: the station may know
-    of no other station when it begins."""
+    of no other station when it begins. `pics` are the items of the PICS that it tests."""
 
     name: str
     title: str
     group: str
     clause: str
+    pics: tuple[str, ...]
     expected: str
     report: bool
     needs: tuple[str, ...]
@@ -69,6 +72,14 @@ def read_needs(t: Table) -> tuple[str, ...]:
     return found
 
 
+def read_pics(t: Table) -> tuple[str, ...]:
+    found = tuple(t.take("pics", list, []))
+    for item in found:
+        if not isinstance(item, str) or not ITEM.match(item):
+            raise t.wrong(f"pics has {item}, which is no item of the PICS")
+    return found
+
+
 def check(t: Table, found: Purpose) -> None:
     """What no key alone says."""
     names = [n.name for n in found.neighbours]
@@ -102,6 +113,7 @@ def read_purpose(path: Path) -> Purpose:
         t.take("title", str),
         t.take("group", str),
         t.take("clause", str, ""),
+        read_pics(t),
         t.take("expected", str),
         t.take("report", bool, False),
         read_needs(t),
