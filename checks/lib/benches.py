@@ -20,7 +20,7 @@ sys.path[1:1] = [str(TOP / "tester"), str(EXAMPLE)]
 from entity import make_key
 from geostation_tester import campaign
 from geostation_tester.actions import PORT, UPPER
-from geostation_tester.bench import Helpers, LostFrames
+from geostation_tester.bench import Partners, LostFrames
 from geostation_tester.entity import Entity
 from geostation_tester.purposes import Purpose, read_purpose
 from geostation_tester.results import Result
@@ -264,9 +264,9 @@ def result_of(run: Run, purpose: Purpose) -> Result:
     seconds = purpose.length() / 1000 + PATIENCE
     station = daemon_on(run) if run.station in DAEMONS else liar_on(run, seconds)
     with station, upper_on(run, purpose) as upper:
-        helpers, record = Helpers(upper, *entities_of(run)), run.folder / "run.pcapng"
+        partners, record = Partners(upper, *entities_of(run)), run.folder / "run.pcapng"
         setting = campaign.Setting(
-            f"t{run.wire}", read_station_file(iut), record, run.program, helpers
+            f"t{run.wire}", read_station_file(iut), record, run.program, partners
         )
         with open(os.devnull, "w") as nowhere:
             return campaign.run(setting, [purpose], nowhere)[0]

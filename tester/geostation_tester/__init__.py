@@ -4,7 +4,7 @@
 - `neighbours`: the tester's own stations, and the frames that they send
 - `play`: what is sent when
 - `bench`: an interface, and the clock
-- `upper`, `entity`: programs that help: an upper tester, a security entity
+- `upper`, `entity`: its partners: an upper tester, a security entity
 - `recording`: a pcapng file with a comment per record
 - `reports`: lines, JUnit XML and TAP
 """

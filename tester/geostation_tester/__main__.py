@@ -17,7 +17,7 @@ from collections.abc import Callable
 from pathlib import Path
 
 from . import pages
-from .bench import Helpers, LostFrames
+from .bench import Partners, LostFrames
 from .campaign import Setting, claims_of, recording_of, run
 from .entity import Entity
 from .outputs import expect_apart
@@ -81,9 +81,9 @@ def connected(option: str, connect: Callable, address: str | None):
         raise BadFile(f"{option} {address}: {why.strerror or why}") from None
 
 
-def helpers_of(a: argparse.Namespace) -> Helpers:
+def partners_of(a: argparse.Namespace) -> Partners:
     by_json = connected("--upper-json", JsonUpper, a.upper_json)
-    return Helpers(
+    return Partners(
         by_json or connected("--upper", udp_upper, a.upper),
         connected("--security", Entity, a.security),
         connected("--stranger", Entity, a.stranger),
@@ -102,7 +102,7 @@ def check_outputs(a: argparse.Namespace, purposes: list[Purpose]) -> None:
 
 def test(a: argparse.Namespace, purposes: list[Purpose]) -> int:
     check_outputs(a, purposes)
-    setting = Setting(a.interface, read_station_file(a.iut), a.record, a.program, helpers_of(a))
+    setting = Setting(a.interface, read_station_file(a.iut), a.record, a.program, partners_of(a))
     print(claims_line(setting.station), flush=True)
     results = run(setting, purposes)
     for result in results:

@@ -39,7 +39,7 @@ class LostFrames(Exception):
     """The kernel had no room for frames: the recording isn't whole."""
 
 
-class Helpers(NamedTuple):
+class Partners(NamedTuple):
     """Other programs that a bench may have: an upper tester, a security entity with a key that the
     station under test trusts, and one with a key that it does not know."""
 
@@ -50,7 +50,7 @@ class Helpers(NamedTuple):
     def names(self) -> set[str]:
         """Those that there are, as purposes need them."""
         named = {UPPER: self.upper, SECURED: self.entity, STRANGER: self.stranger}
-        found = {name for name, helper in named.items() if helper is not None}
+        found = {name for name, partner in named.items() if partner is not None}
         return found | ({PORTS} if self.upper is not None and self.upper.opens_ports else set())
 
     def signers(self) -> dict[str, Entity]:
@@ -112,10 +112,10 @@ def raw_socket(interface: str, protocol: int) -> socket.socket:
 
 class Bench:
     def __init__(
-        self, interface: str, station: StationFile, recording: Recording, helpers: Helpers
+        self, interface: str, station: StationFile, recording: Recording, partners: Partners
     ):
         self.interface, self.station, self.recording = interface, station, recording
-        self.helpers = helpers
+        self.partners = partners
         self.tap = open_socket(interface, ALL_PROTOCOLS)
         self.out = open_socket(interface, 0)
         self.last_sent = -math.inf  # by the monotonic clock
@@ -154,10 +154,10 @@ class Bench:
         """Why the security entity refuses the message of an own packet of the station under test,
         or nothing. It is asked at once, since it looks at the time."""
         is_own = source_of(opened(frame)) == self.station.source
-        if self.helpers.entity is None or not is_secured(frame) or not is_own:
+        if self.partners.entity is None or not is_secured(frame) or not is_own:
             return ""
         try:
-            return self.helpers.entity.refusal(frame, tai_ms(stamp))
+            return self.partners.entity.refusal(frame, tai_ms(stamp))
         except NoEntity as why:
             return str(why)
 
@@ -185,7 +185,7 @@ class Bench:
 
     def do(self, step: Step, played: dict[str, Played], macs: dict[str, bytes]) -> None:
         if step.name == UPPER:
-            self.helpers.upper.ask(step.action, self.station.place)
+            self.partners.upper.ask(step.action, self.station.place)
             return
         frame, key = played[step.name].frame(now_ms(), step.action, macs)
         self.sent.append(Sent(step, key))
@@ -195,7 +195,7 @@ class Bench:
     def play(self, purpose: Purpose, records: list[Record]) -> None:
         """Plays a purpose, and waits for what its last frames cause. Adds its records."""
         made: dict[str, Packet] = {}
-        signers = self.helpers.signers()
+        signers = self.partners.signers()
         played = {n.name: Played(n, self.station, made, signers) for n in purpose.neighbours}
         macs = {n.name: n.mac for n in purpose.neighbours} | {"station": self.station.mac}
         # A forwarded packet that was received before the recording begins proves nothing.
@@ -209,7 +209,7 @@ class Bench:
 
     def delivered(self) -> list[Delivered]:
         """What the upper tester has reported since the last call."""
-        return self.helpers.upper.events() if self.helpers.upper else []
+        return self.partners.upper.events() if self.partners.upper else []
 
     def complain_of_lost_frames(self) -> None:
         _, lost = struct.unpack("II", self.tap.getsockopt(PACKET, STATISTICS, 8))

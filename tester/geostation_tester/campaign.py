@@ -7,7 +7,7 @@ import time
 from pathlib import Path
 from typing import NamedTuple, TextIO
 
-from .bench import Bench, Helpers
+from .bench import Bench, Partners
 from .entity import NoEntity
 from .purposes import JUDGED, Purpose
 from .recording import Recording
@@ -40,7 +40,7 @@ class Setting(NamedTuple):
     station: StationFile
     record: Path
     program: str
-    helpers: Helpers = Helpers()
+    partners: Partners = Partners()
 
     @property
     def claims(self) -> Path:
@@ -53,7 +53,7 @@ class Setting(NamedTuple):
 
 
 def play(bench: Bench, purpose: Purpose) -> Played:
-    lacks = bench.station.lacks(purpose.needs, bench.helpers.names())
+    lacks = bench.station.lacks(purpose.needs, bench.partners.names())
     if lacks:
         return Played(purpose, [], [], f"needs {', '.join(lacks)}", False, 0.0)
     began = time.monotonic()
@@ -85,7 +85,7 @@ def record(setting: Setting, purposes: list[Purpose], progress: TextIO) -> list[
     with open(setting.record, "wb") as out:
         recording = Recording(out)
         expect_judge(setting)
-        bench = Bench(setting.interface, setting.station, recording, setting.helpers)
+        bench = Bench(setting.interface, setting.station, recording, setting.partners)
         for k, purpose in enumerate(purposes, 1):
             print(f"{k} of {len(purposes)}: {purpose.name}", file=progress, flush=True)
             played.append(play(bench, purpose))

@@ -32,7 +32,7 @@ KEYS = [
         ("group", "text", "required", "the nearest one of TS 102 871-2"),
         ("clause", "text", "empty", "of EN 302 636-4-1, unless it says otherwise"),
         ("pics", "list of text", "none", "items of PROFILE.md"),
-        ("needs", "list of text", "none", "claims and helpers without which it does not apply"),
+        ("needs", "list of text", "none", "claims and partners without which it does not apply"),
         ("report", "boolean", "false", "it reports differences, and does not fail by them"),
         ("fresh", "boolean", "false", "it first waits until the station has forgotten its frames"),
         ("settle", "0..60000 ms", "200", "time after the last frame"),

@@ -18,7 +18,7 @@ from .actions import (
     read_neighbours,
 )
 from .expected import Expectation, read_expectation
-from .station_file import HELP, NEEDS, SECURED, STRANGER
+from .station_file import NEEDS, PARTNERS, SECURED, STRANGER
 from .tables import Table, read_file
 
 ITEM = re.compile(r"(CAP|MIB|PKT|FUN)-[0-9]+$")  # of docs/PROFILE.md
@@ -67,8 +67,8 @@ def read_duties(t: Table | None) -> dict[str, int]:
 def read_needs(t: Table) -> tuple[str, ...]:
     found = tuple(t.take("needs", list, []))
     for need in found:
-        if need not in (*NEEDS, *HELP):
-            raise t.wrong(f"needs is not of {', '.join((*NEEDS, *HELP))}")
+        if need not in (*NEEDS, *PARTNERS):
+            raise t.wrong(f"needs is not of {', '.join((*NEEDS, *PARTNERS))}")
     return found
 
 

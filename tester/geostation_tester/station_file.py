@@ -27,7 +27,7 @@ NEEDS = {
 # What it may need of the bench besides an upper tester: one that opens ports, a security entity
 # with a key that the station trusts, and one with a key that it does not know.
 PORTS, SECURED, STRANGER = "ports", "secured", "stranger"
-HELP = (UPPER, PORTS, SECURED, STRANGER)
+PARTNERS = (UPPER, PORTS, SECURED, STRANGER)
 OVER_RESTARTS = ("steady", "fresh")
 # The tester made every frame, and its own port is the tap.
 BENCH = {"sent": True, "received": True, "delivered": True}
@@ -53,11 +53,11 @@ class StationFile:
         return int.from_bytes(self.address, "big")
 
     def lacks(self, needs: tuple[str, ...], there: set[str]) -> list[str]:
-        """`there` is the help that the bench has. A station whose packets are signed accepts no
+        """`there` are the partners of the bench. A station whose packets are signed accepts no
         others."""
         claims = (need for need in needs if need in NEEDS)
         lacking = [need for need in claims if not NEEDS[need](self.claims)]
-        lacking += [need for need in HELP if need in needs and need not in there]
+        lacking += [need for need in PARTNERS if need in needs and need not in there]
         return lacking + (["unsecured"] if SECURED in there and SECURED not in needs else [])
 
     def restarted(self) -> StationFile:

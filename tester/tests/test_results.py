@@ -9,7 +9,7 @@ from unittest import mock
 from xml.etree import ElementTree
 
 from geostation_tester.areas import moved
-from geostation_tester.bench import Helpers, Record, Sent
+from geostation_tester.bench import Partners, Record, Sent
 from geostation_tester.campaign import Setting, expect_judge
 from geostation_tester.frames import Key
 from geostation_tester.neighbours import Played as Neighbour
@@ -145,11 +145,11 @@ class Results(unittest.TestCase):
             self.assertEqual((result.verdict, result.why), (verdict, why))
 
     def test_an_upper_tester_over_udp_opens_no_ports(self):
-        helpers = Helpers(mock.Mock(opens_ports=UdpUpper.opens_ports))
-        self.assertEqual(helpers.names(), {"upper"})
-        self.assertEqual(self.station.lacks(("upper", "ports"), helpers.names()), ["ports"])
-        helpers = Helpers(mock.Mock(opens_ports=JsonUpper.opens_ports))
-        self.assertEqual(self.station.lacks(("upper", "ports"), helpers.names()), [])
+        partners = Partners(mock.Mock(opens_ports=UdpUpper.opens_ports))
+        self.assertEqual(partners.names(), {"upper"})
+        self.assertEqual(self.station.lacks(("upper", "ports"), partners.names()), ["ports"])
+        partners = Partners(mock.Mock(opens_ports=JsonUpper.opens_ports))
+        self.assertEqual(self.station.lacks(("upper", "ports"), partners.names()), [])
 
     def test_a_fail_of_any_duty_is_a_fail(self):
         fail = Verdict("fail", "D1", 2, "G4 at 1")
