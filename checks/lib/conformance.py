@@ -45,8 +45,8 @@ SIDE_BY_SIDE = int(os.environ.get("CONFORMANCE_JOBS", "40"))
 AGAIN = (4, 2, 1)  # side by side, at the further attempts
 # The purposes in which the daemon's defaults differ from the standard, with the duty.
 OF_DEFAULTS = {"DPD-02": ("D20",), "CAP-01": ("D20",)}
-# Purposes of which the second needs the first to be forgotten.
-CAMPAIGN = ("GBC-05", "GBC-06", "GAC-01")
+# Purposes of which the second needs the first to be forgotten, and two that open one port.
+CAMPAIGN = ("GBC-05", "GBC-06", "GAC-01", "FDV-13", "GBC-02")
 # What is reported to be otherwise than by the standard, and what only the defaults have otherwise.
 OF_PROFILE = ("FDV-12", "GBC-07", "GBC-09", "GBC-10", "GBC-11", "SHB-02")
 OF_LIMITS = ("LIM-01", "LIM-02")
@@ -181,7 +181,7 @@ def play_campaign(wire: int, program: str, room: str, attempt: int = 0) -> str:
     iut.write_text(station_file(run))
     command = [str(TOP / "tester/geostation-tester"), "--iut", str(iut), "--interface", f"t{wire}"]
     command += ["--record", str(run.folder / "run.pcapng"), "--program", program]
-    command += ["--junit", str(junit), "--tap", str(tap), *CAMPAIGN]
+    command += ["--junit", str(junit), "--tap", str(tap), "--upper-json", run.upper, *CAMPAIGN]
     with liar_on(run, PATIENCE * 6):
         done = subprocess.run(command, capture_output=True, text=True)
     suite = ElementTree.parse(junit).getroot() if junit.exists() else {}

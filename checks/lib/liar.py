@@ -108,7 +108,12 @@ class Liar:
             self.requests.write(event="delivered", port=port, info=info, payload=payload.hex())
 
     def answer(self, request):
-        """Does what is asked for. Returns the result."""
+        """Does what is asked for. Returns the answer."""
+        if request["do"] == "open" and request["port"] in self.station.ports:
+            return {"result": "refused", "code": "S8 B2"}
+        return {"result": self.execute(request)}
+
+    def execute(self, request):
         now, station = now_ms(), self.station
         if request["do"] == "open":
             station.open_port(request["port"])
@@ -134,7 +139,7 @@ class Liar:
                 self.receive()
             elif ready:
                 for request in self.requests.read():
-                    self.requests.write(result=self.answer(request))
+                    self.requests.write(**self.answer(request))
 
 
 def lie(interface, address, place, fault, path, seconds, keys):

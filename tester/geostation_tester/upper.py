@@ -22,6 +22,7 @@ TRIGGERS = {"gbc": 0x51, "gac": 0x52, "shb": 0x53}
 INITIALIZATION, CHANGE_POSITION, EVENT = 0x00, 0x02, b"\x55"
 RESULTS = (b"\x01\x01", b"\x03\x01", b"\x41\x01")
 DONE = ("sent", "opened", "moved", "restarted")
+PORT_IS_OPEN = "S8 B2"  # by an earlier purpose, or from the start
 
 
 class NoUpper(Exception):
@@ -99,8 +100,12 @@ class JsonUpper(Upper):
             self.socket.sendall(json.dumps(request).encode() + b"\n")
             while not (answers := self.read()):
                 pass
-            if answers[0].get("result") not in DONE:
+            if not is_done(answers[0]):
                 raise NoUpper(f"{action.ask}: {answers[0]}")
+
+
+def is_done(answer: dict) -> bool:
+    return answer.get("result") in DONE or answer.get("code") == PORT_IS_OPEN
 
 
 def requests_of(action: Action, home: Place) -> list[dict]:

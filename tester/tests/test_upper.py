@@ -55,6 +55,17 @@ class Uppers(unittest.TestCase):
             with self.assertRaisesRegex(NoUpper, "no answer: timed out"):
                 made.ask(action("open"), HOME)
 
+    def test_a_port_that_is_open_needs_no_opening(self):
+        """The answers are those of geostation-link."""
+        made, other = self.json_upper()
+        other.sendall(b'{"at":1,"result":"refused","code":"S8 B2","reason":"the port is open"}\n')
+        made.ask(action("open"), HOME)
+        self.assertEqual(other.recv(100), b'{"do": "open", "port": 2001}\n')
+        refused = b'{"at":1,"result":"refused","code":"S8 B3","reason":"64 other ports are open"}'
+        other.sendall(refused + b"\n")
+        with self.assertRaisesRegex(NoUpper, "open: .*S8 B3"):
+            made.ask(action("open"), HOME)
+
     def test_a_closed_socket_is_reported(self):
         made, other = self.json_upper()
         other.close()
