@@ -269,6 +269,24 @@ class ForwardsAtOnce(Station):
     """a station that says that it contends is not silenced."""
 
 
+class OnlyHoldsAccurate(Station):
+    """a station that says that it contends forwards at once what has no accurate position."""
+
+
+class FullBuffer(Station):
+    """a station that says that it contends loses what it can't hold."""
+
+    held = 0
+
+    def forwarding(self, now: int, frame: bytes, packet: Packet) -> bytes | None:
+        self.held += 1
+        return super().forwarding(now, frame, packet) if self.held <= 64 else None
+
+
+class NotSilencedByTwo(Station):
+    """a station that says that it contends is not silenced by two others."""
+
+
 class LostWithoutNextHop(Station):
     """outside the area a packet without a next hop is not forwarded."""
 
@@ -402,6 +420,9 @@ TABLE = [
     Found(NeverReleases, "CBF-01", (), ("D20",)),
     Found(DoesNotContend, "CBF-03", (), ("D22",)),
     Found(ForwardsAtOnce, "CBF-02", (), ("D23",)),
+    Found(OnlyHoldsAccurate, "CBF-04", (), ("D22",)),
+    Found(FullBuffer, "CBF-05", (), ("D20",)),
+    Found(NotSilencedByTwo, "CBF-06", (), ("D23",)),
     Found(faults.MoreHopsThanAtMost, "FDV-11", ("D13",), ("D21",)),
     Found(faults.StopsAfterMalformed, "FDV-11", (), ("D20",)),
     Found(DiesOfTruncated, "FDV-11", (), ("D20",)),
