@@ -4,6 +4,10 @@
 #![allow(dead_code)]
 #[path = "twin/common.rs"]
 mod common;
+#[path = "twin/contention.rs"]
+mod contention;
+#[path = "twin/contest.rs"]
+mod contest;
 #[path = "twin/geometry.rs"]
 mod geometry;
 #[path = "twin/grid.rs"]
@@ -18,6 +22,7 @@ mod station;
 mod table;
 
 use common::{DELAY, Draws, Tally, print_road};
+use contest::{Contest, Wait};
 use geometry::Place;
 use grid::Grid;
 use scenario::Scenario;
@@ -52,19 +57,23 @@ struct Air {
     heap: BinaryHeap<Reverse<Waiting>>,
     /// Deliveries, which come in the order in which they were put, the first in front.
     line: VecDeque<Delivery>,
+    /// What the stations hold, if they contend.
+    contest: Option<Contest>,
     placed: u64,
     found: Vec<usize>,
 }
 
 impl Air {
-    fn new(scenario: Scenario) -> Air {
+    fn new(mut scenario: Scenario) -> Air {
+        let contest = scenario.rule.take().map(|rule| Contest::new(rule, scenario.stations.len()));
         let at = |spot: &scenario::Spot| Station::new(spot.address, spot.place, spot.capacity, 8);
         let world = World::new(scenario.stations.iter().map(at).collect());
         let places: Vec<Place> = scenario.stations.iter().map(|spot| spot.place).collect();
         let grid = Grid::new(scenario.range, &places);
         let draws = Draws::new(scenario.seed);
         let (heap, line) = (BinaryHeap::new(), VecDeque::new());
-        let mut air = Air { scenario, world, grid, draws, heap, line, placed: 0, found: Vec::new() };
+        let found = Vec::new();
+        let mut air = Air { scenario, world, grid, draws, heap, line, contest, placed: 0, found };
         for station in 0..places.len() {
             if air.scenario.beacons {
                 air.put_tick(0, 0, station);
@@ -134,23 +143,55 @@ impl Air {
         }
     }
 
+    /// What a station holds or cancels at an event, counted.
+    fn contend(&mut self, event: &Event, entry: &Entry, tally: &mut Tally) -> bool {
+        let Some(contest) = &mut self.contest else { return false };
+        match contest.take(&self.world, event, entry) {
+            Wait::Nothing => false,
+            Wait::Holds => {
+                tally.hold();
+                true
+            }
+            Wait::Cancels(count) => {
+                tally.cancel(count);
+                false
+            }
+        }
+    }
+
+    /// Releases a frame that is due before the next event, and returns whether there was one.
+    fn release(&mut self, next: Option<u64>, tally: &mut Tally) -> bool {
+        let before = next.unwrap_or(u64::MAX).min(self.scenario.until + 1);
+        let released = self.contest.as_mut().and_then(|contest| contest.release(before));
+        if let Some(released) = &released {
+            tally.release(released.frame);
+            self.send(released.moment, released.station, released.frame);
+        }
+        released.is_some()
+    }
+
+    /// Deliveries of a frame that a station sends.
+    fn send(&mut self, moment: u64, station: usize, frame: usize) {
+        let from = self.world.stations[station].place();
+        let mut found = std::mem::take(&mut self.found);
+        self.grid.hearers(station, from, &mut found);
+        for station in &found {
+            // No frame is lost, but each has its draw.
+            let _ = self.draws.next();
+            self.put_delivery(moment + DELAY, *station, frame);
+        }
+        self.found = found;
+    }
+
     /// What follows an event: deliveries of what it gave, the next tick, the next send.
-    fn follow(&mut self, event: &Event, entry: &Entry, sent: Option<usize>) {
+    fn follow(&mut self, event: &Event, entry: &Entry, sent: Option<usize>, is_held: bool) {
         let given = match entry {
             Entry::Sent(frame) => Some(*frame),
-            Entry::Accepted { sent, .. } => *sent,
+            Entry::Accepted { sent, .. } if !is_held => *sent,
             _ => None,
         };
         if let Some(frame) = given {
-            let from = self.world.stations[event.station].place();
-            let mut found = std::mem::take(&mut self.found);
-            self.grid.hearers(event.station, from, &mut found);
-            for station in &found {
-                // No frame is lost, but each has its draw.
-                let _ = self.draws.next();
-                self.put_delivery(event.moment + DELAY, *station, frame);
-            }
-            self.found = found;
+            self.send(event.moment, event.station, frame);
         }
         if let What::Tick(_) = event.what {
             let due = self.world.stations[event.station].beacon_from();
@@ -169,10 +210,13 @@ fn run(mut scenario: Scenario) -> Tally {
     file.sort_by_key(|event| event.moment);
     let mut file = file.into_iter().peekable();
     let mut air = Air::new(scenario);
-    let mut tally = Tally::default();
+    let mut tally = if air.contest.is_some() { Tally::of_contention() } else { Tally::default() };
     loop {
         let own = air.next_moment();
         let filed = file.peek().map(|event| event.moment);
+        if air.release(own.into_iter().chain(filed).min(), &mut tally) {
+            continue;
+        }
         let (event, sent) = match (filed, own) {
             (None, None) => break,
             (Some(f), o) if o.is_none_or(|o| f <= o) => (file.next().unwrap(), None),
@@ -186,7 +230,8 @@ fn run(mut scenario: Scenario) -> Tally {
         }
         let entry = air.world.step(&event);
         tally.count(&air.world, &event, &entry);
-        air.follow(&event, &entry, sent);
+        let is_held = air.contend(&event, &entry, &mut tally);
+        air.follow(&event, &entry, sent, is_held);
     }
     tally
 }

@@ -5,6 +5,8 @@
 #![allow(dead_code)]
 #[path = "twin/common.rs"]
 mod common;
+#[path = "twin/contention.rs"]
+mod contention;
 #[path = "twin/geometry.rs"]
 mod geometry;
 #[path = "twin/grid.rs"]

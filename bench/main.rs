@@ -1,6 +1,10 @@
 //! The hot calls beside the same algorithms in plain Rust: a row for each, by interleaved rounds.
 //! `./bench WORD` measures the rows whose name has the word.
 #![allow(dead_code)]
+#[path = "twin/contending.rs"]
+mod contending;
+#[path = "twin/contention.rs"]
+mod contention;
 #[path = "twin/geometry.rs"]
 mod geometry;
 #[path = "twin/lines.rs"]
@@ -12,6 +16,8 @@ mod station;
 #[path = "twin/table.rs"]
 mod table;
 
+use contending::{Contending, Reaction};
+use contention::Rule;
 use geometry::{Area, Place, Shape, contains, distance2, nearest};
 use packets::{Kind, LongPv, Packet, View, be16, encode_into, read, read_frame, relay_frame};
 use station::{Entry, Event, Outcome, Station, What, World};
@@ -54,6 +60,19 @@ unsafe extern "C" {
         r: u32,
     ) -> u64;
     fn bench_receive(b: *const u8, n: usize, p: *const u8, m: usize, stride: usize, r: u32) -> u64;
+    fn bench_contend(
+        b: *const u8,
+        n: usize,
+        f: *const u8,
+        l: usize,
+        p: *const u8,
+        m: usize,
+        stride: usize,
+        part: usize,
+        copies: u8,
+        keeps: bool,
+        r: u32,
+    ) -> u64;
     fn bench_world(w: *const u64, n: usize, runs: u32) -> u64;
     fn bench_simulate(w: *const u64, n: usize, runs: u32) -> u64;
 }
@@ -919,6 +938,125 @@ fn receive_rows(count: usize) {
     }
 }
 
+// ---- contention
+
+/// How many frames a station may hold.
+const PLACES: usize = 64;
+const STRIDE: usize = 104;
+
+/// What a contending station receives: beacons, frames before the measured ones, and those. Without
+/// `keeps` the held frames are dropped after each 64 frames. With no copies it is a simple station.
+#[derive(Clone, Copy)]
+struct Contest<'a> {
+    beacons: &'a [u8],
+    first: &'a [u8],
+    frames: &'a [u8],
+    copies: u8,
+    keeps: bool,
+}
+
+impl Contest<'_> {
+    fn ours(&self, rounds: u32) -> u64 {
+        let Contest { beacons, first, frames, copies, keeps } = *self;
+        unsafe {
+            bench_contend(
+                beacons.as_ptr(),
+                beacons.len(),
+                first.as_ptr(),
+                first.len(),
+                frames.as_ptr(),
+                frames.len(),
+                STRIDE,
+                PLACES * STRIDE,
+                copies,
+                keeps,
+                rounds,
+            )
+        }
+    }
+
+    #[inline(never)]
+    fn twin(&self, rounds: u32) -> u64 {
+        let place = Place { lat: 450_000_000, lon: 70_000_000 };
+        let mut station = Station::new(0x1400_0200_00ff_ffff, place, 4096, 8);
+        let _ = station.open(0, 2002);
+        self.beacons.chunks_exact(50).for_each(|frame| drop(station.receive(5, frame)));
+        let (min_wait, max_wait, range, copies) = (1, 100, 1000, self.copies.into());
+        let rule = (copies > 0).then_some(Rule { min_wait, max_wait, range, copies });
+        let mut station = Contending::new(station, rule);
+        part_code(&mut station, self.first, self.keeps);
+        let parts = self.frames.chunks_exact(PLACES * STRIDE);
+        let mut all = || parts.clone().map(|part| part_code(&mut station, part, self.keeps)).sum();
+        repeated(rounds, &mut all)
+    }
+
+    /// How many rounds there are, and how many times that many frames are received in them.
+    fn rounds(&self, frames: usize) -> (u32, usize) {
+        let count = self.frames.len() / STRIDE;
+        let k = 400_000_usize.div_ceil(count);
+        (k as u32, count * k / frames)
+    }
+
+    fn row(&self, name: &str, frames: usize) {
+        let (k, calls) = self.rounds(frames);
+        let sides: [Call<'_>; 2] = [Box::new(|r| self.ours(r)), Box::new(|r| self.twin(r))];
+        row(&format!("receive {name}"), calls, 20, k, true, sides);
+    }
+}
+
+fn part_code(station: &mut Contending, frames: &[u8], keeps: bool) -> u64 {
+    let sum = frames
+        .chunks_exact(STRIDE)
+        .map(|frame| reaction_code(station.receive(5, frame)))
+        .fold(0, u64::wrapping_add);
+    let released = if keeps { None } else { station.release(9000) };
+    sum.wrapping_add(released.map_or(0, |frame| frame.len() as u64))
+}
+
+fn reaction_code(reaction: Result<Reaction<'_>, station::Refused>) -> u64 {
+    match reaction {
+        Ok(Reaction { outcome, due, cancelled }) => {
+            outcome_code(Ok(outcome)) + due.unwrap_or(0) + u64::from(cancelled)
+        }
+        Err(refused) => outcome_code(Err(refused)),
+    }
+}
+
+/// The frame in which another station forwards a packet.
+fn copy_of(frame: &[u8]) -> Vec<u8> {
+    let frame = read_frame(frame).ok().expect("a frame");
+    relay_frame(station::BROADCAST, 0x0200_00aa_0000, &frame)
+}
+
+fn contention_rows() {
+    let all = sources(PLACES);
+    let inside = (450_000_100, 70_000_000);
+    let frame = |a: u64, number: u16| frame_of(a, packet(GBC, a, number, inside, 34));
+    let beacons: Vec<u8> =
+        all.iter().flat_map(|a| frame_of(*a, packet(BEACON, *a, 0, inside, 34))).collect();
+    // Sixteen numbers of each source in turn, of which it remembers eight.
+    let numbered = |n: u16| -> Vec<u8> { all.iter().flat_map(|a| frame(*a, n)).collect() };
+    let (new, once): (Vec<u8>, _) = ((0..16).flat_map(numbered).collect(), numbered(0));
+    let most = &once[STRIDE..];
+    let pair = |number: u16| {
+        let new = frame(all[0], number);
+        let copy = copy_of(&new);
+        new.into_iter().chain(copy)
+    };
+    let pairs: Vec<u8> = (0..32).flat_map(pair).collect();
+    let none = Contest { beacons: &beacons, first: &[], frames: &new, copies: 1, keeps: false };
+    none.row("inside, held", 1);
+    Contest { first: most, frames: &pairs, keeps: true, ..none }
+        .row("inside, held, and a copy that cancels it, 63 held", 2);
+    Contest { first: &once, frames: &once, keeps: true, ..none }.row("a duplicate, 64 held", 1);
+    let duplicates = Contest { first: &once, frames: &once, ..none };
+    duplicates.row("a duplicate, none held", 1);
+    let simple = Contest { copies: 0, ..duplicates };
+    let (k, calls) = duplicates.rounds(1);
+    let sides: [Call<'_>; 2] = [Box::new(|r| duplicates.ours(r)), Box::new(|r| simple.ours(r))];
+    row("receive a duplicate, none held, beside a simple unit", calls, 20, k, true, sides);
+}
+
 // ---- worlds and lines
 
 const STATIONS: u64 = 10;
@@ -1027,5 +1165,6 @@ fn main() {
         choose_rows(count);
         receive_rows(count);
     }
+    contention_rows();
     world_rows();
 }

@@ -1,7 +1,8 @@
-"""A town for `geostation sim`: `town.py STATIONS SECONDS` prints its scenario.
+"""A town for `geostation sim`: `town.py STATIONS SECONDS [contending]` prints its scenario.
 
 160 stations a square kilometre stand in disorder, of one seed. Each sends beacons and, once a
-second, a single-hop message of 50 octets; five geobroadcasts go out beside these.
+second, a single-hop message of 50 octets; five geobroadcasts go out beside these. Where the stations
+contend, ten geobroadcasts go out each second, to areas twice as wide.
 """
 
 import math
@@ -18,7 +19,15 @@ WARNINGS = 5
 FIRST = 0x1400020000000001
 
 
-def main(stations, seconds):
+# How the stations contend: the range is that of the radio.
+CONTENTION = f"""contention = true
+contention_min = 1
+contention_max = 100
+contention_range = {RANGE}
+contention_copies = 2"""
+
+
+def main(stations, seconds, contend):
     draws = random.Random(stations)
     side = 1000 * math.sqrt(stations / DENSITY)
 
@@ -28,7 +37,10 @@ def main(stations, seconds):
         return lat, lon
 
     until = 1000 * seconds - 1
+    warnings, radius = (10 * seconds, 600) if contend else (WARNINGS, 300)
     print(f"[air]\nrange = {RANGE}\nseed = 1\nbeacons = true\nuntil = {until}")
+    if contend:
+        print(CONTENTION)
     print(f"[[every]]\nperiod = 1000\nport = {PORT}\ninfo = 0\ntc = 0\noctets = 50")
     for number in range(stations):
         lat, lon = place()
@@ -36,13 +48,13 @@ def main(stations, seconds):
         print("capacity = 256")
     for number in range(stations):
         print(f'[[event]]\nstation = {number}\nat = 0\ndo = "open"\nport = {PORT}')
-    for warning in range(1, WARNINGS + 1):
+    for warning in range(1, warnings + 1):
         lat, lon = place()
         station = int(stations * draws.random())
-        moment = until * warning // (WARNINGS + 1)
+        moment = until * warning // (warnings + 1)
         print(f'[[event]]\nstation = {station}\nat = {moment}\ndo = "gbc"\nport = {PORT}')
         print(f'info = 0\ntc = 0\nlt = 26\nhops = 10\nshape = "circle"\nalat = {lat}')
-        print(f'alon = {lon}\na = 300\nb = 0\nangle = 0\npayload = "696365"')
+        print(f'alon = {lon}\na = {radius}\nb = 0\nangle = 0\npayload = "696365"')
 
 
-main(int(sys.argv[1]), int(sys.argv[2]))
+main(int(sys.argv[1]), int(sys.argv[2]), "contending" in sys.argv[3:])

@@ -121,9 +121,51 @@ pub struct Tally {
     duplicates: u64,
     ignored: u64,
     refused: u64,
+    contention: Option<Held>,
+}
+
+/// The frames that stations held: all of them, those that went out, and those that copies cancelled.
+#[derive(Clone, Copy, Default)]
+struct Held {
+    all: usize,
+    released: usize,
+    cancelled: usize,
 }
 
 impl Tally {
+    /// Of a run in which stations contend.
+    pub fn of_contention() -> Tally {
+        Tally { contention: Some(Held::default()), ..Tally::default() }
+    }
+
+    fn held(&mut self) -> &mut Held {
+        self.contention.get_or_insert_default()
+    }
+
+    fn send_of(&mut self, frame: usize) -> Option<&mut Send> {
+        self.carried[frame].map(|carried| &mut self.sends[carried.send])
+    }
+
+    /// Counts the frame that was given last as one that is held.
+    pub fn hold(&mut self) {
+        self.held().all += 1;
+        if let Some(send) = self.send_of(self.carried.len() - 1) {
+            send.frames -= 1;
+        }
+    }
+
+    pub fn release(&mut self, frame: usize) {
+        self.held().released += 1;
+        if let Some(send) = self.send_of(frame) {
+            send.frames += 1;
+        }
+    }
+
+    pub fn cancel(&mut self, count: usize) {
+        self.held().cancelled += count;
+    }
+
+
     pub fn count(&mut self, world: &World, event: &Event, entry: &Entry) {
         let number = self.events;
         self.events += 1;
@@ -198,7 +240,13 @@ impl Tally {
             println!("delivered {delivered} frames {frames} hops {hops} last {last}");
         }
         let Tally { events, deliveries, duplicates, ignored, refused, .. } = self;
-        print!("total events {events} frames {} deliveries {deliveries} ", self.carried.len());
-        println!("duplicates {duplicates} ignored {ignored} refused {refused}");
+        let held = self.contention.unwrap_or_default();
+        let frames = self.carried.len() - held.all + held.released;
+        print!("total events {events} frames {frames} deliveries {deliveries} ");
+        print!("duplicates {duplicates} ignored {ignored} refused {refused}");
+        if self.contention.is_some() {
+            print!(" held {} cancelled {}", held.all, held.cancelled);
+        }
+        println!();
     }
 }

@@ -1,5 +1,6 @@
 //! The scenarios of `bench/air`, of which a line is a key and a value or the name of a table: no
 //! more of TOML is read than these have.
+use crate::contention::Rule;
 use crate::geometry::{Area, Place, Shape};
 use crate::station::{Event, What};
 use std::collections::HashMap;
@@ -24,6 +25,7 @@ pub struct Scenario {
     pub seed: u64,
     pub beacons: bool,
     pub until: u64,
+    pub rule: Option<Rule>,
     pub stations: Vec<Spot>,
     pub every: Vec<Every>,
     pub events: Vec<Event>,
@@ -50,6 +52,16 @@ impl<'a> Table<'a> {
         assert_eq!(self.text("shape"), "circle");
         let centre = Place { lat: self.number("alat"), lon: self.number("alon") };
         Area { shape: Shape::Circle, centre, a: self.number("a"), b: 0, angle: 0 }
+    }
+
+    /// By what rule stations contend, if they do.
+    fn rule(&self) -> Option<Rule> {
+        self.0.contains_key("contention").then(|| Rule {
+            min_wait: self.number("contention_min"),
+            max_wait: self.number("contention_max"),
+            range: self.number("contention_range"),
+            copies: self.number("contention_copies"),
+        })
     }
 
     fn event(&self) -> Event {
@@ -92,6 +104,7 @@ impl Scenario {
                 self.seed = table.number("seed");
                 self.beacons = table.number("beacons");
                 self.until = table.number("until");
+                self.rule = table.rule();
             }
             "[[every]]" => self.every.push(Every {
                 period: table.number("period"),

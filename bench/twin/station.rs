@@ -77,6 +77,14 @@ impl Station {
         self.vector.place
     }
 
+    pub fn mid(&self) -> u64 {
+        self.vector.address & MID
+    }
+
+    pub fn table(&self) -> &Table {
+        &self.table
+    }
+
     pub fn beacon_from(&self) -> u64 {
         self.beacon_from
     }
@@ -116,8 +124,17 @@ impl Station {
     pub fn receive<'a>(&mut self, now: u64, octets: &'a [u8]) -> Result<Outcome<'a>, Refused> {
         self.check_moment(now)?;
         let frame = read_frame(octets).map_err(Refused::Frame)?;
+        self.receive_read(now, &frame)
+    }
+
+    /// The same of a frame that was read.
+    pub fn receive_read<'a>(
+        &mut self,
+        now: u64,
+        frame: &Frame<'a>,
+    ) -> Result<Outcome<'a>, Refused> {
         let found = self.table.find(frame.packet.vector.address);
-        self.receive_found(now, &frame, found)
+        self.receive_found(now, frame, found)
     }
 
     /// The same of a frame that was read, whose source was looked up.
@@ -391,6 +408,10 @@ impl World {
             *found = self.stations[*station as usize].table.found_at(last, address);
         }
         found
+    }
+
+    pub fn frame(&self, number: usize) -> &[u8] {
+        &self.air[number]
     }
 
     /// Takes the octets of a frame out, while it is delivered.

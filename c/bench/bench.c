@@ -5,6 +5,7 @@
 #define _POSIX_C_SOURCE 200809L
 #include "geostation.h"
 #include <inttypes.h>
+#include <stdbool.h>
 #include <stdio.h>
 #include <stdlib.h>
 #include <string.h>
@@ -12,8 +13,11 @@
 
 #define ADDRESS UINT64_C(0x1400020000000001)
 #define OTHER UINT64_C(0x1400020000000002)
+#define THIRD UINT64_C(0x1400020000000003)
 #define MANY 1000
 #define TURNS 40
+/* How many frames a station may hold. */
+#define PLACES 64
 /* What a message has before and behind its plain part, with a digest as signer. */
 #define BEFORE 12
 #define BEHIND 96
@@ -39,6 +43,12 @@ uint64_t bench_receive(uint64_t address, const uint8_t *frames, size_t length, s
 uint64_t bench_send(uint64_t address, uint8_t kind, const struct asked *asked, size_t many,
                     const uint8_t *payload, size_t length, uint32_t rounds, uint8_t *frame,
                     size_t room);
+
+uint64_t bench_contend(uint64_t address, const uint8_t *frames, size_t length, size_t stride,
+                       bool releases, uint32_t rounds, struct noted *noted, uint8_t *relay,
+                       size_t room);
+uint64_t bench_next_due(uint64_t address, const uint8_t *frames, size_t length, size_t stride,
+                        uint32_t times, struct noted *noted, uint8_t *relay, size_t room);
 
 static uint8_t frames[MANY * 100], relay[GEOSTATION_FRAME_MAX], payload[20];
 static size_t frames_length, stride;
@@ -68,7 +78,7 @@ static void make_requests(void) {
     }
 }
 
-static struct geostation *station(uint64_t address, int32_t longitude) {
+static struct geostation *station_that(uint32_t forwards, uint64_t address, int32_t longitude) {
     struct geostation *s;
     /* without limits, as the loops that it is compared with */
     struct geostation_config config;
@@ -78,11 +88,17 @@ static struct geostation *station(uint64_t address, int32_t longitude) {
     config.longitude = longitude;
     config.forward_rate = config.source_rate = config.own_rate = 0;
     config.hop_cap = config.deliver_once = 0;
+    config.area_forwarding = forwards;
+    config.contention_copies = 1;
     if (geostation_new_from_config(&s, &config) != GEOSTATION_OK
         || geostation_open_port(s, 0, 2002) != GEOSTATION_OK) {
         exit(1);
     }
     return s;
+}
+
+static struct geostation *station(uint64_t address, int32_t longitude) {
+    return station_that(GEOSTATION_SIMPLE, address, longitude);
 }
 
 static uint64_t receive_from_c(uint32_t rounds) {
@@ -105,6 +121,55 @@ static uint64_t receive_in_rust(uint32_t rounds) {
     struct noted noted;
     return bench_receive(OTHER, frames, frames_length, stride, rounds, &noted, relay,
                          sizeof relay);
+}
+
+static bool releases;
+
+static uint64_t contend_from_c(uint32_t rounds) {
+    struct geostation *s = station_that(GEOSTATION_CONTENTION, OTHER, 900);
+    struct geostation_reception r;
+    uint64_t sum = 0;
+    size_t n;
+    for (uint32_t k = 0; k < rounds; k++) {
+        for (size_t at = 0; at < frames_length; at += stride) {
+            if (geostation_receive(s, 5, frames + at, stride, &r, relay, sizeof relay)
+                == GEOSTATION_OK) {
+                sum += r.payload_length + r.due + r.cancelled;
+            }
+            if (releases
+                && geostation_release(s, r.due, relay, sizeof relay, &n) == GEOSTATION_OK) {
+                sum += n;
+            }
+        }
+    }
+    geostation_free(s);
+    return sum;
+}
+
+static uint64_t contend_in_rust(uint32_t rounds) {
+    struct noted noted;
+    return bench_contend(OTHER, frames, frames_length, stride, releases, rounds, &noted, relay,
+                         sizeof relay);
+}
+
+static uint64_t next_due_from_c(uint32_t rounds) {
+    struct geostation *s = station_that(GEOSTATION_CONTENTION, OTHER, 900);
+    struct geostation_reception r;
+    uint64_t sum = 0;
+    for (size_t k = 0; k < PLACES; k++) {
+        geostation_receive(s, 5, frames + k * stride, stride, &r, relay, sizeof relay);
+    }
+    for (uint32_t k = 0; k < rounds * MANY; k++) {
+        sum += geostation_next_due(s);
+    }
+    geostation_free(s);
+    return sum;
+}
+
+static uint64_t next_due_in_rust(uint32_t rounds) {
+    struct noted noted;
+    return bench_next_due(OTHER, frames, PLACES * stride, stride, rounds * MANY, &noted, relay,
+                          sizeof relay);
 }
 
 static uint64_t receive_verified(uint32_t rounds) {
@@ -202,6 +267,9 @@ static void row(const char *what, uint64_t (*c)(uint32_t), uint64_t (*rust)(uint
 static void fill(int kind) {
     struct geostation *s = station(ADDRESS, 0);
     size_t n = 0;
+    if (geostation_move(s, 0, 449, 0, 1, 0, 0) != GEOSTATION_OK) {
+        exit(1);
+    }
     for (uint32_t k = 0; k < MANY; k++) {
         if (send_once(s, kind, k, 0, &n) != GEOSTATION_OK || n != stride) {
             exit(1);
@@ -209,6 +277,20 @@ static void fill(int kind) {
         memcpy(frames + k * stride, relay, n);
     }
     frames_length = MANY * stride;
+    geostation_free(s);
+}
+
+/* Puts the frame in which another station forwards it in the place of every second frame. */
+static void fill_in_copies(void) {
+    struct geostation *s = station(THIRD, 500);
+    struct geostation_reception r;
+    for (size_t at = 0; at + stride < frames_length; at += 2 * stride) {
+        if (geostation_receive(s, 5, frames + at, stride, &r, relay, sizeof relay) != GEOSTATION_OK
+            || r.relay_length != stride) {
+            exit(1);
+        }
+        memcpy(frames + at + stride, relay, stride);
+    }
     geostation_free(s);
 }
 
@@ -233,6 +315,16 @@ static void row_of_verified(const char *what) {
     compare(what, receive_verified, receive_from_c, "verified", "unsecured");
 }
 
+/* Rows of a station that contends, with GBCs of many numbers. */
+static void rows_of_contention(void) {
+    releases = true;
+    row("receive a held GBC, and release", contend_from_c, contend_in_rust);
+    releases = false;
+    row("next_due, 64 held", next_due_from_c, next_due_in_rust);
+    fill_in_copies();
+    row("receive a held GBC or its copy", contend_from_c, contend_in_rust);
+}
+
 static void row_of_sends(const char *what, int kind) {
     sent_kind = kind;
     row(what, send_from_c, send_in_rust);
@@ -249,6 +341,8 @@ int main(void) {
     stride = 94, fill(GEOSTATION_GBC);
     row("receive a GBC, delivered, relayed", receive_from_c, receive_in_rust);
     row_of_verified("receive a verified GBC, relayed");
+    rows_of_contention();
+    fill(GEOSTATION_GBC);
     for (size_t at = stride; at < frames_length; at += stride) {
         memcpy(frames + at, frames, stride);
     }
