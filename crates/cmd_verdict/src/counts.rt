@@ -58,14 +58,14 @@ impl DutyCounts {
 /// The verdicts on each duty.
 #[derive(Clone, Copy)]
 pub(crate) struct VerdictCounts {
-    counts: [DutyCounts; 10],
+    counts: [DutyCounts; 13],
 }
 
 impl VerdictCounts {
     /// None yet.
     pub(crate) fn new() -> VerdictCounts {
         VerdictCounts {
-            counts: [DutyCounts::default(); 10],
+            counts: [DutyCounts::default(); 13],
         }
     }
 
@@ -160,20 +160,24 @@ impl VerdictCounts {
 /// The head of the rules.
 const RULE: &str = "rule";
 
-/// The widths of the three columns of numbers.
+/// The widths of the rules, and of the three columns of numbers.
 #[derive(Clone, Copy)]
-struct Widths(usize, usize, usize);
+struct Widths(usize, usize, usize, usize);
 
 impl Widths {
-    /// Those of the heads, or of the widest number.
+    /// Those of the heads, or of the widest rule and numbers.
     fn of(counts: &VerdictCounts) -> Widths {
-        let mut widths = Widths(4, 4, 12);
-        for row in counts.counts {
-            widths = Widths(
-                widths.0.max(digits_of(row.pass)),
-                widths.1.max(digits_of(row.fail)),
-                widths.2.max(digits_of(row.inconclusive)),
-            );
+        let mut widths = Widths(24, 4, 4, 12);
+        for duty in JUDGED {
+            let row = counts.of(duty);
+            if row.all() > 0 {
+                widths = Widths(
+                    widths.0.max(rule_of(duty).len()),
+                    widths.1.max(digits_of(row.pass)),
+                    widths.2.max(digits_of(row.fail)),
+                    widths.3.max(digits_of(row.inconclusive)),
+                );
+            }
         }
         widths
     }
@@ -198,11 +202,9 @@ struct Row<'a>(Widths, &'a str, &'a str, &'a str, &'a str, &'a str);
 
 impl fmt::Display for Row<'_> {
     fn fmt<W: fmt::Write>(&self, f: &mut fmt::Formatter<W>) -> fmt::Result {
-        let Row(Widths(first, second, third), duty, rule, pass, fail, inconclusive) = *self;
-        write!(
-            f,
-            "{duty:4}  {rule:24}  {pass:>first$}  {fail:>second$}  {inconclusive:>third$}"
-        )
+        let Row(Widths(wide, first, second, third), duty, rule, pass, fail, inconclusive) = *self;
+        write!(f, "{duty:4}  {rule:wide$}  ")?;
+        write!(f, "{pass:>first$}  {fail:>second$}  {inconclusive:>third$}")
     }
 }
 
@@ -212,14 +214,14 @@ struct CountRow(Widths, Duty, DutyCounts);
 
 impl fmt::Display for CountRow {
     fn fmt<W: fmt::Write>(&self, f: &mut fmt::Formatter<W>) -> fmt::Result {
-        let CountRow(Widths(first, second, third), duty, counts) = *self;
+        let CountRow(Widths(wide, first, second, third), duty, counts) = *self;
         let (number, rule) = (duty.number(), rule_of(duty));
         let DutyCounts {
             pass,
             fail,
             inconclusive,
         } = counts;
-        write!(f, "D{number:<3}  {rule:24}  ")?;
+        write!(f, "D{number:<3}  {rule:wide$}  ")?;
         write!(f, "{pass:>first$}  {fail:>second$}  {inconclusive:>third$}")
     }
 }

@@ -3,7 +3,7 @@
 use its_duties::Duty;
 
 /// The duties that are judged, in the order of their numbers.
-pub(crate) const JUDGED: [Duty; 10] = [
+pub(crate) const JUDGED: [Duty; 13] = [
     Duty::Form,
     Duty::LinkTarget,
     Duty::Mobile,
@@ -11,19 +11,16 @@ pub(crate) const JUDGED: [Duty; 10] = [
     Duty::Lifetime,
     Duty::Numbers,
     Duty::BeaconNotEarly,
+    Duty::AreaTarget,
     Duty::Faithful,
     Duty::Kind,
     Duty::InTime,
-];
-
-/// The duties that have a definition, but no proved law.
-const NOT_JUDGED: [Duty; 5] = [
-    Duty::AreaTarget,
-    Duty::Once,
     Duty::StopsInside,
     Duty::NextHop,
-    Duty::Forward,
 ];
+
+/// The duties that have a definition, but that no verdict is on yet.
+const NOT_JUDGED: [Duty; 2] = [Duty::Once, Duty::Forward];
 
 /// The rule of a duty, as the table of counts shows it.
 pub(crate) fn rule_of(duty: Duty) -> &'static str {
@@ -35,7 +32,7 @@ pub(crate) fn rule_of(duty: Duty) -> &'static str {
         Duty::Lifetime => "lifetime",
         Duty::Numbers => "numbers",
         Duty::BeaconNotEarly => "beacon not early",
-        Duty::AreaTarget => "link target of an own one",
+        Duty::AreaTarget => "link target of an own GBC, GAC",
         Duty::Faithful => "faithful",
         Duty::Kind => "kind",
         Duty::Once => "once",
@@ -58,18 +55,18 @@ pub enum DutyFault {
 /// The duties that are chosen.
 #[derive(Clone, Copy, Debug, PartialEq, Eq)]
 pub struct DutySet {
-    chosen: [bool; 10],
+    chosen: [bool; 13],
 }
 
 impl DutySet {
     /// All that are judged.
     pub fn all() -> DutySet {
-        DutySet { chosen: [true; 10] }
+        DutySet { chosen: [true; 13] }
     }
 
     /// Those of a list as `D13,D15`.
     pub fn listed(list: &str) -> Result<DutySet, DutyFault> {
-        let mut chosen = [false; 10];
+        let mut chosen = [false; 13];
         for name in list.split(',') {
             let number = number_in(name).ok_or(DutyFault::Unknown)?;
             if NOT_JUDGED.iter().any(|duty| duty.number() == number) {

@@ -199,8 +199,9 @@ impl KeyValue {
 /// The values of all keys of claims and of the capture, with these claims.
 fn values_of(file: &StationFile, claims: &Claims) -> [KeyValue; 28] {
     let usual = usual_claims(claims.address);
-    let [area, elsewhere, remember, life, capacity, profile, interval] =
-        forwarding_values(claims, &usual);
+    let [area, elsewhere, remember, life, capacity, profile, interval] = forwarding_values(
+        claims, &usual,
+    );
     let [jitter, reset, lifetime, modulus, gapless, rate] = sending_values(claims, &usual);
     let [steady, fresh, unlimited, unbuffered] = claim_values(claims);
     let [sent, received, delivered, within, queue, skew] = capture_values(claims, &usual);

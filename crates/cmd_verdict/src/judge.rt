@@ -1,5 +1,6 @@
 //! The verdicts on the records of a capture, in the order of the records.
 
+use crate::area_cases::{area_target_case, next_hop_case, stops_inside_case};
 use crate::arrivals::Arrivals;
 use crate::case::{Case, Needs, is_fail};
 use crate::frame_cases::{
@@ -300,6 +301,9 @@ impl Judge {
         if let Some(case) = self.beacon_case(waiting, frame) {
             sink.put(record, case)?;
         }
+        if let Some(case) = area_target_case(claims, frame, record.known_target) {
+            sink.put(record, case)?;
+        }
         Ok(())
     }
 
@@ -380,8 +384,15 @@ impl Judge {
             faithful_case(claims, frame, number, &found, faithful),
         )?;
         sink.put(record, kind_case(frame))?;
-        if is_faithful {
-            sink.put(record, in_time_case(claims, &found))?;
+        if !is_faithful {
+            return Ok(());
+        }
+        sink.put(record, in_time_case(claims, &found))?;
+        if let Some(case) = stops_inside_case(claims, frame, found.search) {
+            sink.put(record, case)?;
+        }
+        if let Some(case) = next_hop_case(claims, frame, found.search, record.known_target) {
+            sink.put(record, case)?;
         }
         Ok(())
     }

@@ -14,6 +14,7 @@
 //!   `IsNumberStep`), what a forwarded packet was made from (`IsSearch`).
 #![tactic(auto)]
 
+mod area_cases;
 mod arrivals;
 mod case;
 mod claim;

@@ -118,14 +118,15 @@ impl fmt::Display for VerdictLine {
     }
 }
 
-/// Whether the text of a verdict names the clause: that of a fail, and of a forwarded packet that
-/// may be none that was heard.
+/// Whether the text of a verdict names the clause: that of a fail, of a forwarded packet that may be
+/// none that was heard, and of one that goes to one station inside of its area.
 fn names_clause(case: Case) -> bool {
     match (case.outcome, case.duty) {
         (Outcome::Fail, _) => true,
         (Outcome::Inconclusive, Duty::Faithful) => {
             !matches!(case.text, Text::NotRead(_) | Text::TooMany)
         }
+        (Outcome::Inconclusive, _) => matches!(case.text, Text::InsideTo(_)),
         _ => false,
     }
 }

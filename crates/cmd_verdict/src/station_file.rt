@@ -123,6 +123,19 @@ impl<'a> Keys<'a> {
         Ok(self.number(key, least, most)?.unwrap_or(default))
     }
 
+    /// A number from 0 to a greatest one, or a default.
+    fn short_or<'f>(
+        &self,
+        key: &'static str,
+        most: u32,
+        default: u16,
+    ) -> Result<u16, StationFault<'f>> {
+        match self.number(key, 0, most)? {
+            Some(number) => Ok(u16::try_from(number).unwrap_or(default)),
+            None => Ok(default),
+        }
+    }
+
     /// Whether something holds, if that is said.
     fn truth_if_any<'f>(&self, key: &'static str) -> Result<Option<bool>, StationFault<'f>> {
         let Some(value) = self.get(key) else {
@@ -279,8 +292,8 @@ fn with_station<'f>(keys: &Keys<'_>) -> Result<Claims, StationFault<'f>> {
     Ok(Claims {
         mac,
         place,
-        accuracy: keys.number_or("accuracy", 0, 65535, claims.accuracy)?,
-        tolerance: keys.number_or("tolerance", 0, 1000, claims.tolerance)?,
+        accuracy: keys.short_or("accuracy", 65535, claims.accuracy)?,
+        tolerance: keys.short_or("tolerance", 1000, claims.tolerance)?,
         age: keys.number("age", 0, MOST_AGE)?,
         mobile: keys.truth_if_any("mobile")?,
         ..claims

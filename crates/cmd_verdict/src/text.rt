@@ -58,6 +58,19 @@ pub(crate) enum Text {
     NotRead(u64),
     /// Too many packets were heard to keep them all.
     TooMany,
+    /// A geoanycast was forwarded outside of its area.
+    OutsideItsArea,
+    /// A geoanycast was forwarded inside of its area.
+    AnycastInside,
+    /// Inside of its area a packet goes to all.
+    InsideToAll,
+    /// Inside of its area a packet goes to this link address.
+    InsideTo(Mac),
+    /// Outside of the area it isn't judged to whom a packet goes.
+    OutsideArea,
+    PlaceUnsure,
+    /// The packet was forwarded late, so it isn't known when the station decided on it.
+    DecidedLate,
 }
 
 /// A fault as its code, without the layer of a packet's one: `G9 at 10`.
@@ -96,6 +109,13 @@ impl fmt::Display for Text {
             | Text::NotHeard
             | Text::NotRead(_)
             | Text::TooMany => self.write_forwarding(f),
+            Text::OutsideItsArea
+            | Text::AnycastInside
+            | Text::InsideToAll
+            | Text::InsideTo(_)
+            | Text::OutsideArea
+            | Text::PlaceUnsure
+            | Text::DecidedLate => self.write_place(f),
             _ => self.write_header(f),
         }
     }
@@ -176,6 +196,19 @@ impl Text {
         }
     }
 
+    /// Writes what it says of a packet by where its station is.
+    fn write_place<W: fmt::Write>(&self, f: &mut fmt::Formatter<W>) -> fmt::Result {
+        match *self {
+            Text::OutsideItsArea => f.write_str("outside its area"),
+            Text::AnycastInside => f.write_str("a GAC forwarded inside its area"),
+            Text::InsideToAll => f.write_str("inside the area: to all"),
+            Text::InsideTo(mac) => write!(f, "inside the area, but sent to {mac}"),
+            Text::OutsideArea => f.write_str("outside the area: not judged"),
+            Text::DecidedLate => f.write_str("late"),
+            _ => f.write_str("the place is not sure"),
+        }
+    }
+
     /// The fault that it names, if the duty of form does.
     pub(crate) fn code(&self) -> Option<FrameFault> {
         match *self {
@@ -226,12 +259,9 @@ pub(crate) fn clause_of(duty: Duty) -> Option<&'static str> {
         Duty::Numbers => Some("8.3"),
         Duty::Faithful => Some("10.3.11.3"),
         Duty::Kind => Some("10.3"),
-        Duty::InTime
-        | Duty::AreaTarget
-        | Duty::Once
-        | Duty::StopsInside
-        | Duty::NextHop
-        | Duty::Forward => None,
+        Duty::StopsInside => Some("10.3.12.3"),
+        Duty::AreaTarget | Duty::NextHop => Some("Annex D"),
+        Duty::InTime | Duty::Once | Duty::Forward => None,
     }
 }
 

@@ -11,6 +11,8 @@ use Rattle.its_duties.proofs.OwnLaws.{lifetime_proof, kind_proof}
 use Rattle.its_duties.proofs.Waiting.{beacon_proof}
 use Rattle.its_duties.proofs.Counting.{numbers_proof}
 use Rattle.its_duties.proofs.Received.{faithful_proof, in_time_proof}
+use Rattle.its_duties.proofs.OnceLaws.{once_proof}
+use Rattle.its_duties.proofs.InsideLaws.{stops_inside_proof, area_target_proof, next_hop_proof}
 
 pub fail_is_proof : (d : Duty) (k : Claims) (tap : List Seen) (i : ℕ) → has_law d ≡ true
     → AreRead tap → IsModelled k → FailOf d k tap i → NoScenario k tap
@@ -28,12 +30,12 @@ fail_is_proof duties.Numbers k tap i law all modelled f = numbers_proof k tap i 
 fail_is_proof duties.BeaconNotEarly k tap i law all modelled f =
     beacon_proof k tap f.i i f.before f.seen f.packet f.frame f.since true true all modelled f.is
     (λ h. f.sure) f.fails
-fail_is_proof duties.AreaTarget k tap i law all modelled f = absurd (true≢false (sym law))
+fail_is_proof duties.AreaTarget k tap i law all modelled f = area_target_proof k tap i all f
 fail_is_proof duties.Faithful k tap i law all modelled f = faithful_proof k tap i all modelled f
 fail_is_proof duties.Kind k tap i law all modelled f =
     kind_proof k tap i f.seen f.frame all f.is f.fails
-fail_is_proof duties.Once k tap i law all modelled f = absurd (true≢false (sym law))
+fail_is_proof duties.Once k tap i law all modelled f = once_proof k tap i all modelled f
 fail_is_proof duties.InTime k tap i law all modelled f = in_time_proof k tap i all modelled f
-fail_is_proof duties.StopsInside k tap i law all modelled f = absurd (true≢false (sym law))
-fail_is_proof duties.NextHop k tap i law all modelled f = absurd (true≢false (sym law))
+fail_is_proof duties.StopsInside k tap i law all modelled f = stops_inside_proof k tap i all f
+fail_is_proof duties.NextHop k tap i law all modelled f = next_hop_proof k tap i all f
 fail_is_proof duties.Forward k tap i law all modelled f = absurd (true≢false (sym law))

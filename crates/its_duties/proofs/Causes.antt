@@ -51,20 +51,22 @@ range_by (Junk fault) k s moment u is h e = absurd (no_junk (moment_refusal s mo
 pub record Cause (k : Claims) (c : TimedCall) (u : Transmission) : Type 0 where
   pub station : StationModel
   pub kept : Kept k station
+  pub gives : frame_of (station_step station c.moment c.call).answer ≡ Some u
   pub given : Given k station c.moment c.call u
   pub range : InRange u
 
 pub cause : {k : Claims} {tap : List Seen} (w : Scenario k tap) (r : Seen) (n left : ℕ)
     (g : Gave w r n left) → Cause k g.call g.frame
 cause {k} {tap} w r n left g =
-    let a = answering w.calls k w.start n g.call g.answer w.in_range (start_kept k w.start w.starts)
-    g.asked g.answered in
+    let a = answering w.calls k w.start n g.call g.answer w.in_range w.moves
+    (start_kept k w.start w.starts w.stood) g.asked g.answered in
     let gives : frame_of (station_step a.station g.call.moment g.call.call).answer ≡ Some g.frame =
     ap frame_of a.answers ∙ g.given in
     let is = w.in_range n g.call g.asked in
     record {
       station = a.station;
       kept = a.kept;
+      gives = gives;
       given = given_by g.call.call k a.station g.call.moment g.frame is gives;
       range = range_by g.call.call k a.station g.call.moment g.frame is a.kept gives;
     }
@@ -129,21 +131,24 @@ pub record RelayCause (k : Claims) (r : Seen) (t : Transmission) (c : TimedCall)
   pub kept : Kept k station
   pub packet : Transmission
   pub is_call : c.call ≡ Receive packet
+  pub gives : frame_of (station_step station c.moment c.call).answer ≡ Some u
   pub frame : IsRelayFrame station packet u
   pub read : IsFrameOf r t u
 
 relay_by : (k : Claims) (r : Seen) (t : Transmission) (c : TimedCall) (u : Transmission)
     (s : StationModel) → Kept k s → IsFrameOf r t u → t.pdu.vector.address ≢ k.address
+    → frame_of (station_step s c.moment c.call).answer ≡ Some u
     → Given k s c.moment c.call u → RelayCause k r t c u
-relay_by k r t c u s h f other (forwarded v is frame) = record {
+relay_by k r t c u s h f other gives (forwarded v is frame) = record {
   station = s;
   kept = h;
   packet = v;
   is_call = is;
+  gives = gives;
   frame = frame;
   read = f;
 }
-relay_by k r t c u s h f other (own call is range frame) =
+relay_by k r t c u s h f other gives (own call is range frame) =
     absurd (other (source_of r t u f
     ∙ own_source k s u h (own_facts call s c.moment u frame)))
 
@@ -155,4 +160,4 @@ relay_cause k tap i r t all is w x =
     let c = cause w r (x.call_of i) (x.left i) g in
     let f = frame_of_record r t g.frame (is_read tap i r all is.record_sent.at) is.frame g.carries
     c.range in
-    (g, relay_by k r t g.call g.frame c.station c.kept f is.other c.given)
+    (g, relay_by k r t g.call g.frame c.station c.kept f is.other c.gives c.given)

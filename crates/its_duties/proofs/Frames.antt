@@ -232,7 +232,7 @@ for_by (Some r) a rest e = cc
 for_by None true rest e = refl
 for_by None false rest e = cc
 
-accepted_for : (s : StationModel) (moment : ℕ) (u : Transmission)
+pub accepted_for : (s : StationModel) (moment : ℕ) (u : Transmission)
     → verdict s moment u ≡ Accept → is_for s u ≡ true
 unfolding verdict
 accepted_for s moment u e = for_by (moment_refusal s moment) (is_for s u) _ e

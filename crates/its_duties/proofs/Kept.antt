@@ -21,24 +21,29 @@ use Rattle.its_model.specs.Station.{junk_step_by, station_step}
 use Rattle.its_model.specs.Station.Verdict.{Accept, Ignore, Refuse}
 use Rattle.its_model.specs.Isolation.{TimedCall, answers_of}
 use Rattle.its_duties.specs.declared.claims.Claims.{Claims}
-use Rattle.its_duties.specs.Scenario.{IsCall, IsOwnCall, IsStart, IsAsked}
+use Rattle.its_duties.specs.Places.{IsAllowed}
+use Rattle.its_duties.specs.Scenario.{IsCall, IsOwnCall, IsStart, IsAsked, IsMoveAllowed}
 use Rattle.its_duties.proofs.Frames.{IsOwnFrame, IsRelayFrame}
 
--- its address, its vector and number in range, and whether it is mobile
+-- its address, its vector and number in range, whether it is mobile, and that the claims allow its
+-- place
 pub record Kept (k : Claims) (s : StationModel) : Type 0 where
   pub address : s.address ≡ k.address
   pub vector : IsVector s.vector
   pub own : s.vector.address ≡ s.address
   pub number : s.next_number < 65536
   pub mobile : IfSome k.mobile (λ mobile. s.mobile ≡ mobile)
+  pub place : IsAllowed k s.vector.place
 
-pub start_kept : (k : Claims) (s : StationModel) → IsStart k s → Kept k s
-start_kept k s h = record {
+pub start_kept : (k : Claims) (s : StationModel) → IsStart k s → IsAllowed k s.vector.place
+    → Kept k s
+start_kept k s h place = record {
   address = h.address;
   vector = h.vector;
   own = h.own_vector ∙ sym h.address;
   number = h.number;
   mobile = h.mobile;
+  place = place;
 }
 
 number_small : (n : ℕ) → number_after n < 65536
@@ -54,6 +59,7 @@ ticked_kept true k s moment h = record {
   own = h.own;
   number = h.number;
   mobile = h.mobile;
+  place = h.place;
 }
 ticked_kept false k s moment h = record {
   address = h.address;
@@ -61,11 +67,12 @@ ticked_kept false k s moment h = record {
   own = h.own;
   number = h.number;
   mobile = h.mobile;
+  place = h.place;
 }
 
 performed_kept : (call : OwnCall) (k : Claims) (s : StationModel) (moment : ℕ) → IsOwnCall call
-    → Kept k s → Kept k (performed s moment call).station
-performed_kept (Move place accurate speed heading) k s moment is h = record {
+    → IsMoveAllowed k (Own call) → Kept k s → Kept k (performed s moment call).station
+performed_kept (Move place accurate speed heading) k s moment is allowed h = record {
   address = h.address;
   vector = record {
     address = subst (λ (n : ℕ). n < 2 ^ 64) h.own h.vector.address;
@@ -79,56 +86,64 @@ performed_kept (Move place accurate speed heading) k s moment is h = record {
   own = refl;
   number = h.number;
   mobile = h.mobile;
+  place = allowed;
 }
-performed_kept (Open port) k s moment is h = record {
+performed_kept (Open port) k s moment is allowed h = record {
   address = h.address;
   vector = h.vector;
   own = h.own;
   number = h.number;
   mobile = h.mobile;
+  place = h.place;
 }
-performed_kept (Close port) k s moment is h = record {
+performed_kept (Close port) k s moment is allowed h = record {
   address = h.address;
   vector = h.vector;
   own = h.own;
   number = h.number;
   mobile = h.mobile;
+  place = h.place;
 }
-performed_kept (Tick jitter) k s moment is h =
+performed_kept (Tick jitter) k s moment is allowed h =
     ticked_kept (nat_le (s.beacon_from + jitter) moment) k s moment h
-performed_kept (SendShb r) k s moment is h = record {
+performed_kept (SendShb r) k s moment is allowed h = record {
   address = h.address;
   vector = h.vector;
   own = h.own;
   number = h.number;
   mobile = h.mobile;
+  place = h.place;
 }
-performed_kept (SendGbc r) k s moment is h = record {
+performed_kept (SendGbc r) k s moment is allowed h = record {
   address = h.address;
   vector = h.vector;
   own = h.own;
   number = number_small s.next_number;
   mobile = h.mobile;
+  place = h.place;
 }
-performed_kept (SendGac r) k s moment is h = record {
+performed_kept (SendGac r) k s moment is allowed h = record {
   address = h.address;
   vector = h.vector;
   own = h.own;
   number = number_small s.next_number;
   mobile = h.mobile;
+  place = h.place;
 }
-performed_kept (Restart number) k s moment is h = record {
+performed_kept (Restart number) k s moment is allowed h = record {
   address = h.address;
   vector = h.vector;
   own = h.own;
   number = is;
   mobile = h.mobile;
+  place = h.place;
 }
 
 own_kept : (o : Option Refusal) (call : OwnCall) (k : Claims) (s : StationModel) (moment : ℕ)
-    → IsOwnCall call → Kept k s → Kept k (own_step_by s moment call o).station
-own_kept (Some r) call k s moment is h = h
-own_kept None call k s moment is h = performed_kept call k s moment is h
+    → IsOwnCall call → IsMoveAllowed k (Own call) → Kept k s
+    → Kept k (own_step_by s moment call o).station
+own_kept (Some r) call k s moment is allowed h = h
+own_kept None call k s moment is allowed h = performed_kept call k s moment is allowed h
 
 received_kept : (v : Verdict) (k : Claims) (s : StationModel) (moment : ℕ) (t : Transmission)
     → Kept k s → Kept k (receive_step_by s moment t v).station
@@ -139,6 +154,7 @@ received_kept (Ignore why) k s moment t h = record {
   own = h.own;
   number = h.number;
   mobile = h.mobile;
+  place = h.place;
 }
 received_kept Accept k s moment t h = record {
   address = h.address;
@@ -146,6 +162,7 @@ received_kept Accept k s moment t h = record {
   own = h.own;
   number = h.number;
   mobile = h.mobile;
+  place = h.place;
 }
 
 junk_kept : (o : Option Refusal) (k : Claims) (s : StationModel) (fault : FrameFault) → Kept k s
@@ -155,12 +172,12 @@ junk_kept None k s fault h = h
 
 -- any call
 pub step_kept : (call : Call) (k : Claims) (s : StationModel) (moment : ℕ) → IsCall call
-    → Kept k s → Kept k (station_step s moment call).station
+    → IsMoveAllowed k call → Kept k s → Kept k (station_step s moment call).station
 unfolding own_step receive_step
-step_kept (Own call) k s moment is h =
-    own_kept (first (moment_refusal s moment) (own_refusal s call)) call k s moment is h
-step_kept (Receive t) k s moment is h = received_kept (verdict s moment t) k s moment t h
-step_kept (Junk fault) k s moment is h = junk_kept (moment_refusal s moment) k s fault h
+step_kept (Own call) k s moment is allowed h =
+    own_kept (first (moment_refusal s moment) (own_refusal s call)) call k s moment is allowed h
+step_kept (Receive t) k s moment is allowed h = received_kept (verdict s moment t) k s moment t h
+step_kept (Junk fault) k s moment is allowed h = junk_kept (moment_refusal s moment) k s fault h
 
 -- ---- its frames are in range
 
@@ -270,10 +287,11 @@ pub record Answering (k : Claims) (c : TimedCall) (answer : Answer Transmission)
 
 pub answering : (calls : List TimedCall) (k : Claims) (s : StationModel) (n : ℕ) (c : TimedCall)
     (answer : Answer Transmission)
-    → ((m : ℕ) (d : TimedCall) → IsAsked calls m d → IsCall d.call) → Kept k s
+    → ((m : ℕ) (d : TimedCall) → IsAsked calls m d → IsCall d.call)
+    → ((m : ℕ) (d : TimedCall) → IsAsked calls m d → IsMoveAllowed k d.call) → Kept k s
     → IsAsked calls n c → slice_get (answers_of s calls) n ≡ Some answer → Answering k c answer
-answering [] k s n c answer is h asked answered = cc
-answering (d ∷ calls) k s zero c answer is h asked answered = record {
+answering [] k s n c answer is allowed h asked answered = cc
+answering (d ∷ calls) k s zero c answer is allowed h asked answered = record {
   station = s;
   kept = h;
   answers = ap (λ (e : TimedCall). (station_step s e.moment e.call).answer)
@@ -285,6 +303,7 @@ answering (d ∷ calls) k s zero c answer is h asked answered = record {
 
     answer_is : (a b : Answer Transmission) → Some a ≡ Some b → a ≡ b
     answer_is a b e = cc
-answering (d ∷ calls) k s (suc n) c answer is h asked answered =
+answering (d ∷ calls) k s (suc n) c answer is allowed h asked answered =
     answering calls k (station_step s d.moment d.call).station n c answer (λ m. is (suc m))
-    (step_kept d.call k s d.moment (is zero d refl) h) asked answered
+    (λ m. allowed (suc m))
+    (step_kept d.call k s d.moment (is zero d refl) (allowed zero d refl) h) asked answered

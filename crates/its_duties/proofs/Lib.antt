@@ -8,6 +8,14 @@ pub mod Received
 pub mod Counting
 pub mod RelayLaws
 pub mod NumberLaws
+pub mod Intervals
+pub mod SurelyInside
+pub mod PlaceBounds
+pub mod InsideLaws
+pub mod Remembered
+pub mod Injections
+pub mod OnceLaws
+pub mod AgainLaws
 pub mod AllLaws
 pub mod RowsOfBeacons
 mod RowsOfRelays

@@ -141,7 +141,7 @@ in_range : (v : Transmission) → IsTransmission v → InRange v
 in_range v f = record { packet = f.packet; source = f.source }
 
 -- by what is read of the record
-heard_by : (o : Option Transmission) (k : Claims) (r : Seen) (v : Transmission) → r.frame ≡ o
+pub heard_by : (o : Option Transmission) (k : Claims) (r : Seen) (v : Transmission) → r.frame ≡ o
     → IsRead r → Carries r v → IsForeign k v → WasHeard k r v ⊎ IsUnread k r
 heard_by (Some u) k r v is read c f =
     let same = frame_of_record r u v read is c (in_range v f.fields) in
@@ -200,7 +200,7 @@ heard_by None k r v is read c f = inr (by r.cut refl)
 -- ---- the stamps
 
 -- one of the sendings lies there
-any_at : (p : ℕ → Bool) (xs : List ℕ) (n x : ℕ) → slice_get xs n ≡ Some x → p x ≡ true
+pub any_at : (p : ℕ → Bool) (xs : List ℕ) (n x : ℕ) → slice_get xs n ≡ Some x → p x ≡ true
     → list_any p xs ≡ true
 any_at p [] n x at is = cc
 any_at p (y ∷ xs) zero x at is =
@@ -214,7 +214,7 @@ any_at p (y ∷ xs) (suc n) x at is = either (p y) (list_any p xs) (any_at p xs 
     either true b e = refl
     either false b e = e
 
-within : (from to stamp : ℕ) → from ≤ stamp → stamp ≤ to
+pub within : (from to stamp : ℕ) → from ≤ stamp → stamp ≤ to
     → is_within (record { from = from; to = to }) stamp ≡ true
 within from to stamp low high = both _ _ (le-leb from stamp low) (le-leb stamp to high)
 
@@ -288,7 +288,7 @@ arrived (Some i) k tap shift j seen frame v arrival all received late f pdu hops
 }
 
 -- by the call
-left_by : (k : Claims) (call : Call) (v : Transmission) (moment arrival left : ℕ)
+pub left_by : (k : Claims) (call : Call) (v : Transmission) (moment arrival left : ℕ)
     → call ≡ Receive v → LeftInTime k call moment arrival left
     → nanos left ≤ nanos arrival + wait k
 left_by k call v moment arrival left is h =
@@ -297,7 +297,7 @@ left_by k call v moment arrival left is h =
 fewer : (n : ℕ) → 2 ≤ n → n ≡ n - 1 + 1
 fewer n h = omega (arith, h)
 
-for_mac : (k : Claims) (s : StationModel) (v : Transmission) → k.mac ≡ mid_of k.address
+pub for_mac : (k : Claims) (s : StationModel) (v : Transmission) → k.mac ≡ mid_of k.address
     → s.address ≡ k.address → is_for s v ≡ true
     → (eqb v.link_target k.mac || eqb v.link_target broadcast) ≡ true
 for_mac k s v mac address is =

@@ -79,7 +79,7 @@ late_search : (b : Bool) (since : ℕ)
 late_search true since e = refl
 late_search false since e = absurd (true≢false (sym e))
 
-simple_is : (area : AreaForwarding) → is_simple area ≡ true → area ≡ areas.Simple
+pub simple_is : (area : AreaForwarding) → is_simple area ≡ true → area ≡ areas.Simple
 simple_is areas.Simple e = refl
 simple_is areas.Other e = absurd (true≢false (sym e))
 

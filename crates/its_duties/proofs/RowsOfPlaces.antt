@@ -1,8 +1,10 @@
--- Where a station is for sure: places near the border of a circle of 100 m, evaluated.
+-- Where a station is for sure: places near the border of a circle of 100 m, and boxes that reach
+-- round the earth, evaluated.
 use Rattle.std.proofs.Common.{◌≡◌, ℕ, true, false, Some, refl}
-use Rattle.std.specs.Prelude.{pos}
+use Rattle.std.specs.Prelude.{pos, negsuc}
+use Rattle.its_gnvalue.specs.Values.{Position}
 use Rattle.its_geometry.specs.declared.area.Shape.TheVariants.{Circle}
-use Rattle.its_geometry.specs.Area.{GeoArea}
+use Rattle.its_geometry.specs.Area.{GeoArea, area_holds}
 use Rattle.its_duties.specs.declared.claims.Claims.{Claims}
 use Rattle.its_duties.specs.Places.{is_surely_inside, is_surely_outside}
 use Rattle.its_duties.proofs.RowsOfBeacons.{here, claims}
@@ -42,3 +44,43 @@ another_arithmetic = refl
 
 nor_outside : is_surely_outside (stands 8985 0 10) area ≡ false
 nor_outside = refl
+
+-- ---- the meridian opposite to the centre
+
+-- A station at 89.8550 degrees north, up to 50094 m from its claimed place, may be at any longitude.
+abbrev polar : Claims
+polar = record claims {
+  place = Some (record { latitude = pos 898550000; longitude = pos 0 });
+  accuracy = 50094;
+  tolerance = 0;
+}
+
+-- A circle of 60 km at the same latitude, on the other side of the pole. Seen from its centre both
+-- ends of the box are at no distance to the east.
+abbrev across_the_pole : GeoArea
+across_the_pole = record {
+  shape = Circle;
+  centre = record { latitude = pos 898550000; longitude = negsuc 1799999999 };
+  a = 60000;
+  b = 0;
+  angle = 0;
+}
+
+-- The station may be in its box and outside of the circle, so nothing is sure.
+abbrev in_the_box : Position
+in_the_box = record { latitude = pos 894050000; longitude = pos 0 }
+
+outside_of_the_circle : area_holds across_the_pole in_the_box ≡ false
+unfolding area_holds
+outside_of_the_circle = refl
+
+not_sure_round_the_pole : is_surely_inside polar across_the_pole ≡ false
+not_sure_round_the_pole = refl
+
+-- On the other side of the earth a tolerance of all of the distance is no reason.
+other_side : is_surely_inside (record claims {
+  place = Some (record { latitude = pos 0; longitude = pos 1799999000 });
+  accuracy = 20;
+  tolerance = 1000;
+}) (record area { centre = record { latitude = pos 0; longitude = negsuc 999 } }) ≡ false
+other_side = refl

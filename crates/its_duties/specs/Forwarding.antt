@@ -1,7 +1,8 @@
 -- The duties of what the station forwards, and of its own packets for areas, whose place is known:
 -- when a record of a tap fails them.
 use Rattle.std.specs.Prelude.{◌≡◌, ◌≢◌, ◌⊎◌, ℕ, ◌+◌, ◌-◌, ◌*◌, ◌≤◌, ◌<◌, Bool, true, false, ◌&&◌}
-use Rattle.std.specs.Prelude.{◌==◌, nat_le, nat_lt, if◌then◌else◌, List, [], ◌∷◌, length, filter}
+use Rattle.std.specs.Prelude.{not, ◌==◌, nat_le, nat_lt, if◌then◌else◌, List, [], ◌∷◌, length}
+use Rattle.std.specs.Prelude.{filter}
 use Rattle.std.specs.Prelude.{Option, Some, None, slice_get}
 use Rattle.std.specs.List.{count_by}
 use Rattle.its_gnvalue.specs.Values.{broadcast}
@@ -152,22 +153,30 @@ abbrev pub numbers_but : ℕ → List Seen → List ℕ
 numbers_but n [] = []
 numbers_but n (r ∷ tap) = other_number n (number_of_frame r.frame) (numbers_but n tap)
 
+abbrev pub is_from_in : Claims → ℕ → Stretch → Seen → Bool
+is_from_in k source stretch r = is_heard_from k source r && lies_in stretch r
+
 -- how many other numbers of a source were heard in a stretch
 abbrev pub others_in : Claims → ℕ → ℕ → Stretch → List Seen → ℕ
 others_in k source n stretch tap =
-    length (distinct (numbers_but n
-    (filter (λ r. is_heard_from k source r && lies_in stretch r) tap)))
+    length (distinct (numbers_but n (filter (is_from_in k source stretch) tap)))
 
 -- how often the packet was heard in a stretch
-abbrev pub heard_in : Claims → ℕ → ℕ → Stretch → List Seen → ℕ
-heard_in k source n stretch tap =
-    count_by (λ r. is_heard k r && is_packet source n r && lies_in stretch r) tap
+abbrev pub is_heard_in : Claims → ℕ → ℕ → Stretch → Seen → Bool
+is_heard_in k source n stretch r = is_heard k r && is_packet source n r && lies_in stretch r
 
--- how often it was forwarded from one stamp to another
+abbrev pub heard_in : Claims → ℕ → ℕ → Stretch → List Seen → ℕ
+heard_in k source n stretch tap = count_by (is_heard_in k source n stretch) tap
+
+-- How often it was forwarded from one stamp to another. A frame whose first sending isn't in the
+-- capture may have left before.
+abbrev pub is_relayed_in : Claims → ℕ → ℕ → Stretch → Seen → Bool
+is_relayed_in k source n stretch r =
+    is_relay k r && not r.retried && is_packet source n r && nat_le stretch.from r.moment
+    && nat_le r.moment stretch.to
+
 abbrev pub relayed_in : Claims → ℕ → ℕ → Stretch → List Seen → ℕ
-relayed_in k source n stretch tap =
-    count_by (λ r. is_relay k r && is_packet source n r && nat_le stretch.from r.moment
-    && nat_le r.moment stretch.to) tap
+relayed_in k source n stretch tap = count_by (is_relayed_in k source n stretch) tap
 
 -- The stretch that begins so long before a stamp doesn't begin before the tap, and each record in
 -- it is read.
@@ -176,19 +185,23 @@ pub record IsWhole (k : Claims) (tap : List Seen) (back stamp : ℕ) (stretch : 
   pub begins : begin_of tap + back ≤ stamp
   pub all_read : NoUnread k tap stretch
 
+-- the stretch in which other numbers count, for two frames with these stamps
+abbrev pub counted_in : Claims → (first second : ℕ) → Stretch
+counted_in k first second =
+    record { from = first - 2 * wait k - 2 * slack k; to = second + 2 * slack k }
+
+-- that in which copies count
+abbrev pub copies_in : Claims → (first second : ℕ) → Stretch
+copies_in k first second =
+    record { from = first - wait k - 2 * slack k; to = second + 2 * slack k }
+
 -- Between records i and j, which forwarded packets of one source and number, the station can't have
 -- forgotten the number: fewer others were heard than it remembers. Or the packet was heard less
 -- often than it was forwarded.
 abbrev pub IsNotForgotten : Claims → List Seen → (source n : ℕ) → (first second : Seen) → Type 0
 IsNotForgotten k tap source n first second =
-    let counted : Stretch = record {
-      from = first.moment - 2 * wait k - 2 * slack k;
-      to = second.moment + 2 * slack k;
-    } in
-    let copies : Stretch = record {
-      from = first.moment - wait k - 2 * slack k;
-      to = second.moment + 2 * slack k;
-    } in
+    let counted = counted_in k first.moment second.moment in
+    let copies = copies_in k first.moment second.moment in
     (IsWhole k tap (2 * wait k + 2 * slack k) first.moment counted
     × (others_in k source n counted tap < k.remember))
     ⊎ (IsWhole k tap (wait k + 2 * slack k) first.moment copies × (heard_in k source n copies tap

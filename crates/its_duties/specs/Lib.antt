@@ -8,4 +8,6 @@ pub mod Heard
 pub mod Numbers
 pub mod Forwarding
 pub mod Relays
+pub mod Inside
+pub mod Once
 pub mod Fails

@@ -50,9 +50,9 @@ pub struct Claims {
     /// Where it stands all the time, if that is known.
     pub place: Option<Place>,
     /// How far the place that it uses may be from `place`, north and east each, in metres.
-    pub accuracy: u32,
+    pub accuracy: u16,
     /// How far its arithmetic of distances may differ from this project's, per mille.
-    pub tolerance: u32,
+    pub tolerance: u16,
     /// The greatest age of the place that it uses, and of a position vector that it sends.
     pub age: Option<u32>,
     /// The mobile bit of its packets.

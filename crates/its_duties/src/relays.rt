@@ -101,7 +101,7 @@ fn in_time_of(claims: &Claims, search: RelaySearch) -> Verdict
 }
 
 /// Whether the station is claimed to forward at once.
-fn is_simple(area: AreaForwarding) -> bool
+pub(crate) fn is_simple(area: AreaForwarding) -> bool
     ensures { result ≡ is_simple area }
 {
     match area {

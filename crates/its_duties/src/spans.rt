@@ -42,7 +42,7 @@ pub fn lag(claims: &Claims) -> u64
 }
 
 /// How long a source counts.
-fn life(claims: &Claims) -> u64
+pub(crate) fn life(claims: &Claims) -> u64
     ensures value { result ≡ life claims.now }
     ensures bound { result ≤ 2 ^ 53 }
 {

@@ -38,6 +38,12 @@ pub enum Breach {
     NotFaithful,
     /// A packet was forwarded so late after its last copy with one hop more, in nanoseconds.
     Late(u64),
+    /// A packet was forwarded again, with so many other numbers of its source heard between.
+    Again(u32),
+    /// A geoanycast was forwarded inside of its area.
+    InsideArea,
+    /// Inside of its area a packet was sent to this link address, and not to all.
+    InsideTo(Mac),
 }
 
 /// Why it isn't known whether a record obeys a rule.
@@ -65,4 +71,16 @@ pub enum Doubt {
     Late(u64),
     /// No copy of a forwarded packet with one hop more is known to be heard.
     NeverReceived,
+    /// A packet was forwarded again, with so many other numbers of its source heard between.
+    Again(u32),
+    /// A packet was forwarded for the first time in the capture.
+    FirstTime,
+    /// A packet was forwarded late, so it isn't known when the station decided to whom.
+    DecidedLate,
+    /// It isn't known whether the station is inside of the area.
+    PlaceUnsure,
+    /// The station is outside of the area. To whom a packet goes there is not judged.
+    OutsideArea,
+    /// Inside of its area a packet was sent to one station. No claim says that it goes to all.
+    InsideToOne,
 }
