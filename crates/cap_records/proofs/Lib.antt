@@ -4,3 +4,5 @@ pub mod Placed
 pub mod FoundRecords
 pub mod Inner
 pub mod Steps
+pub mod OutsideFronts
+pub mod AnyFrames

@@ -1,6 +1,6 @@
 -- Where a frame is among the octets of a buffer.
 use Rattle.std.proofs.Common.{◌≡◌, ◌≤◌, ◌+◌, ◌-◌, ◌∙◌, ℕ, List, length, take, drop, sym, ap, subst, arith}
-use Rattle.std.proofs.Common.{length-take, inl, inr, refl}
+use Rattle.std.proofs.Common.{length-take, inl, inr}
 use Rattle.std.proofs.lemmas.List.{length-drop}
 use Rattle.std.proofs.Math.Seq.{take-length}
 use Rattle.cap_linklayers.specs.declared.link.LinkLayer.{LinkLayer}
@@ -8,7 +8,7 @@ use Rattle.cap_linklayers.specs.declared.link.LinkLayer.TheVariants as layers
 use Rattle.its_linkframe.specs.Frames.{EncodesFrame}
 use Rattle.its_linkframe.specs.Padding.{IsUnpadded}
 use Rattle.its_model.specs.Packet.{Transmission}
-use Rattle.cap_records.specs.FoundFrames.{IsPlaced, octets_at}
+use Rattle.cap_records.specs.FoundFrames.{IsPlaced}
 use Rattle.cap_records.specs.RecordFrames.{IsReadAs}
 
 -- what stands at the beginning of octets

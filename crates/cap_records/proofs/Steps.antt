@@ -1,5 +1,5 @@
 -- One more step of a file after those in which nothing was met.
-use Rattle.std.proofs.Common.{◌≡◌, ℕ, ◌+◌, List, [], ◌∷◌, ◌++◌, length, refl, subst, arith}
+use Rattle.std.proofs.Common.{◌≡◌, ℕ, ◌+◌, List, [], ◌∷◌, ◌++◌, refl, subst, arith}
 use Rattle.std.proofs.Common.{length-append, ◌<◌, inl, inr, ap}
 use Rattle.std.specs.Prelude.{Result, Ok, Err, IfOk, Option, None, Some}
 use Rattle.cap_records.specs.Pulls.{Given, IsNext, IsNoStep, IsSkipped, IsStep, MeetsStep}

@@ -2,22 +2,48 @@
 use Rattle.std.specs.Prelude.{ℕ, ◌&&◌, ◌==◌, Bool, true, false, not, nat_le, Option, Some, None}
 use Rattle.std.specs.Prelude.{is_none}
 use Rattle.its_headers.specs.declared.kind.Kind.{Kind}
-use Rattle.its_headers.specs.declared.kind.Kind.TheVariants.{Beacon, Shb, Gbc, Gac}
+use Rattle.its_headers.specs.declared.kind.Kind.TheVariants as profile
+use Rattle.its_outside.specs.declared.kind.StandardKind.{StandardKind}
+use Rattle.its_outside.specs.declared.kind.StandardKind.TheVariants as kinds
 use Rattle.cap_records.specs.declared.choosing.Kinds.{Kinds}
 use Rattle.cap_records.specs.declared.choosing.Traits.{Traits}
 use Rattle.cap_records.specs.declared.choosing.Choice.{Choice}
 
+-- none
+abbrev pub no_kinds : Kinds
+no_kinds = record {
+  beacon = false;
+  shb = false;
+  gbc = false;
+  gac = false;
+  guc = false;
+  tsb = false;
+  ls_request = false;
+  ls_reply = false;
+}
+
 -- whether a kind is one of these
-abbrev pub has_kind : Kinds → Kind → Bool
-has_kind kinds Beacon = kinds.beacon
-has_kind kinds Shb = kinds.shb
-has_kind kinds Gbc = kinds.gbc
-has_kind kinds Gac = kinds.gac
+abbrev pub has_kind : Kinds → StandardKind → Bool
+has_kind those kinds.Beacon = those.beacon
+has_kind those kinds.Guc = those.guc
+has_kind those kinds.Gac = those.gac
+has_kind those kinds.Gbc = those.gbc
+has_kind those kinds.Shb = those.shb
+has_kind those kinds.Tsb = those.tsb
+has_kind those kinds.LsRequest = those.ls_request
+has_kind those kinds.LsReply = those.ls_reply
+
+-- the kind of the standard that a kind of the profile is
+abbrev pub standard_kind : Kind → StandardKind
+standard_kind profile.Beacon = kinds.Beacon
+standard_kind profile.Shb = kinds.Shb
+standard_kind profile.Gbc = kinds.Gbc
+standard_kind profile.Gac = kinds.Gac
 
 -- the same, and any kind where none is asked for
-abbrev pub has_kind_of : Option Kinds → Kind → Bool
+abbrev pub has_kind_of : Option Kinds → StandardKind → Bool
 has_kind_of None kind = true
-has_kind_of (Some kinds) kind = has_kind kinds kind
+has_kind_of (Some those) kind = has_kind those kind
 
 -- whether a number is the one that is asked for, if one is
 abbrev pub allows : Option ℕ → ℕ → Bool

@@ -6,10 +6,13 @@ use Rattle.its_linkframe.specs.Frames.{EncodesFrame}
 use Rattle.its_model.specs.Packet.{Transmission}
 use Rattle.cap_records.specs.RecordFrames.{is_other, traits_in}
 use Rattle.cap_records.specs.declared.choosing.Choice.{Choice}
+use Rattle.cap_records.specs.declared.found.Found.{Found}
+use Rattle.cap_records.specs.declared.found.Found.TheVariants as found
 use Rattle.cap_records.specs.declared.found.FoundFrame.{FoundFrame}
 use Rattle.cap_records.specs.declared.found.FramePlace.{FramePlace}
 use Rattle.cap_records.specs.Choosing.{selects}
-use Rattle.cap_records.specs.Selections.{AreTraitsOf, Chooses}
+use Rattle.cap_records.specs.OutsideFrames.{IsOutsideFrame, StandardFrame, outside_traits}
+use Rattle.cap_records.specs.Selections.{AreProfileTraits, AreTraitsOf, Chooses}
 use Rattle.cap_records.specs.declared.frames.FoundRecord.{FoundRecord}
 use Rattle.cap_records.specs.declared.selection.Selection.{Selection}
 use Rattle.cap_records.specs.declared.refusal.RecordFault.{RecordFault}
@@ -24,18 +27,44 @@ pub record IsPlaced (w : List ℕ) (t : Transmission) (place : FramePlace) : Typ
   pub inside : place.end ≤ length w
   pub encodes : EncodesFrame t (octets_at place w)
 
+-- this frame outside the profile is there
+pub record IsPlacedOutside (w : List ℕ) (s : StandardFrame) (place : FramePlace) : Type 0 where
+  pub order : place.start ≤ place.end
+  pub inside : place.end ≤ length w
+  pub frame : IsOutsideFrame (octets_at place w) s
+
+-- a frame that was found is there
+abbrev pub IsThere : List ℕ → Found → Type 0
+IsThere w (found.Profile f) = (t : Transmission) × IsPlaced w t f.place
+IsThere w (found.Outside o) = (s : StandardFrame) × IsPlacedOutside w s o.place
+
+-- What was found of a record whose frame has to be of the profile: that frame, which is at that place
+-- in the buffer, or why it has none.
+abbrev pub IsProfileFound : Bool → RecordHeader → List ℕ → List ℕ → Result FoundFrame RecordFault
+    → Type 0
+IsProfileFound signed h w after (Ok f) = (t : Transmission)
+    × AreProfileTraits signed h w (Some (traits_in t)) false × IsPlaced after t f.place
+IsProfileFound signed h w after (Err fault) = AreProfileTraits signed h w None (is_other fault)
+
 -- What was found of a record, of which the buffer then has these octets: its frame, which is at that
 -- place in the buffer, or why it has none.
-abbrev pub IsFoundOf : Bool → RecordHeader → List ℕ → List ℕ → Result FoundFrame RecordFault
+abbrev pub IsFoundOf : Bool → Bool → RecordHeader → List ℕ → List ℕ → Result Found RecordFault
     → Type 0
-IsFoundOf signed h w after (Ok found) = (t : Transmission)
-    × AreTraitsOf signed h w (Some (traits_in t)) false × IsPlaced after t found.place
-IsFoundOf signed h w after (Err fault) = AreTraitsOf signed h w None (is_other fault)
+IsFoundOf all signed h w after (Ok (found.Profile f)) = (t : Transmission)
+    × AreTraitsOf all signed h w (Some (traits_in t)) false × IsPlaced after t f.place
+IsFoundOf all signed h w after (Ok (found.Outside o)) = (s : StandardFrame)
+    × AreTraitsOf all signed h w (Some (outside_traits s)) false × IsPlacedOutside after s o.place
+IsFoundOf all signed h w after (Err fault) = AreTraitsOf all signed h w None (is_other fault)
 
 -- whether a record of this moment is chosen, of which this was found among these octets
-abbrev pub IsChosenBy : Choice → ℕ → List ℕ → Result FoundFrame RecordFault → Bool → Type 0
-IsChosenBy choice moment w (Ok found) chosen = (t : Transmission) → IsPlaced w t found.place
-    → chosen ≡ selects choice moment (Some (traits_in t)) false
+abbrev pub IsFoundChosen : Choice → ℕ → List ℕ → Found → Bool → Type 0
+IsFoundChosen choice moment w (found.Profile f) chosen = (t : Transmission)
+    → IsPlaced w t f.place → chosen ≡ selects choice moment (Some (traits_in t)) false
+IsFoundChosen choice moment w (found.Outside o) chosen = (s : StandardFrame)
+    → IsPlacedOutside w s o.place → chosen ≡ selects choice moment (Some (outside_traits s)) false
+
+abbrev pub IsChosenBy : Choice → ℕ → List ℕ → Result Found RecordFault → Bool → Type 0
+IsChosenBy choice moment w (Ok f) chosen = IsFoundChosen choice moment w f chosen
 IsChosenBy choice moment w (Err fault) chosen =
     chosen ≡ selects choice moment None (is_other fault)
 
@@ -48,5 +77,5 @@ IsSelected selection h w chosen = selection.partial ≡ false
 
 abbrev pub ReadsFrame : Selection → RecordHeader → List ℕ → List ℕ → Option FoundRecord → Type 0
 ReadsFrame selection h w after None = IsSelected selection h w false
-ReadsFrame selection h w after (Some found) = IsSelected selection h w true
-    × IfOk found.frame (λ f. (t : Transmission) × IsPlaced after t f.place)
+ReadsFrame selection h w after (Some r) = IsSelected selection h w true
+    × IfOk r.frame (IsThere after)

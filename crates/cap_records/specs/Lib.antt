@@ -7,3 +7,5 @@ pub mod Pulls
 pub mod Walks
 pub mod Choosing
 pub mod Messages
+pub mod OutsideFrames
+pub mod AnyFrames

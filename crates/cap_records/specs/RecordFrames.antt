@@ -1,13 +1,14 @@
 -- The frame of a record, why a record has none, and what it is chosen by.
 use Rattle.std.specs.Prelude.{◌≡◌, ℕ, ◌+◌, ◌%◌, List, slice_get, Bool, true, false}
-use Rattle.std.specs.Prelude.{Option, Some, None, Result, Ok, Err}
+use Rattle.std.specs.Prelude.{Option, Some, None}
+use Rattle.cap_records.specs.Choosing.{standard_kind}
 use Rattle.cap_records.specs.declared.choosing.Traits.{Traits}
 use Rattle.its_faults.specs.declared.frame.FrameFault.{FrameFault}
 use Rattle.its_faults.specs.declared.frame.FrameFault.TheVariants as frames
 use Rattle.its_faults.specs.declared.packet.FaultKind.TheVariants.{BasicNext}
 use Rattle.its_headers.specs.Fields.{kind_of_body}
 use Rattle.its_linkframe.specs.FrameFaults.{IsFrameFault}
-use Rattle.its_linkframe.specs.Frames.{EncodesFrame, transmission_of}
+use Rattle.its_linkframe.specs.Frames.{EncodesFrame}
 use Rattle.its_linkframe.specs.Padding.{IsUnpadded}
 use Rattle.cap_linklayers.specs.LinkLayers.{IsFrameIn, IsLinkFault}
 use Rattle.cap_linklayers.specs.declared.link.LinkFault.TheVariants as links
@@ -98,7 +99,7 @@ port_in (gac number area message) = Some message.port
 abbrev pub traits_in : Transmission → Traits
 traits_in t =
     record {
-      kind = kind_of_body t.pdu.body;
+      kind = standard_kind (kind_of_body t.pdu.body);
       source = t.pdu.vector.address;
       from = t.link_source;
       port = port_in t.pdu.body;

@@ -4,13 +4,14 @@ ghost use Rattle.std.specs.Prelude.{◌≡◌, ◌<◌, ◌^◌, ℕ, Option, So
 ghost use Rattle.its_linkframe.specs.Frames.{transmission_of};
 ghost use Rattle.cap_records.specs.declared.choosing.Traits.{Traits};
 ghost use Rattle.cap_records.specs.Choosing.{allows, allows_port, has_kind, has_kind_of, holds as all_holds};
-ghost use Rattle.cap_records.specs.Choosing.{is_chosen as chosen, selects};
+ghost use Rattle.cap_records.specs.Choosing.{is_chosen as chosen, no_kinds, selects, standard_kind};
 ghost use Rattle.cap_records.specs.RecordFrames.{port_in, traits_in};
 
 use crate::frame::port_of;
 use its_gnvalue::{GnAddress, Mac};
 use its_headers::Kind;
 use its_linkframe::FrameView;
+use its_outside::StandardKind;
 
 /// The kinds of packet that are chosen.
 #[derive(Clone, Copy, Debug, PartialEq, Eq)]
@@ -23,19 +24,59 @@ pub struct Kinds {
     pub gbc: bool,
     /// Geoanycasts.
     pub gac: bool,
+    /// Geounicasts, which are outside the profile, as are those that follow.
+    pub guc: bool,
+    /// Topologically-scoped broadcasts over several hops.
+    pub tsb: bool,
+    /// Requests of the location service.
+    pub ls_request: bool,
+    /// Replies of the location service.
+    pub ls_reply: bool,
 }
 
 impl Kinds {
+    /// No kind.
+    pub fn none() -> Kinds
+        ensures { result ≡ no_kinds }
+    {
+        Kinds {
+            beacon: false,
+            shb: false,
+            gbc: false,
+            gac: false,
+            guc: false,
+            tsb: false,
+            ls_request: false,
+            ls_reply: false,
+        }
+    }
+
     /// Whether a kind is one of them.
-    pub fn has(self, kind: Kind) -> bool
+    pub fn has(self, kind: StandardKind) -> bool
         ensures { result ≡ has_kind self kind }
     {
         match kind {
-            Kind::Beacon => self.beacon,
-            Kind::Shb => self.shb,
-            Kind::Gbc => self.gbc,
-            Kind::Gac => self.gac,
+            StandardKind::Beacon => self.beacon,
+            StandardKind::Guc => self.guc,
+            StandardKind::Gac => self.gac,
+            StandardKind::Gbc => self.gbc,
+            StandardKind::Shb => self.shb,
+            StandardKind::Tsb => self.tsb,
+            StandardKind::LsRequest => self.ls_request,
+            StandardKind::LsReply => self.ls_reply,
         }
+    }
+}
+
+/// The kind of the standard that a kind of the profile is.
+pub fn kind_of_standard(kind: Kind) -> StandardKind
+    ensures { result ≡ standard_kind kind }
+{
+    match kind {
+        Kind::Beacon => StandardKind::Beacon,
+        Kind::Shb => StandardKind::Shb,
+        Kind::Gbc => StandardKind::Gbc,
+        Kind::Gac => StandardKind::Gac,
     }
 }
 
@@ -43,9 +84,9 @@ impl Kinds {
 #[derive(Clone, Copy, Debug, PartialEq, Eq)]
 pub struct Traits {
     /// The kind of its packet.
-    pub kind: Kind,
-    /// The address of the packet's source.
-    pub source: GnAddress,
+    pub kind: StandardKind,
+    /// The address of the packet's source. Outside the profile it may have the MID of a group.
+    pub source: u64,
     /// The link address that it comes from.
     pub from: Mac,
     /// The destination port, where the packet has one.
@@ -72,6 +113,9 @@ pub struct Choice {
     /// Only records of GeoNetworking: those of another protocol or of a link layer that is not read
     /// are skipped.
     pub skips_others: bool,
+    /// Whether a frame outside the profile, which the standard lays out, is one like others.
+    /// Otherwise its record is refused.
+    pub all_kinds: bool,
 }
 
 impl Choice {
@@ -89,6 +133,7 @@ impl Choice {
             until: u64::MAX,
             refused: false,
             skips_others: false,
+            all_kinds: false,
         }
     }
 
@@ -130,7 +175,7 @@ impl Choice {
     fn holds_of(&self, frame: &FrameView<'_>) -> bool
         ensures { result ≡ all_holds self.now (traits_in (transmission_of frame.now)) }
     {
-        self.has_kind(frame.packet.kind())
+        self.has_kind(kind_of_standard(frame.packet.kind()))
             && self.allows_source_of(frame)
             && self.allows_mac(frame.from)
             && self.allows_port_of(frame)
@@ -165,7 +210,7 @@ impl Choice {
             && self.allows_port(frame.port)
     }
 
-    fn has_kind(&self, kind: Kind) -> bool
+    fn has_kind(&self, kind: StandardKind) -> bool
         ensures { result ≡ has_kind_of self.now.kinds kind }
     {
         match self.kinds {
@@ -174,11 +219,11 @@ impl Choice {
         }
     }
 
-    fn allows_source(&self, source: GnAddress) -> bool
+    fn allows_source(&self, source: u64) -> bool
         ensures { result ≡ allows self.now.source source }
     {
         match self.source {
-            Some(only) => only == source,
+            Some(only) => only.as_u64() == source,
             None => true,
         }
     }

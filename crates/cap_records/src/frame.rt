@@ -8,7 +8,7 @@ ghost use Rattle.cap_records.specs.FoundFrames.{IsPlaced};
 ghost use Rattle.cap_records.specs.RecordFrames.{HasFrame, IsRecordFault, port_in, traits_in};
 ghost use Rattle.cap_records.specs.RecordFrames.{IsReadAs, IsNoFrame};
 
-use crate::choosing::Traits;
+use crate::choosing::{Traits, kind_of_standard};
 use crate::found::{FoundFrame, FramePlace};
 use crate::refusal::RecordFault;
 use cap_pcap::{LinkLayer, RecordHeader, frame_start};
@@ -89,8 +89,8 @@ pub fn traits_of(frame: &FrameView<'_>) -> Traits
     ensures { result ≡ traits_in (transmission_of frame.now) }
 {
     Traits {
-        kind: frame.packet.kind(),
-        source: frame.packet.vector().address(),
+        kind: kind_of_standard(frame.packet.kind()),
+        source: frame.packet.vector().address().as_u64(),
         from: frame.from,
         port: port_of(frame),
     }

@@ -1,11 +1,11 @@
 //! What is read of the records of a file for a command that looks at each frame.
 
-ghost use Rattle.std.specs.Prelude.{◌≡◌, IfOk, IfSome, Err};
-ghost use Rattle.its_model.specs.Packet.{Transmission};
-ghost use Rattle.cap_records.specs.FoundFrames.{IsPlaced, ReadsFrame};
+ghost use Rattle.std.specs.Prelude.{◌≡◌, IfOk, IfSome, None, Err, Ok};
+ghost use Rattle.cap_records.specs.FoundFrames.{IsThere, ReadsFrame};
+ghost use Rattle.cap_records.specs.declared.found.Found.TheVariants as founds;
 
 use crate::cut::{CUT, CutFrame, complete_frame, read_front};
-use crate::found::FoundFrame;
+use crate::found::{Found, FoundFrame};
 use crate::records::RecordReader;
 use crate::refusal::RecordFault;
 use crate::selection::Selection;
@@ -80,14 +80,14 @@ pub struct FoundRecord {
     /// How many octets of its frame there are, if the record was cut and is read as far as it goes.
     pub known: Option<usize>,
     /// Where its frame is in the buffer, or why it has none.
-    pub frame: Result<FoundFrame, RecordFault>,
+    pub frame: Result<Found, RecordFault>,
 }
 
 impl FoundRecord {
     /// What is known of its secured frame, if it has one and that is read by its plain part.
     fn secured(&self) -> Option<SecuredFacts> {
         match &self.frame {
-            Ok(found) => found.secured,
+            Ok(found) => found.secured(),
             Err(_) => None,
         }
     }
@@ -126,7 +126,7 @@ impl FrameReader {
         octets: &mut Vec<u8>,
     ) -> Result<Option<FoundRecord>, AllocError>
         ensures { IfOk result (λ found. IfSome found (λ r. IfOk r.frame
-            (λ f. (t : Transmission) × IsPlaced octets.new.items t f.place))) }
+            (IsThere octets.new.items))) }
     {
         let moment = head.moment;
         let completed = match complete_frame(head, octets, &mut self.room) {
@@ -154,7 +154,8 @@ fn known_part(
     known: usize,
     cut: CutFrame,
 ) -> Option<FoundRecord>
-    ensures { IfSome result (λ r. IfOk r.frame (λ f. f.place ≡ cut.place)) }
+    ensures { IfSome result (λ r. r.frame
+        ≡ Ok (founds.Profile (record { place = cut.place; secured = None }))) }
 {
     if !selection.choice.selects(moment, Some(cut.traits), false) {
         return None;
@@ -162,10 +163,10 @@ fn known_part(
     Some(FoundRecord {
         link,
         known: Some(known),
-        frame: Ok(FoundFrame {
+        frame: Ok(Found::Profile(FoundFrame {
             place: cut.place,
             secured: None,
-        }),
+        })),
     })
 }
 

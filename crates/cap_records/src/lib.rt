@@ -7,6 +7,10 @@
 //!   clause `frame`: `HasSignedFrame`), or as of `frame_of`. Octets are a secured frame if octets
 //!   12 to 14 are 89 47 12. Otherwise the first fault is returned (`fault`: `IsSignedFault`): of
 //!   the record, its link layer, the secured frame, its message, the packet inside.
+//! - If all kinds are chosen, a record whose frame a station refuses may have one outside the profile,
+//!   which the standard lays out (`Selection::has_record`: `AreAnyTraits`). It has one if and only if
+//!   its octets are such a frame, whole, but for what Ethernet fills up. All else is refused, by the
+//!   fault that it has without this choice.
 //! - `Choice::is_chosen` and `Selection::has_record` hold if and only if all that is asked for
 //!   holds of the record's time and frame. `cmd_arguments` reads the options.
 //! - A pull returns the next selected record of the file, and skips the others (`Records::next_chosen`,
@@ -31,6 +35,7 @@
 //! Anything of signatures, which nobody reads.
 #![tactic(auto)]
 
+mod any_kind;
 pub mod choosing;
 mod counts;
 mod cut;
@@ -38,6 +43,7 @@ mod found;
 mod frame;
 mod frames;
 pub mod messages;
+mod outside;
 mod records;
 mod refusal;
 mod refused_capture;
@@ -45,11 +51,12 @@ mod selection;
 mod signed;
 mod walk;
 
-pub use crate::choosing::{Choice, Kinds, Traits};
+pub use crate::choosing::{Choice, Kinds, Traits, kind_of_standard};
 pub use counts::RecordCounts;
-pub use found::{FoundFrame, FramePlace};
+pub use found::{Found, FoundFrame, FoundOutside, FramePlace, SeenFrame};
 pub use frame::{frame_of, read_from, traits_of};
 pub use frames::{FoundRecord, RecordPlace};
+pub use outside::OutsideFrame;
 pub use records::{Pulled, RecordReader, Records};
 pub use refusal::{FileFault, RecordCode, RecordFault, SIGNED_HINT};
 pub use refused_capture::RefusedCapture;

@@ -5,13 +5,18 @@ ghost use Rattle.its_model.specs.Packet.{Transmission};
 ghost use Rattle.cap_linklayers.specs.declared.link.TheConstants.{LONGEST_RECORD};
 ghost use Rattle.cap_records.specs.Choosing.{selects};
 ghost use Rattle.cap_records.specs.FoundFrames.{IsChosenBy, IsFoundOf, IsPlaced};
+ghost use Rattle.cap_records.specs.FoundFrames.{IsFoundChosen, IsPlacedOutside, IsProfileFound};
+ghost use Rattle.cap_records.specs.FoundFrames.{IsThere};
+ghost use Rattle.cap_records.specs.OutsideFrames.{StandardFrame, outside_traits};
 ghost use Rattle.cap_records.specs.RecordFrames.{traits_in};
 ghost use Rattle.cap_records.specs.Selections.{Chooses};
 ghost use Rattle.cap_records.specs.declared.choosing.Traits.{Traits};
 
+use crate::any_kind::find_any;
 use crate::choosing::Choice;
-use crate::found::{FoundFrame, FramePlace};
+use crate::found::{Found, FoundFrame, FoundOutside, FramePlace};
 use crate::frame::frame_of;
+use crate::outside::traits_of_outside;
 use crate::refusal::RecordFault;
 use crate::signed::signed_frame_of;
 use cap_pcap::{Format, LONGEST_RECORD, RecordHeader};
@@ -53,8 +58,27 @@ impl Selection {
         &self,
         head: &RecordHeader,
         octets: &mut Vec<u8>,
+    ) -> Result<Found, RecordFault>
+        ensures { IsFoundOf self.now.choice.all_kinds self.now.signed head.now octets.old.items
+            octets.new.items result }
+    {
+        if self.choice.all_kinds {
+            return find_any(head, self.signed, octets);
+        }
+        match self.find_of_profile(head, octets) {
+            Ok(found) => Ok(Found::Profile(found)),
+            Err(fault) => Err(fault),
+        }
+    }
+
+    /// Finds the frame of a record, if it is one of the profile.
+    fn find_of_profile(
+        &self,
+        head: &RecordHeader,
+        octets: &mut Vec<u8>,
     ) -> Result<FoundFrame, RecordFault>
-        ensures { IsFoundOf self.now.signed head.now octets.old.items octets.new.items result }
+        ensures { IsProfileFound self.now.signed head.now octets.old.items octets.new.items
+            result }
     {
         if self.signed {
             signed_frame_of(head, octets)
@@ -101,21 +125,27 @@ impl Selection {
     }
 
     /// Whether a record of this moment is chosen, of which this was found among these octets.
-    pub(crate) fn has(
-        &self,
-        moment: u64,
-        found: &Result<FoundFrame, RecordFault>,
-        octets: &[u8],
-    ) -> bool
-        requires { IfOk found.now (λ f. (t : Transmission) × IsPlaced octets.now t f.place) }
+    pub(crate) fn has(&self, moment: u64, found: &Result<Found, RecordFault>, octets: &[u8]) -> bool
+        requires { IfOk found.now (IsThere octets.now) }
         ensures { IsChosenBy self.now.choice moment octets.now found.now result }
     {
         if self.has_any(moment) {
             return true;
         }
         match found {
-            Ok(found) => self.has_frame(moment, found.place, octets),
+            Ok(found) => self.has_found(moment, found, octets),
             Err(fault) => self.choice.selects(moment, None, fault.is_other()),
+        }
+    }
+
+    /// Whether a record of this moment is chosen, whose frame was found among these octets.
+    fn has_found(&self, moment: u64, found: &Found, octets: &[u8]) -> bool
+        requires { IsThere octets.now found.now }
+        ensures { IsFoundChosen self.now.choice moment octets.now found.now result }
+    {
+        match found {
+            Found::Profile(found) => self.has_frame(moment, found.place, octets),
+            Found::Outside(found) => self.has_outside(moment, found, octets),
         }
     }
 
@@ -127,5 +157,16 @@ impl Selection {
     {
         one_frame();
         self.choice.selects_frame(moment, &place.view(octets))
+    }
+
+    /// Whether a record of this moment is chosen, whose frame outside the profile is here among these
+    /// octets.
+    fn has_outside(&self, moment: u64, found: &FoundOutside, octets: &[u8]) -> bool
+        requires { (s : StandardFrame) × IsPlacedOutside octets.now s found.now.place }
+        ensures { (s : StandardFrame) → IsPlacedOutside octets.now s found.now.place
+            → result ≡ selects self.now.choice moment (Some (outside_traits s)) false }
+    {
+        let traits = traits_of_outside(found.place.octets(octets), found.fault);
+        self.choice.selects(moment, Some(traits), false)
     }
 }

@@ -11,7 +11,7 @@ ghost use Rattle.cap_records.specs.SignedFrames.{HasSignedFrame, IsSignedFault, 
 ghost use Rattle.cap_records.specs.SignedFrames.{IsInnerOf, IsInnerFault};
 ghost use Rattle.cap_records.specs.SignedFrames.{IsUnsecuredIn, IsUnsecuredFault};
 
-use crate::choosing::Traits;
+use crate::choosing::{Traits, kind_of_standard};
 use crate::found::{FoundFrame, FramePlace};
 use crate::frame::find_on;
 use crate::messages::{HeaderInfo, read_message};
@@ -122,7 +122,7 @@ pub fn bring_inner(octets: &mut Vec<u8>, start: usize, plain: &PlainPart) -> Fra
 }
 
 /// The octets from a place on.
-fn rest(octets: &Vec<u8>, start: usize) -> &[u8]
+pub(crate) fn rest(octets: &Vec<u8>, start: usize) -> &[u8]
     requires { start ≤ length octets.now.items }
     ensures { result.now ≡ drop start octets.now.items }
 {
@@ -168,7 +168,7 @@ fn find_inner(octets: &mut Vec<u8>, start: usize) -> Result<FoundFrame, RecordFa
 }
 
 /// Finds the unsecured frame in what this link layer carried, which are the octets from this one on.
-fn find_unsecured(
+pub(crate) fn find_unsecured(
     layer: LinkLayer,
     octets: &Vec<u8>,
     start: usize,
@@ -208,8 +208,8 @@ pub fn traits_inside(frame: &VerifiedFrame<'_, '_>) -> Traits
         Err(_) => None,
     };
     Traits {
-        kind: packet.kind(),
-        source: packet.vector().address(),
+        kind: kind_of_standard(packet.kind()),
+        source: packet.vector().address().as_u64(),
         from: frame.secured().from(),
         port,
     }

@@ -1,30 +1,30 @@
 //! The loop of `show`, `check` and `stats` over the records of a file.
 
-ghost use Rattle.std.specs.Prelude.{◌≡◌, ◌≤◌, ◌<◌, ◌-◌, ◌^◌, IfOk, IfErr, None, Some};
-ghost use Rattle.its_model.specs.Packet.{Transmission};
-ghost use Rattle.cap_records.specs.FoundFrames.{IsPlaced};
+ghost use Rattle.std.specs.Prelude.{◌≡◌, ◌≤◌, ◌<◌, ◌+◌, ◌-◌, ◌^◌, IfOk, IfErr, None, Some};
+ghost use Rattle.cap_records.specs.FoundFrames.{IsThere};
 ghost use Rattle.cap_records.specs.Walks.{walk_status, walked_after};
 ghost use Rattle.cmd_reporting.specs.declared.fault.Fault.TheVariants.{CannotRead};
 
-use crate::found::FoundFrame;
+use crate::found::{Found, SeenFrame};
 use crate::frames::{FrameReader, RecordPlace};
 use crate::records::{Pulled, Records};
 use crate::refusal::{FileFault, RecordFault};
 use crate::selection::Selection;
 use cap_pcap::{AnySource, Format, LONGEST_RECORD, OpenFault, RecordSource};
 use cmd_reporting::{Fault, Status, is_standard};
-use its_linkframe::{Counted, FrameView, Source};
+use its_linkframe::{Counted, Source};
 use std::alloc::Global;
 use std::io::{Read, Write};
 
 /// What a command does with the records of a capture.
 pub trait RecordVisitor {
-    /// Does what there is to do with a record that is chosen, which has this frame, or was refused.
+    /// Does what there is to do with a record that is chosen, which has this frame, or was refused. A
+    /// frame is outside the profile only if all kinds are chosen.
     /// `NoOutput` where a write failed, `OutOfMemory` where an allocation did.
     fn visit<'f, W: Write>(
         &mut self,
         place: RecordPlace,
-        frame: Result<FrameView<'_>, RecordFault>,
+        frame: Result<SeenFrame<'_>, RecordFault>,
         out: &mut W,
     ) -> Result<(), Fault<'f>>;
 }
@@ -36,6 +36,8 @@ pub struct Walked {
     pub records: u64,
     /// How many of these are refused.
     pub refused: u64,
+    /// How many of them have a frame outside the profile.
+    pub outside: u64,
     /// Why the file wasn't read on, where its octets are at fault.
     pub fault: Option<FileFault>,
     /// How many records were read before that.
@@ -45,33 +47,45 @@ pub struct Walked {
 impl Walked {
     /// Nothing yet.
     fn begin() -> Walked
-        ensures { (result.records ≡ 0) × (result.refused ≡ 0) × (result.read ≡ 0) }
+        ensures { (result.records ≡ 0) × (result.refused ≡ 0) × (result.outside ≡ 0)
+            × (result.read ≡ 0) }
     {
         Walked {
             records: 0,
             refused: 0,
+            outside: 0,
             fault: None,
             read: 0,
         }
     }
 
-    /// Returns the counts after a further selected record.
-    fn after(self, is_refused: bool) -> Walked
-        requires { (self.records < 2 ^ 64 - 1) × (self.refused ≤ self.records) }
-        ensures counts { result ≡ walked_after self is_refused }
-        ensures bounds { result.refused ≤ result.records }
+    /// Returns the counts after a further selected record, of which this was found.
+    fn after(self, found: &Result<Found, RecordFault>) -> Walked
+        requires { (self.records < 2 ^ 64 - 1) × (self.refused + self.outside ≤ self.records) }
+        ensures counts { result ≡ walked_after self found.now }
+        ensures bounds { result.refused + result.outside ≤ result.records }
     {
-        Walked {
-            records: self.records + 1,
-            refused: self.refused + u64::from(is_refused),
-            ..self
+        let records = self.records + 1;
+        match found {
+            Ok(Found::Profile(_)) => Walked { records, ..self },
+            Ok(Found::Outside(_)) => Walked {
+                records,
+                outside: self.outside + 1,
+                ..self
+            },
+            Err(_) => Walked {
+                records,
+                refused: self.refused + 1,
+                ..self
+            },
         }
     }
 
     /// Returns the counts once so many records were read.
     fn at_end(self, read: u64) -> Walked
         ensures { (result.records ≡ self.records) × (result.refused ≡ self.refused)
-            × (result.read ≡ read) × (result.fault ≡ self.fault) }
+            × (result.outside ≡ self.outside) × (result.read ≡ read)
+            × (result.fault ≡ self.fault) }
     {
         Walked { read, ..self }
     }
@@ -79,7 +93,7 @@ impl Walked {
     /// Returns the counts with the fault that ended the walk.
     fn ended_by(self, fault: FileFault) -> Walked
         ensures counts { (result.records ≡ self.records) × (result.refused ≡ self.refused)
-            × (result.read ≡ self.read) }
+            × (result.outside ≡ self.outside) × (result.read ≡ self.read) }
         ensures fault { result.fault ≡ Some fault }
     {
         Walked {
@@ -146,7 +160,7 @@ pub fn each_record<'a, S: Source + Drop, V: RecordVisitor, W: Write>(
     visitor: &mut V,
     out: &mut W,
 ) -> Result<Walked, Fault<'a>>
-    ensures { IfOk result (λ walked. walked.refused ≤ walked.records) }
+    ensures { IfOk result (λ walked. walked.refused + walked.outside ≤ walked.records) }
 {
     let CaptureFile::Source(source) = capture else {
         return Ok(Walked::begin().ended_by(FileFault::gzip()));
@@ -161,7 +175,7 @@ pub fn each_record<'a, S: Source + Drop, V: RecordVisitor, W: Write>(
         }
         match records.next_chosen()? {
             Pulled::Chosen(head, found) => {
-                walked = walked.after(found.frame.is_err());
+                walked = walked.after(&found.frame);
                 let first = records.reader.first(&head);
                 let place = RecordPlace::of(records.counts.last(), &head, first, &found);
                 visit(visitor, place, found.frame, records.octets.as_slice(), out)?;
@@ -184,14 +198,14 @@ pub fn each_record<'a, S: Source + Drop, V: RecordVisitor, W: Write>(
 fn visit<'f, V: RecordVisitor, W: Write>(
     visitor: &mut V,
     place: RecordPlace,
-    found: Result<FoundFrame, RecordFault>,
+    found: Result<Found, RecordFault>,
     octets: &[u8],
     out: &mut W,
 ) -> Result<(), Fault<'f>>
-    requires { IfOk found (λ f. (t : Transmission) × IsPlaced octets.now t f.place) }
+    requires { IfOk found (IsThere octets.now) }
 {
     let frame = match found {
-        Ok(found) => Ok(found.place.view(octets)),
+        Ok(found) => Ok(found.view(octets)),
         Err(fault) => Err(fault),
     };
     visitor.visit(place, frame, out)

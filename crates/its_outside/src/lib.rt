@@ -2,7 +2,7 @@
 //! field, also those that the profile does not have.
 //!
 //! [`OutsidePacket::read`] reads a packet that the profile rejects. A station does not use it. It
-//! is for tools that show what other makers send. No program calls it yet.
+//! is for tools that show what other makers send, as `show --all-kinds`.
 //!
 //! # What is proved
 //!

@@ -1,4 +1,4 @@
-use Rattle.std.proofs.Common.{◌≡◌, ◌∙◌, ap, drop, length, List, ℕ, subst, sym}
+use Rattle.std.proofs.Common.{ap, drop, length, List, ℕ, subst, sym}
 use Rattle.its_linkframe.specs.Frames.{EncodesFrame}
 use Rattle.its_linkframe.specs.Secured.{EncodesVerified, Verified}
 use Rattle.cap_records.proofs.Inner.{inner_encodes}

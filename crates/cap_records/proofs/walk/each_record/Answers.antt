@@ -1,7 +1,6 @@
 use Rattle.std.proofs.Common.{arith, List, ℕ, IfOk, subst, sym}
-use Rattle.its_model.specs.Packet.{Transmission}
 use Rattle.cap_pcap.specs.Sources.{Gives}
-use Rattle.cap_records.specs.FoundFrames.{IsPlaced, ReadsFrame}
+use Rattle.cap_records.specs.FoundFrames.{IsThere, ReadsFrame}
 use Rattle.cap_records.specs.declared.records.Pulled.TheVariants as pulls
 use Rattle.cap_records.proofs.Steps.{next_counts, next_reads}
 use Rattle.cap_records.proofs.walk.each_record.Goals as goal
@@ -23,5 +22,5 @@ visit-requires g c =
     let read = next_reads Gives ReadsFrame c.loop-out.records.selection
     c.loop-out.records.source c.loop-out.records.counts now.source now.octets.items now.counts
     c.in-Chosen.head c.in-Chosen.found comes in
-    subst (λ (w : List ℕ). IfOk c.in-Chosen.found.frame
-    (λ f. (t : Transmission) × IsPlaced w t f.place)) (sym c.as_slice.ensures.value) read.1.1
+    subst (λ (w : List ℕ). IfOk c.in-Chosen.found.frame (IsThere w))
+    (sym c.as_slice.ensures.value) read.1.1

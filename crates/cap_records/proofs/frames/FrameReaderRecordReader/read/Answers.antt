@@ -1,17 +1,15 @@
 use Rattle.std.proofs.Common.{◌≡◌, IfOk, List, None, false, rules, subst, sym, true, ℕ}
-use Rattle.its_model.specs.Packet.{Transmission}
 use Rattle.cap_records.proofs.FoundRecords.{placed_found, reads_found, selected}
-use Rattle.cap_records.specs.FoundFrames.{IsChosenBy, IsPlaced}
+use Rattle.cap_records.specs.FoundFrames.{IsChosenBy, IsThere}
 use Rattle.cap_records.proofs.frames.FrameReaderRecordReader.read.Goals as goal
 
 pub has-requires : goal.has-requires
 has-requires c =
     let selection = c.args.selection.now in
     let found = c.find-frame.result in
-    subst (λ (w : List ℕ). IfOk found (λ f. (t : Transmission) × IsPlaced w t f.place))
-    (sym c.as_slice-2.ensures.value)
-    (placed_found selection.signed c.args.head.now c.args.octets.now.items
-    c.find-frame.new.octets.items found c.find-frame.ensures)
+    subst (λ (w : List ℕ). IfOk found (IsThere w)) (sym c.as_slice-2.ensures.value)
+    (placed_found selection.choice.all_kinds selection.signed c.args.head.now
+    c.args.octets.now.items c.find-frame.new.octets.items found c.find-frame.ensures)
 
 pub returns-then-has : goal.returns-then-has
 returns-then-has c =

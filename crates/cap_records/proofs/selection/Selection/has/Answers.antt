@@ -1,16 +1,15 @@
 use Rattle.std.proofs.Common.{◌∙◌, Bool, IfOk, None, Result, ap, subst, sym}
-use Rattle.its_model.specs.Packet.{Transmission}
 use Rattle.cap_records.proofs.FoundRecords.{any_chosen}
 use Rattle.cap_records.specs.Choosing.{selects}
-use Rattle.cap_records.specs.FoundFrames.{IsChosenBy, IsPlaced}
-use Rattle.cap_records.specs.declared.found.FoundFrame.{FoundFrame}
+use Rattle.cap_records.specs.FoundFrames.{IsChosenBy, IsThere}
+use Rattle.cap_records.specs.declared.found.Found.{Found}
 use Rattle.cap_records.specs.declared.refusal.RecordFault.{RecordFault}
 use Rattle.cap_records.proofs.selection.Selection.has.Goals as goal
 
-pub has_frame-requires : goal.has_frame-requires
-has_frame-requires c =
-    subst (λ (x : Result FoundFrame RecordFault). IfOk x (λ f. (t : Transmission)
-    × IsPlaced c.args.octets.now t f.place)) c.in-Ok.is c.requires
+pub has_found-requires : goal.has_found-requires
+has_found-requires c =
+    subst (λ (x : Result Found RecordFault). IfOk x (IsThere c.args.octets.now)) c.in-Ok.is
+    c.requires
 
 pub returns-then-has_any : goal.returns-then-has_any
 returns-then-has_any c =
@@ -19,12 +18,12 @@ returns-then-has_any c =
 
 pub returns-in-Ok : goal.returns-in-Ok
 returns-in-Ok c =
-    subst (λ (x : Result FoundFrame RecordFault). IsChosenBy c.args.self.now.choice c.args.moment
-    c.args.octets.now x c.has_frame.result) (sym c.in-Ok.is) c.has_frame.ensures
+    subst (λ (x : Result Found RecordFault). IsChosenBy c.args.self.now.choice c.args.moment
+    c.args.octets.now x c.has_found.result) (sym c.in-Ok.is) c.has_found.ensures
 
 pub returns-in-Err : goal.returns-in-Err
 returns-in-Err c =
-    subst (λ (x : Result FoundFrame RecordFault). IsChosenBy c.args.self.now.choice c.args.moment
+    subst (λ (x : Result Found RecordFault). IsChosenBy c.args.self.now.choice c.args.moment
     c.args.octets.now x c.selects.result) (sym c.in-Err.is)
     (c.selects.ensures
     ∙ ap (λ (other : Bool). selects c.args.self.now.choice c.args.moment None other)

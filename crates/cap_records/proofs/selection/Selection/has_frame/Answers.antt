@@ -1,4 +1,4 @@
-use Rattle.std.proofs.Common.{◌≡◌, ◌∙◌, ap, Some, false}
+use Rattle.std.proofs.Common.{◌∙◌, ap, Some, false}
 use Rattle.its_model.specs.Packet.{Transmission}
 use Rattle.its_linkframe.specs.Frames.{transmission_of}
 use Rattle.cap_records.specs.Choosing.{selects}

@@ -1,7 +1,7 @@
 use Rattle.std.proofs.Common.{◌≡◌, ◌∙◌, ◌++◌, List, ℕ, ap, subst, take}
 use Rattle.cap_linklayers.specs.declared.link.TheConstants.{LONGEST_RECORD}
 use Rattle.cap_records.proofs.Chosen.{take_most}
-use Rattle.cap_records.proofs.FoundRecords.{placed_found, selected}
+use Rattle.cap_records.proofs.FoundRecords.{selected}
 use Rattle.cap_records.specs.FoundFrames.{IsChosenBy, IsFoundOf}
 use Rattle.cap_records.proofs.selection.Selection.has_record.Goals as goal
 
@@ -16,8 +16,9 @@ returns c =
     c.in_ok-extend_from_slice.ensures.items
     ∙ ap (λ (v : List ℕ). v ++ take c.min.result w) c.clear.ensures.items
     ∙ take_most w LONGEST_RECORD c.min.result c.min.ensures in
-    let is = subst (λ (v : List ℕ). IsFoundOf selection.signed head v after found) kept
-    c.find-found.ensures in
+    let is = subst
+    (λ (v : List ℕ). IsFoundOf selection.choice.all_kinds selection.signed head v after found)
+    kept c.find-found.ensures in
     let by = subst (λ (v : List ℕ). IsChosenBy selection.choice head.moment v found c.has.result)
     c.as_slice.ensures.value c.has.ensures in
     selected selection.choice selection.signed head (take LONGEST_RECORD w) after found c.has.result
