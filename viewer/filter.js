@@ -8,8 +8,8 @@
   const {DO, DOS, IS_OF_FRAME, NOTES, RESULT} = geostation.events;
   const OWN = {tick: 'beacon', shb: 'shb', gbc: 'gbc', gac: 'gac'};
   /** The kinds that can be selected: packets, other requests to a station, notes of it. */
-  const KINDS = ['beacon', 'shb', 'gbc', 'gac', 'move', 'open', 'close', 'restart', 'came', 'left',
-    'absent'];
+  const KINDS = ['beacon', 'shb', 'gbc', 'gac', 'guc', 'tsb', 'ls-request', 'ls-reply', 'move', 'open',
+    'close', 'restart', 'came', 'left', 'absent'];
   const RESULTS = ['sent', 'delivered', 'accepted', 'duplicate', 'ignored', 'refused', 'lost', 'held',
     'cancelled'];
   /** The notes of a result. */

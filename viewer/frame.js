@@ -237,5 +237,6 @@
     return words.join(' ');
   }
 
-  geostation.frame = {Fault, read, readOfAnyLength, decode, line, lifetimeMillis, toHex, fromHex};
+  geostation.frame = {Fault, Octets, read, readOfAnyLength, decode, line, lifetimeMillis, toHex,
+    fromHex};
 })(globalThis.geostation ??= {});

@@ -9,6 +9,10 @@
     shb: 'SHB: a message to all stations in range',
     gbc: 'GBC: a message to all stations in an area',
     gac: 'GAC: a message to any station in an area',
+    guc: 'GUC: a message to one station',
+    tsb: 'TSB: a message to all stations within some hops',
+    'ls-request': 'LS request: which station has this address?',
+    'ls-reply': 'LS reply: the position of a station',
   };
 
   /** Tenths of a microdegree as degrees. @param {number} value */
@@ -36,13 +40,31 @@
     return isText ? `${payload} “${String.fromCharCode(...octets)}”` : payload;
   }
 
-  /** The fields, what it says first. @param {import('./frame.js').Packet} p */
+  /** What a packet carries, and to which port. */
+  function contentRows(p) {
+    if (p.payload === undefined) return [];
+    const rows = [['payload', payloadWords(p.payload)]];
+    if (p.sourcePort !== undefined) rows.push(['port, source port', `${p.port}, ${p.sourcePort}`]);
+    else if (p.port !== undefined) rows.push(['port, info', `${p.port}, ${p.info}`]);
+    else rows.push(['next header', p.next]);
+    return rows;
+  }
+
+  /** For whom a packet is, if it is for an area or for one station. */
+  function targetRows({area, destination, sought}) {
+    const rows = [];
+    if (area) rows.push(['area', areaWords(area)]);
+    if (destination) rows.push(['destination', `${destination.address}, ${place(destination)}`]);
+    if (sought) rows.push(['sought address', sought]);
+    return rows;
+  }
+
+  /**
+   * The fields, what it says first.
+   * @param {import('./frame.js').Packet | import('./outside.js').Outside} p
+   */
   function fields(p) {
-    const rows = [['kind', KINDS[p.kind]]];
-    if (p.port !== undefined) {
-      rows.push(['payload', payloadWords(p.payload)], ['port, info', `${p.port}, ${p.info}`]);
-    }
-    if (p.area) rows.push(['area', areaWords(p.area)]);
+    const rows = [['kind', KINDS[p.kind]], ...contentRows(p), ...targetRows(p)];
     rows.push(['hops left', `${p.left} of ${p.max}`], ['source', p.address]);
     if (p.number !== undefined) rows.push(['sequence number', String(p.number)]);
     rows.push(
@@ -92,12 +114,23 @@
     return lost > 0 ? `${words}, ${lost} lost it.` : `${words}.`;
   }
 
-  /** The rows of a frame's fields, none if it is no valid packet. */
-  function rowsOf(run, number) {
-    const {packet, security, fault} = geostation.secured.read(run.frames.octets(number));
-    const rows = packet ? fields(packet) : [];
+  /**
+   * The rows of octets' fields, and the fault if they are no packet of the standard.
+   * @param {Uint8Array} octets
+   */
+  function rowsOfOctets(octets) {
+    const {packet, security, inner, fault} = geostation.secured.read(octets);
+    const outside = fault && geostation.outside.read(inner ?? octets);
+    if (!packet && !outside) return {rows: [], fault};
+    const rows = outside ? [['outside the profile', fault]] : [];
+    rows.push(...fields(packet ?? outside));
     if (security) rows.push(['security', geostation.secured.words(security)]);
-    return {rows, fault};
+    return {rows};
+  }
+
+  /** The rows of a frame's fields. */
+  function rowsOf(run, number) {
+    return rowsOfOctets(run.frames.octets(number));
   }
 
   /**
@@ -135,5 +168,5 @@
       : element('p', 'quiet', why));
   }
 
-  geostation.packet = {show, fields};
+  geostation.packet = {show, fields, rowsOfOctets};
 })(globalThis.geostation ??= {});

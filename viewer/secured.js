@@ -103,7 +103,9 @@
   /**
    * Reads a frame, a secured one by its plain part.
    * @param {Uint8Array} octets
-   * @returns {{packet: import('./frame.js').Packet, security?: Security} | {fault: string}}
+   * @returns {{packet: import('./frame.js').Packet, security?: Security} |
+   *   {fault: string, inner?: Uint8Array, security?: Security}} with the fault of the frame inside,
+   *   that frame
    */
   function read(octets) {
     if (!isSecured(octets)) return geostation.frame.read(octets);
@@ -112,8 +114,9 @@
       const packet = octets.subarray(PACKET);
       checkBasic(packet);
       const {plain, security} = readMessage(new Message(packet));
-      const inside = geostation.frame.readOfAnyLength(innerOf(octets, plain));
-      if (inside.fault) return {fault: inside.fault.replace('L5', 'L6')};
+      const inner = innerOf(octets, plain);
+      const inside = geostation.frame.readOfAnyLength(inner);
+      if (inside.fault) return {fault: inside.fault.replace('L5', 'L6'), inner, security};
       return {packet: inside.packet, security};
     } catch (fault) {
       if (!(fault instanceof Fault)) throw fault;

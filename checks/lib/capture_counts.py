@@ -138,12 +138,12 @@ def as_json(tables: dict) -> str:
     return json.dumps(tables, separators=(",", ":")) + "\n"
 
 
-def as_text(tables: dict) -> str:
-    """The same as four tables, and the line of a fault."""
+def as_text(tables: dict, columns: list[str] = SOURCE) -> str:
+    """Four tables, of which that of the sources has these columns, and the line of a fault."""
     load = tables["load"]
     parts = [
         table(["kind", "records"], tables["records"].items()),
-        table(SOURCE, ([source_cell(row[key]) for key in SOURCE] for row in tables["sources"])),
+        table(columns, ([source_cell(row[key]) for key in columns] for row in tables["sources"])),
         table(["port", "frames", "octets"], (row.values() for row in tables["ports"])),
         table(["second", "frames", "octets", "busy"], [load.values()] if load else []),
     ]

@@ -122,7 +122,7 @@ def check_keys(sources):
     """The keys of `show`: those of the source are in the help, and in the pages."""
     keys = re.findall(r'^ +Field::\w+ => "(\w+)",$', sources.text(FIELD), re.M)
     listed = re.search(r"Keys of --fields: (.*?)\n\n", sources.text(FORMS), re.S)[1]
-    found = re.findall(r"\w+", listed.replace("with --signed", ""))
+    found = re.findall(r"\w+", re.sub(r"with --[a-z-]+", "", listed))
     wrong = [f"{FORMS}: the help and {FIELD} differ in the key {it}" for it in {*keys} ^ {*found}]
     cells = HEAD.findall(sources.text(f"{COMMANDS}/show.md"))
     cells += re.findall(r"^The keys are those of the.*?\n\n", sources.text(JSON), re.M | re.S)

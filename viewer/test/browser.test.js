@@ -922,6 +922,30 @@ test('a frame is drawn by what became of it', async () => {
   noFault();
 });
 
+test('a packet outside the profile is drawn, listed and shown', async () => {
+  const file = fs.readFileSync(path.join(TOP, '..', 'cases', 'data', 'outside.pcap'));
+  const octets = file.subarray(40, 40 + file.readUInt32LE(32)).toString('hex');
+  const stations = [1, 2].map((n, i) => ({address: `140002000000000${n}`, lat: 9000 * i, lon: 0}));
+  const lines = [
+    {stations},
+    {event: 0, moment: 5, station: 0, do: 'gbc', result: 'sent', sent: 0, octets},
+    {event: 1, moment: 6, station: 1, do: 'deliver', frame: 0, result: 'refused',
+      code: 'S3 L5 G7 at 5', reason: 'an unsupported header type'},
+  ];
+  const run = path.join(room, 'outside.jsonl');
+  fs.writeFileSync(run, lines.map((line) => JSON.stringify(line)).join('\n'));
+  await show(run);
+  await page.press('End');
+  assert.equal(await count('g.link.refused'), 1);
+  const shown = await text('#packet .fields');
+  for (const words of ['GUC: a message to one station', 'L5 G7 at 5', '3c00020000000010', '2002, 0']) {
+    assert.ok(shown.includes(words), words);
+  }
+  await pick('kind', 'guc');
+  assert.deepEqual((await rows('events')).length, 1);
+  noFault();
+});
+
 test('a station without events stops playing by events at once', async () => {
   const file = path.join(room, 'idle.jsonl');
   fs.writeFileSync(file, samples.four().replace('"stations":[',

@@ -42,6 +42,14 @@ field_word fields.Cut = codes "cut"
 field_word fields.Psid = codes "psid"
 field_word fields.Generated = codes "generated"
 field_word fields.Secured = codes "secured"
+field_word fields.Outside = codes "outside"
+field_word fields.Destination = codes "destination"
+field_word fields.Dtst = codes "dtst"
+field_word fields.Dlat = codes "dlat"
+field_word fields.Dlon = codes "dlon"
+field_word fields.Sought = codes "sought"
+field_word fields.Next = codes "next"
+field_word fields.SourcePort = codes "source_port"
 
 -- whether its value is there only if secured frames are read by their plain part
 abbrev pub is_of_secured : Field → Bool

@@ -5,9 +5,10 @@ ghost use Rattle.cmd_reporting.specs.Statuses.{IsCommandStatus};
 
 use crate::output::Output;
 use crate::refused_lines::{Count, RefusedRecord};
-use cap_records::{RecordFault, RecordPlace, RecordVisitor, Selection, each_record, open_records};
+use cap_records::{
+    RecordFault, RecordPlace, RecordVisitor, SeenFrame, Selection, each_record, open_records,
+};
 use cmd_reporting::{Fault, Io, Status, open};
-use its_linkframe::FrameView;
 use std::io::{Read, Write};
 use std::rt::Files;
 
@@ -21,7 +22,7 @@ impl RecordVisitor for RefusedRecords {
     fn visit<'f, W: Write>(
         &mut self,
         place: RecordPlace,
-        frame: Result<FrameView<'_>, RecordFault>,
+        frame: Result<SeenFrame<'_>, RecordFault>,
         out: &mut W,
     ) -> Result<(), Fault<'f>> {
         let Err(fault) = frame else {
@@ -34,7 +35,8 @@ impl RecordVisitor for RefusedRecords {
 }
 
 /// Prints a line for each refused record of the file that is chosen, and how many records were
-/// chosen. `input` is standard input.
+/// chosen, how many of them are refused, and if all kinds are chosen, how many are outside the
+/// profile. `input` is standard input.
 ///
 /// `Refused` if such a record or the file was refused, `Failed` if the file could not be read or
 /// standard output not written, or memory ran out.
@@ -74,8 +76,8 @@ where
     let records = open_records(alloc, file, selection.format, reader)?;
     let walked = each_record(alloc, file, selection, records, &mut visitor, out)?;
     visitor.output.end(&walked, out)?;
-    visitor
-        .output
-        .line(&Count::new(walked.records, walked.refused), out)?;
+    let outside = selection.choice.all_kinds.then_some(walked.outside);
+    let count = Count::new(walked.records, walked.refused, outside);
+    visitor.output.line(&count, out)?;
     Ok(walked.status())
 }

@@ -83,11 +83,27 @@ pub enum Field {
     Generated,
     /// Whether the frame is a secured one.
     Secured,
+    /// Why the packet is outside the profile, as a code.
+    Outside,
+    /// The address of the station that the packet is for.
+    Destination,
+    /// The time of that station's position.
+    Dtst,
+    /// The latitude of that.
+    Dlat,
+    /// Its longitude.
+    Dlon,
+    /// The address of the station that is sought.
+    Sought,
+    /// What follows the headers of GeoNetworking.
+    Next,
+    /// The source port.
+    SourcePort,
 }
 
-/// All keys, in the order in which the object of a record has them; then that of a refusal, and those
-/// that an object has only if they are asked for.
-pub const FIELDS: [Field; 37] = [
+/// All keys, in the order in which the object of a record has them; then that of a refusal, those
+/// that an object has only if they are asked for, and those of packets outside the profile.
+pub const FIELDS: [Field; 45] = [
     Field::Moment,
     Field::From,
     Field::To,
@@ -125,6 +141,14 @@ pub const FIELDS: [Field; 37] = [
     Field::Psid,
     Field::Generated,
     Field::Secured,
+    Field::Outside,
+    Field::Destination,
+    Field::Dtst,
+    Field::Dlat,
+    Field::Dlon,
+    Field::Sought,
+    Field::Next,
+    Field::SourcePort,
 ];
 
 /// How many of these the object of a frame has, which come first.
@@ -173,6 +197,14 @@ impl Field {
             Field::Psid => "psid",
             Field::Generated => "generated",
             Field::Secured => "secured",
+            Field::Outside => "outside",
+            Field::Destination => "destination",
+            Field::Dtst => "dtst",
+            Field::Dlat => "dlat",
+            Field::Dlon => "dlon",
+            Field::Sought => "sought",
+            Field::Next => "next",
+            Field::SourcePort => "source_port",
         }
     }
 
@@ -194,6 +226,10 @@ impl Field {
                 | Field::Shape
                 | Field::Payload
                 | Field::Refused
+                | Field::Outside
+                | Field::Destination
+                | Field::Sought
+                | Field::Next
         )
     }
 

@@ -22,105 +22,72 @@ pub(crate) struct FrameLine<'a> {
     keys: FrameKeys<'a>,
     #[serde(flatten)]
     secured: Option<SecuredKeys>,
+    /// How far the octets of the frame go, if it was cut.
     #[serde(skip)]
+    cut: Option<Cut>,
+}
+
+/// How far the octets of a frame go that was cut.
+#[derive(Clone, Copy)]
+pub(crate) struct Cut {
+    /// The kind of its packet.
     kind: Kind,
-    /// How many octets of the frame there are, if it was cut.
-    #[serde(skip)]
-    known: Option<usize>,
+    /// How many octets of the frame there are.
+    known: usize,
+}
+
+impl Cut {
+    /// Whether the value of this key is there.
+    fn has(self, field: Field) -> bool {
+        field.octets_needed(self.kind) <= self.known
+    }
+}
+
+/// Whether the value of this key is there, in a frame that was cut here, if it was.
+fn has(cut: Option<Cut>, field: Field) -> bool {
+    match cut {
+        Some(cut) => cut.has(field),
+        None => true,
+    }
 }
 
 impl<'a> FrameLine<'a> {
     /// What is printed of the frame of a record.
     pub(crate) fn of(moment: Moment, frame: &FrameView<'a>, place: &RecordPlace) -> FrameLine<'a> {
-        let kind = frame.packet.kind();
-        let known = place.known;
+        let cut = place.known.map(|known| Cut {
+            kind: frame.packet.kind(),
+            known,
+        });
         let keys = FrameKeys::of(frame);
         FrameLine {
             moment,
             keys: FrameKeys {
-                message: keys
-                    .message
-                    .map(|message| message_within(message, kind, known)),
+                message: keys.message.map(|message| message_within(message, cut)),
                 ..keys
             },
             secured: place.secured.map(|facts| SecuredKeys::of(&facts)),
-            kind,
-            known,
-        }
-    }
-
-    /// Whether the value of this key is there.
-    pub(crate) fn has(&self, field: Field) -> bool {
-        match self.known {
-            Some(known) => field.octets_needed(self.kind) <= known,
-            None => true,
+            cut,
         }
     }
 
     /// Whether its payload is there, or the beginning of it.
     pub(crate) fn has_payload(&self) -> bool {
-        self.keys.message.is_some() && self.has(Field::Payload)
-    }
-
-    /// Whether it was cut.
-    pub(crate) fn is_cut(&self) -> bool {
-        self.known.is_some()
+        self.keys.message.is_some() && has(self.cut, Field::Payload)
     }
 
     /// Adds its words to a text, with a line feed after them.
     pub(crate) fn add_to(&self, text: &mut Text) -> Result<(), AllocError> {
-        let keys = &self.keys;
         text.moment(self.moment)?;
-        text.digits(" ", &keys.from.0)?;
-        text.digits(" ", &keys.to.0)?;
-        text.word(" ")?;
-        text.word(keys.kind)?;
-        text.digits(" ", &keys.address.0)?;
-        self.add_vector(text)?;
-        add_header(keys, text)?;
-        self.add_body(text)?;
-        if let Some(secured) = &self.secured {
-            secured.add_to(text)?;
-        }
-        text.word(if self.is_cut() { " cut\n" } else { "\n" })
-    }
-
-    /// Adds where the source was, how fast and in what direction it moved, and when.
-    fn add_vector(&self, text: &mut Text) -> Result<(), AllocError> {
-        let keys = &self.keys;
-        if self.has(Field::Tst) {
-            text.number(" tst ", keys.tst)?;
-        }
-        if self.has(Field::Lat) {
-            text.number(" lat ", keys.lat)?;
-        }
-        if self.has(Field::Lon) {
-            text.number(" lon ", keys.lon)?;
-        }
-        if self.has(Field::Speed) {
-            text.number(" pai ", keys.pai as u8)?;
-            text.number(" speed ", keys.speed)?;
-        }
-        if self.has(Field::Heading) {
-            text.number(" heading ", keys.heading)?;
-        }
-        Ok(())
-    }
-
-    /// Adds what only some kinds have.
-    fn add_body(&self, text: &mut Text) -> Result<(), AllocError> {
-        if let Some(target) = &self.keys.target {
-            text.number(" number ", target.number)?;
-            if self.has(Field::Angle) {
-                add_area(target, text)?;
-            }
-        }
+        add_headers(&self.keys, self.cut, text)?;
         if let Some(message) = &self.keys.message
-            && self.has(Field::Info)
+            && has(self.cut, Field::Info)
         {
             add_message(message, text)?;
         }
-        Ok(())
+        if let Some(secured) = &self.secured {
+            secured.add_to(text)?;
+        }
+        text.word(if self.cut.is_some() { " cut\n" } else { "\n" })
     }
 
     /// Its moment.
@@ -131,59 +98,112 @@ impl<'a> FrameLine<'a> {
     /// Adds the value of a key to a text, as JSON has it without quotation marks; nothing if it has
     /// no such key, or if that was cut off.
     pub(crate) fn add_value_to(&self, field: Field, text: &mut Text) -> Result<(), AllocError> {
-        if !self.has(field) {
+        if !has(self.cut, field) {
             return Ok(());
         }
-        let keys = &self.keys;
         match field {
             Field::Moment => text.moment(self.moment),
-            Field::From => text.digits("", &keys.from.0),
-            Field::To => text.digits("", &keys.to.0),
-            Field::Kind => text.word(keys.kind),
-            Field::Address => text.digits("", &keys.address.0),
-            Field::Tst => text.number("", keys.tst),
-            Field::Lat => text.number("", keys.lat),
-            Field::Lon => text.number("", keys.lon),
-            Field::Pai => text.word(truth_word(keys.pai)),
-            Field::Speed => text.number("", keys.speed),
-            Field::Heading => text.number("", keys.heading),
-            Field::Lt => text.number("", keys.lt),
-            Field::Tc => text.number("", keys.tc),
-            Field::Mobile => text.word(truth_word(keys.mobile)),
-            Field::Hops => text.number("", keys.hops),
-            Field::MaxHops => text.number("", keys.max_hops),
-            Field::Cut if self.is_cut() => text.word("true"),
+            Field::Cut if self.cut.is_some() => text.word("true"),
             Field::Psid | Field::Generated | Field::Secured => match &self.secured {
                 Some(secured) => secured.add_value_to(field, text),
                 None => Ok(()),
             },
-            _ => self.add_part_to(field, text),
+            _ => add_key_value(&self.keys, field, text),
         }
-    }
-
-    /// The same of a key that only some kinds have.
-    fn add_part_to(&self, field: Field, text: &mut Text) -> Result<(), AllocError> {
-        if let Some(target) = &self.keys.target {
-            add_target_value(target, field, text)?;
-        }
-        if let Some(message) = &self.keys.message {
-            add_message_value(message, field, text)?;
-        }
-        Ok(())
     }
 }
 
+/// Adds the words of the headers to a text, from the link addresses to the area: those whose octets
+/// are there.
+pub(crate) fn add_headers(
+    keys: &FrameKeys<'_>,
+    cut: Option<Cut>,
+    text: &mut Text,
+) -> Result<(), AllocError> {
+    text.digits(" ", &keys.from.0)?;
+    text.digits(" ", &keys.to.0)?;
+    text.word(" ")?;
+    text.word(keys.kind)?;
+    text.digits(" ", &keys.address.0)?;
+    add_vector(keys, cut, text)?;
+    add_header(keys, text)?;
+    if let Some(target) = &keys.target {
+        text.number(" number ", target.number)?;
+        if has(cut, Field::Angle) {
+            add_area(target, text)?;
+        }
+    }
+    Ok(())
+}
+
+/// Adds where the source was, how fast and in what direction it moved, and when.
+fn add_vector(keys: &FrameKeys<'_>, cut: Option<Cut>, text: &mut Text) -> Result<(), AllocError> {
+    if has(cut, Field::Tst) {
+        text.number(" tst ", keys.tst)?;
+    }
+    if has(cut, Field::Lat) {
+        text.number(" lat ", keys.lat)?;
+    }
+    if has(cut, Field::Lon) {
+        text.number(" lon ", keys.lon)?;
+    }
+    if has(cut, Field::Speed) {
+        text.number(" pai ", keys.pai as u8)?;
+        text.number(" speed ", keys.speed)?;
+    }
+    if has(cut, Field::Heading) {
+        text.number(" heading ", keys.heading)?;
+    }
+    Ok(())
+}
+
+/// Adds the value of a key of the frame to a text, as JSON has it without quotation marks; nothing
+/// if it has no such key.
+pub(crate) fn add_key_value(
+    keys: &FrameKeys<'_>,
+    field: Field,
+    text: &mut Text,
+) -> Result<(), AllocError> {
+    match field {
+        Field::From => text.digits("", &keys.from.0),
+        Field::To => text.digits("", &keys.to.0),
+        Field::Kind => text.word(keys.kind),
+        Field::Address => text.digits("", &keys.address.0),
+        Field::Tst => text.number("", keys.tst),
+        Field::Lat => text.number("", keys.lat),
+        Field::Lon => text.number("", keys.lon),
+        Field::Pai => text.word(truth_word(keys.pai)),
+        Field::Speed => text.number("", keys.speed),
+        Field::Heading => text.number("", keys.heading),
+        Field::Lt => text.number("", keys.lt),
+        Field::Tc => text.number("", keys.tc),
+        Field::Mobile => text.word(truth_word(keys.mobile)),
+        Field::Hops => text.number("", keys.hops),
+        Field::MaxHops => text.number("", keys.max_hops),
+        _ => add_part_value(keys, field, text),
+    }
+}
+
+/// Adds the value of a key that only some kinds have.
+fn add_part_value(keys: &FrameKeys<'_>, field: Field, text: &mut Text) -> Result<(), AllocError> {
+    if let Some(target) = &keys.target {
+        add_target_value(target, field, text)?;
+    }
+    if let Some(message) = &keys.message {
+        add_message_value(message, field, text)?;
+    }
+    Ok(())
+}
+
 /// What is there of a message whose frame was cut, if it was: the payload ends where the frame does.
-fn message_within<'a>(
-    message: MessageKeys<'a>,
-    kind: Kind,
-    known: Option<usize>,
-) -> MessageKeys<'a> {
-    let Some(known) = known else {
+fn message_within<'a>(message: MessageKeys<'a>, cut: Option<Cut>) -> MessageKeys<'a> {
+    let Some(cut) = cut else {
         return message;
     };
     let octets = message.payload.0;
-    let there = known.saturating_sub(Field::Payload.octets_needed(kind));
+    let there = cut
+        .known
+        .saturating_sub(Field::Payload.octets_needed(cut.kind));
     MessageKeys {
         payload: Octets(&octets[..there.min(octets.len())]),
         ..message
@@ -228,10 +248,15 @@ fn add_target_value(target: &TargetKeys, field: Field, text: &mut Text) -> Resul
 fn add_message(message: &MessageKeys<'_>, text: &mut Text) -> Result<(), AllocError> {
     text.number(" port ", message.port)?;
     text.number(" info ", message.info)?;
-    if message.payload.0.is_empty() {
+    add_payload(message.payload, text)
+}
+
+/// Adds a payload.
+pub(crate) fn add_payload(payload: Octets<'_>, text: &mut Text) -> Result<(), AllocError> {
+    if payload.0.is_empty() {
         text.word(" -")
     } else {
-        text.digits(" ", message.payload.0)
+        text.digits(" ", payload.0)
     }
 }
 

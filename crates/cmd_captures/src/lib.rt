@@ -18,6 +18,7 @@
 //! # Only tested
 //!
 //! - `cases/signed.md`: the words and keys of a secured frame.
+//! - `cases/outside.md`, `checks/outside`: the words and keys of packets outside the profile.
 //! - `cases/samples.md`, `show.md`, `converting.md`, `import.md`: lines and statuses, which records
 //!   are refused with which code, how many times and interfaces are reported as lost, that a bad
 //!   line makes no capture.
@@ -32,6 +33,8 @@ mod frame_line;
 mod importing;
 mod losses;
 mod output;
+mod outside_keys;
+mod outside_line;
 mod prompt;
 mod refused_lines;
 mod rows;

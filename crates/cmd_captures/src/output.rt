@@ -1,6 +1,7 @@
 //! Lines of a command, as words or as objects in JSON.
 
 use crate::frame_line::FrameLine;
+use crate::outside_line::OutsideLine;
 use crate::refused_lines::RefusedAt;
 use crate::text::Text;
 use cap_records::{RefusedCapture, Walked};
@@ -83,6 +84,23 @@ impl Output {
                 out.write_all(text.as_bytes())?;
             }
             Buffer::Object(line) => write_object(line.of(frame)?, frame.moment(), out)?,
+        }
+        Ok(())
+    }
+
+    /// Writes the line of a packet outside the profile, in the same way.
+    pub(crate) fn outside<'f, W: Write>(
+        &mut self,
+        packet: &OutsideLine<'_>,
+        out: &mut W,
+    ) -> Result<(), Fault<'f>> {
+        match &mut self.buffer {
+            Buffer::Words(text) => {
+                text.clear();
+                packet.add_to(self.explain, text)?;
+                out.write_all(text.as_bytes())?;
+            }
+            Buffer::Object(line) => write_object(line.of(packet)?, packet.moment(), out)?,
         }
         Ok(())
     }

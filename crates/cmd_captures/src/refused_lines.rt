@@ -107,16 +107,28 @@ impl fmt::Display for UnreadRecord {
 pub(crate) struct Count {
     records: u64,
     refused: u64,
+    #[serde(skip_serializing_if = "Option::is_none")]
+    outside: Option<u64>,
 }
 
 impl Count {
-    pub(crate) fn new(records: u64, refused: u64) -> Count {
-        Count { records, refused }
+    /// So many records were chosen, so many of them are refused, and so many are outside the
+    /// profile, if all kinds are chosen.
+    pub(crate) fn new(records: u64, refused: u64, outside: Option<u64>) -> Count {
+        Count {
+            records,
+            refused,
+            outside,
+        }
     }
 }
 
 impl fmt::Display for Count {
     fn fmt<W: fmt::Write>(&self, f: &mut fmt::Formatter<W>) -> fmt::Result {
-        write!(f, "{} records, {} refused", self.records, self.refused)
+        write!(f, "{} records, {} refused", self.records, self.refused)?;
+        match self.outside {
+            Some(outside) => write!(f, ", {outside} outside"),
+            None => Ok(()),
+        }
     }
 }

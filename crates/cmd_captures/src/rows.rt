@@ -3,11 +3,11 @@
 
 use crate::field::Field;
 use crate::frame_line::FrameLine;
+use crate::outside_line::OutsideLine;
 use crate::text::{Text, next_moment};
-use cap_records::{RecordFault, RecordPlace, RecordVisitor};
+use cap_records::{RecordFault, RecordPlace, RecordVisitor, SeenFrame};
 use cmd_reporting::Fault;
 use cmd_times::{Clock, Moment};
-use its_linkframe::FrameView;
 use std::alloc::{AllocError, Global};
 use std::fmt::Write as _;
 use std::io;
@@ -18,24 +18,54 @@ use std::io::Write;
 struct Row<'a> {
     place: RecordPlace,
     moment: Moment,
-    /// Its frame, or why it is refused.
-    frame: Result<FrameLine<'a>, RecordFault>,
+    line: RecordLine<'a>,
+}
+
+/// The values of a record that come from its frame.
+#[derive(Clone, Copy)]
+enum RecordLine<'a> {
+    /// It has a frame of the profile.
+    Frame(FrameLine<'a>),
+    /// Its packet is outside the profile.
+    Outside(OutsideLine<'a>),
+    /// It is refused.
+    Refused(RecordFault),
+}
+
+impl<'a> RecordLine<'a> {
+    /// The values of this record at this moment.
+    fn of(
+        moment: Moment,
+        seen: &Result<SeenFrame<'a>, RecordFault>,
+        place: &RecordPlace,
+    ) -> RecordLine<'a> {
+        match seen {
+            Ok(SeenFrame::Profile(frame)) => {
+                RecordLine::Frame(FrameLine::of(moment, frame, place))
+            }
+            Ok(SeenFrame::Outside(frame)) => {
+                RecordLine::Outside(OutsideLine::of(moment, frame, place))
+            }
+            Err(fault) => RecordLine::Refused(*fault),
+        }
+    }
 }
 
 impl Row<'_> {
     /// Adds the value of a key to a text, without quotation marks; nothing if the record has none.
     fn add_value_to(&self, field: Field, text: &mut Text) -> Result<(), AllocError> {
-        match (field, &self.frame) {
+        match (field, &self.line) {
             (Field::Moment, _) => text.moment(self.moment),
             (Field::Record, _) => text.number("", self.place.number),
             (Field::Interface, _) => text.number("", self.place.interface),
             (Field::Length, _) => text.number("", self.place.length),
             (Field::Vlan | Field::Rssi | Field::Rate, _) => self.add_fact_to(field, text),
-            (Field::Refused, Err(fault)) => {
+            (Field::Refused, RecordLine::Refused(fault)) => {
                 write!(text, "{}", fault.code()).map_err(|_| AllocError)
             }
-            (_, Ok(frame)) => frame.add_value_to(field, text),
-            (_, Err(_)) => Ok(()),
+            (_, RecordLine::Frame(frame)) => frame.add_value_to(field, text),
+            (_, RecordLine::Outside(packet)) => packet.add_value_to(field, text),
+            (_, RecordLine::Refused(_)) => Ok(()),
         }
     }
 
@@ -60,9 +90,10 @@ impl Row<'_> {
 
     /// Whether the record has a value of this key that may be an empty text.
     fn has_payload(&self) -> bool {
-        match &self.frame {
-            Ok(frame) => frame.has_payload(),
-            Err(_) => false,
+        match &self.line {
+            RecordLine::Frame(frame) => frame.has_payload(),
+            RecordLine::Outside(packet) => packet.has_payload(),
+            RecordLine::Refused(_) => false,
         }
     }
 
@@ -136,16 +167,13 @@ impl Rows {
         &mut self,
         place: RecordPlace,
         moment: Moment,
-        frame: Result<FrameView<'_>, RecordFault>,
+        seen: Result<SeenFrame<'_>, RecordFault>,
         out: &mut W,
     ) -> Result<(), Fault<'f>> {
         let row = Row {
             place,
             moment,
-            frame: match &frame {
-                Ok(frame) => Ok(FrameLine::of(moment, frame, &place)),
-                Err(fault) => Err(*fault),
-            },
+            line: RecordLine::of(moment, &seen, &place),
         };
         self.text.clear();
         match self.form {
@@ -210,10 +238,10 @@ impl RecordVisitor for Rows {
     fn visit<'f, W: Write>(
         &mut self,
         place: RecordPlace,
-        frame: Result<FrameView<'_>, RecordFault>,
+        seen: Result<SeenFrame<'_>, RecordFault>,
         out: &mut W,
     ) -> Result<(), Fault<'f>> {
         let moment = next_moment(&mut self.clock, &place);
-        self.print(place, moment, frame, out)
+        self.print(place, moment, seen, out)
     }
 }

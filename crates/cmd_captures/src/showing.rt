@@ -8,17 +8,18 @@ ghost use Rattle.cmd_reporting.specs.Statuses.{IsCommandStatus};
 use crate::field::{FIELDS, FRAME_FIELDS, Field};
 use crate::frame_line::FrameLine;
 use crate::output::Output;
+use crate::outside_line::OutsideLine;
 use crate::refused_lines::RefusedAt;
 use crate::rows::{RowForm, Rows};
 use crate::text::next_moment;
 use cap_records::{
-    CaptureFile, RecordFault, RecordPlace, RecordVisitor, RefusedCapture, Selection, each_record,
-    open_records,
+    CaptureFile, RecordFault, RecordPlace, RecordVisitor, RefusedCapture, SeenFrame, Selection,
+    each_record, open_records,
 };
 use cmd_quoting::OneLine;
 use cmd_reporting::{CommandFault, Fault, Io, OutputFormat, Status, open};
 use cmd_times::{Clock, Time};
-use its_linkframe::{FrameView, Source};
+use its_linkframe::Source;
 use std::alloc::{AllocError, Global};
 use std::io::{Read, Write};
 use std::rt::Files;
@@ -91,18 +92,23 @@ impl RecordVisitor for AllRecords {
     fn visit<'f, W: Write>(
         &mut self,
         place: RecordPlace,
-        frame: Result<FrameView<'_>, RecordFault>,
+        seen: Result<SeenFrame<'_>, RecordFault>,
         out: &mut W,
     ) -> Result<(), Fault<'f>> {
         let moment = next_moment(&mut self.clock, &place);
         if place.known.is_some()
             && let Some(rows) = &mut self.cut
         {
-            return rows.print(place, moment, frame, out);
+            return rows.print(place, moment, seen, out);
         }
         let output = &mut self.output;
-        match frame {
-            Ok(frame) => output.frame(&FrameLine::of(moment, &frame, &place), out),
+        match seen {
+            Ok(SeenFrame::Profile(frame)) => {
+                output.frame(&FrameLine::of(moment, &frame, &place), out)
+            }
+            Ok(SeenFrame::Outside(frame)) => {
+                output.outside(&OutsideLine::of(moment, &frame, &place), out)
+            }
             Err(fault) => {
                 let refused = RefusedAt::new(moment, fault, output.explain);
                 output.refused(&refused, out)

@@ -8,9 +8,10 @@ use crate::ports::Ports;
 use crate::printing::{Counted, print_object, print_tables};
 use crate::psids::Psids;
 use crate::seconds::Seconds;
-use crate::sources::Sources;
+use crate::sources::{SourceFrame, Sources};
 use cap_records::{
-    RecordFault, RecordPlace, RecordVisitor, Selection, each_record, open_records, traits_of,
+    OutsideFrame, RecordFault, RecordPlace, RecordVisitor, SeenFrame, Selection, each_record,
+    open_records, traits_of,
 };
 use cmd_reporting::{Fault, Io, Status, open};
 use its_linkframe::{FrameView, PACKET};
@@ -42,12 +43,34 @@ impl Counts {
 
     /// Counts the frame of a record.
     fn add(&mut self, place: &RecordPlace, frame: &FrameView<'_>) -> Result<(), AllocError> {
-        let length = length_of(place, frame);
-        // No frame has more than 2310 octets.
-        let octets = u32::try_from(length).unwrap_or(u32::MAX);
+        let length = frame.packet.octets().len().saturating_add(PACKET);
+        let octets = octets_of(place, length);
         self.kinds.add_frame(frame.packet.kind());
-        self.sources.add(place.moment, u64::from(octets), frame)?;
-        if let Some(port) = traits_of(frame).port {
+        self.sources.add(SourceFrame::of(place, octets, frame))?;
+        self.add_traffic(place, octets, traits_of(frame).port)
+    }
+
+    /// Counts the frame outside the profile of a record.
+    fn add_outside(
+        &mut self,
+        place: &RecordPlace,
+        frame: &OutsideFrame<'_>,
+    ) -> Result<(), AllocError> {
+        let octets = octets_of(place, frame.length);
+        self.kinds.add_outside(frame.fields.extended.kind());
+        let source = SourceFrame::of_outside(place, octets, frame);
+        self.sources.add(source)?;
+        self.add_traffic(place, octets, frame.port())
+    }
+
+    /// Counts a frame of so many octets by its port, its PSID and its second.
+    fn add_traffic(
+        &mut self,
+        place: &RecordPlace,
+        octets: u32,
+        port: Option<u16>,
+    ) -> Result<(), AllocError> {
+        if let Some(port) = port {
             self.ports.add(port, u64::from(octets))?;
         }
         if let Some(psid) = psid_of(place) {
@@ -57,12 +80,14 @@ impl Counts {
     }
 }
 
-/// How many octets the frame of a record has: of a secured one the whole frame.
-fn length_of(place: &RecordPlace, frame: &FrameView<'_>) -> usize {
-    match place.secured {
+/// How many octets a frame of this length has: of a secured one the whole frame. No record has
+/// 2^32.
+fn octets_of(place: &RecordPlace, length: usize) -> u32 {
+    let length = match place.secured {
         Some(secured) => secured.length,
-        None => frame.packet.octets().len().saturating_add(PACKET),
-    }
+        None => length,
+    };
+    u32::try_from(length).unwrap_or(u32::MAX)
 }
 
 /// The PSID of a record, if its frame is a signed one.
@@ -74,11 +99,12 @@ impl RecordVisitor for Counts {
     fn visit<'f, W: Write>(
         &mut self,
         place: RecordPlace,
-        frame: Result<FrameView<'_>, RecordFault>,
+        frame: Result<SeenFrame<'_>, RecordFault>,
         _out: &mut W,
     ) -> Result<(), Fault<'f>> {
         match frame {
-            Ok(frame) => self.add(&place, &frame)?,
+            Ok(SeenFrame::Profile(frame)) => self.add(&place, &frame)?,
+            Ok(SeenFrame::Outside(frame)) => self.add_outside(&place, &frame)?,
             Err(fault) => self.kinds.add_refused(fault),
         }
         Ok(())
@@ -130,6 +156,7 @@ where
         walked: &walked,
         top,
         signed: selection.signed,
+        all_kinds: selection.choice.all_kinds,
     };
     if io.format.json {
         print_object(alloc, counted, &mut io.out)?;

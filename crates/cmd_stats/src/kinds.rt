@@ -8,34 +8,54 @@ use cap_records::messages::{MessageFault, SHORT_MESSAGE, UNREAD_MESSAGE};
 use cap_records::{RecordFault, SIGNED_HINT};
 use its_faults::{FaultKind, FrameFault, SecuredFault};
 use its_headers::{KINDS, Kind};
+use its_outside::StandardKind;
 use its_words::frames::Explanation;
 use serde::{Case, Described, Serialize, Serializer};
 use std::alloc::{AllocError, Global};
 use std::fmt;
 
 /// How many rows there are.
-const ROWS: usize = 36;
+const ROWS: usize = 44;
 
-/// The names of those behind the kinds of packet, in the order in which they are printed.
+/// The names of frames outside the profile, behind the kinds of packet.
+const OUTSIDE: [&str; 8] = [
+    "outside beacon",
+    "outside guc",
+    "outside gac",
+    "outside gbc",
+    "outside shb",
+    "outside tsb",
+    "outside ls-request",
+    "outside ls-reply",
+];
+
+/// The names of those behind them, in the order in which they are printed.
 const CODES: [&str; 32] = [
     "P3", "P4", "L1", "L2", "L3", "L4", "L5 G1", "L5 G2", "L5 G3", "L5 G4", "L5 G5", "L5 G6",
     "L5 G7", "L5 G8", "L5 G9", "L5 G10", "L5 G11", "L5 G12", "L6 G1", "L6 G2", "L6 G3", "L6 G4",
     "L6 G5", "L6 G6", "L6 G7", "L6 G8", "L6 G9", "L6 G10", "L6 G11", "L6 G12", "E1", "E2",
 ];
 
-/// The rows of the first codes of a packet, and of one in a plain part.
-const PACKET_ROW: usize = 10;
+/// The first row of each.
+const OUTSIDE_ROW: usize = 4;
 
-const INNER_ROW: usize = 22;
+const CODE_ROW: usize = 12;
+
+/// The rows of the first codes of a packet, and of one in a plain part.
+const PACKET_ROW: usize = 18;
+
+const INNER_ROW: usize = 30;
 
 /// The name of a row.
 fn name_of(row: usize) -> &'static str
-    requires { row < 36 }
+    requires { row < 44 }
 {
-    if row < KINDS.len() {
+    if row < OUTSIDE_ROW {
         KINDS[row].word()
+    } else if row < CODE_ROW {
+        OUTSIDE[row - OUTSIDE_ROW]
     } else {
-        CODES[row - KINDS.len()]
+        CODES[row - CODE_ROW]
     }
 }
 
@@ -95,6 +115,11 @@ impl Kinds {
         self.add(row_of_kind(kind));
     }
 
+    /// Counts a frame outside the profile whose packet is of this kind.
+    pub(crate) fn add_outside(&mut self, kind: StandardKind) {
+        self.add(row_of_outside(kind));
+    }
+
     /// Counts a record that is refused.
     pub(crate) fn add_refused(&mut self, fault: RecordFault) {
         let row = row_of_fault(fault);
@@ -104,7 +129,7 @@ impl Kinds {
 
     /// Counts a record of a row. No file has 2^64 records.
     fn add(&mut self, row: usize)
-        requires { row < 36 }
+        requires { row < 44 }
     {
         self.counts[row] = self.counts[row].saturating_add(1);
     }
@@ -143,7 +168,7 @@ impl Serialize for Kinds {
 
 /// The row of a kind of packet.
 fn row_of_kind(kind: Kind) -> usize
-    ensures { result < 36 }
+    ensures { result < 44 }
 {
     match kind {
         Kind::Beacon => 0,
@@ -153,31 +178,47 @@ fn row_of_kind(kind: Kind) -> usize
     }
 }
 
+/// The row of a kind of packet outside the profile.
+fn row_of_outside(kind: StandardKind) -> usize
+    ensures { result < 44 }
+{
+    match kind {
+        StandardKind::Beacon => 4,
+        StandardKind::Guc => 5,
+        StandardKind::Gac => 6,
+        StandardKind::Gbc => 7,
+        StandardKind::Shb => 8,
+        StandardKind::Tsb => 9,
+        StandardKind::LsRequest => 10,
+        StandardKind::LsReply => 11,
+    }
+}
+
 /// The row of why a record is refused.
 fn row_of_fault(fault: RecordFault) -> usize
-    ensures { result < 36 }
+    ensures { result < 44 }
 {
     match fault {
-        RecordFault::Record(cap_pcap::RecordFault::LinkType) => 4,
-        RecordFault::Record(cap_pcap::RecordFault::CutFrame) => 5,
-        RecordFault::Link(LinkFault::Short) => 6,
-        RecordFault::Link(LinkFault::Kind) => 7,
+        RecordFault::Record(cap_pcap::RecordFault::LinkType) => 12,
+        RecordFault::Record(cap_pcap::RecordFault::CutFrame) => 13,
+        RecordFault::Link(LinkFault::Short) => 14,
+        RecordFault::Link(LinkFault::Kind) => 15,
         RecordFault::Frame(fault) | RecordFault::Secured(fault) => row_of_frame(fault),
         RecordFault::Signed(fault) => row_of_secured(fault),
-        RecordFault::Message(MessageFault::Octet(_)) => 34,
-        RecordFault::Message(MessageFault::Short(_)) => 35,
+        RecordFault::Message(MessageFault::Octet(_)) => 42,
+        RecordFault::Message(MessageFault::Short(_)) => 43,
     }
 }
 
 /// The row of why octets are no secured frame, or its plain part no packet.
 fn row_of_secured(fault: SecuredFault) -> usize
-    ensures { result < 36 }
+    ensures { result < 44 }
 {
     match fault {
-        SecuredFault::Short => 6,
-        SecuredFault::EtherType => 7,
-        SecuredFault::TooLong => 8,
-        SecuredFault::Trailing => 9,
+        SecuredFault::Short => 14,
+        SecuredFault::EtherType => 15,
+        SecuredFault::TooLong => 16,
+        SecuredFault::Trailing => 17,
         SecuredFault::Packet(fault) => PACKET_ROW + place_of_packet(fault.kind),
         SecuredFault::Inner(fault) => INNER_ROW + place_of_packet(fault.kind),
     }
@@ -185,13 +226,13 @@ fn row_of_secured(fault: SecuredFault) -> usize
 
 /// The row of why octets are no frame.
 fn row_of_frame(fault: FrameFault) -> usize
-    ensures { result < 36 }
+    ensures { result < 44 }
 {
     match fault {
-        FrameFault::Short => 6,
-        FrameFault::EtherType => 7,
-        FrameFault::TooLong => 8,
-        FrameFault::Trailing => 9,
+        FrameFault::Short => 14,
+        FrameFault::EtherType => 15,
+        FrameFault::TooLong => 16,
+        FrameFault::Trailing => 17,
         FrameFault::Packet(fault) => PACKET_ROW + place_of_packet(fault.kind),
     }
 }

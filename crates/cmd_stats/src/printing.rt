@@ -23,6 +23,8 @@ pub(crate) struct Counted<'c> {
     pub(crate) top: Option<u64>,
     /// Whether PSIDs are printed.
     pub(crate) signed: bool,
+    /// Whether frames outside the profile are counted.
+    pub(crate) all_kinds: bool,
 }
 
 /// Prints the four tables, and that of PSIDs if it is wanted, an empty line between them, and why
@@ -34,11 +36,11 @@ pub(crate) fn print_tables<'f, W: Write>(
     out: &mut W,
 ) -> Result<(), Fault<'f>> {
     let (counts, walked) = (counted.counts, counted.walked);
-    let sources = counts.sources.rows(counted.top)?;
+    let sources = counts.sources.rows(counted.top, counted.all_kinds)?;
     let ports = counts.ports.rows()?;
     counts.kinds.table(alloc, explain)?.write(out)?;
     writeln!(out)?;
-    source_table(alloc, sources.as_slice())?.write(out)?;
+    source_table(alloc, sources.as_slice(), counted.all_kinds)?.write(out)?;
     writeln!(out)?;
     port_table(alloc, ports.as_slice())?.write(out)?;
     writeln!(out)?;
@@ -90,7 +92,7 @@ pub(crate) fn print_object<'f, W: Write>(
     out: &mut W,
 ) -> Result<(), Fault<'f>> {
     let (counts, walked) = (counted.counts, counted.walked);
-    let sources = counts.sources.rows(counted.top)?;
+    let sources = counts.sources.rows(counted.top, counted.all_kinds)?;
     let ports = counts.ports.rows()?;
     let psids = counts.psids.rows()?;
     let fault = walked

@@ -2,17 +2,80 @@
 
 use crate::numbers::Numbers;
 use crate::table::Table;
+use cap_records::{OutsideFrame, RecordPlace};
 use its_linkframe::FrameView;
+use its_outside::ExtendedFields;
 use its_words::json_lines::Digits;
 use serde::Serialize;
 use std::alloc::{AllocError, Global};
 use std::collections::BTreeMap;
 use std::fmt;
 
+/// What is counted of one frame.
+#[derive(Clone, Copy)]
+pub(crate) struct SourceFrame {
+    address: u64,
+    moment: u64,
+    octets: u64,
+    /// The hops left.
+    hops: u8,
+    /// The sequence number, if the packet has one.
+    number: Option<u16>,
+    /// Whether the frame is outside the profile.
+    is_outside: bool,
+}
+
+impl SourceFrame {
+    /// What is counted of a frame of the profile of so many octets.
+    pub(crate) fn of(place: &RecordPlace, octets: u32, frame: &FrameView<'_>) -> SourceFrame {
+        let packet = &frame.packet;
+        SourceFrame {
+            address: packet.vector().address().as_u64(),
+            moment: place.moment,
+            octets: u64::from(octets),
+            hops: packet.hops().left(),
+            number: packet.number(),
+            is_outside: false,
+        }
+    }
+
+    /// What is counted of a frame outside the profile of so many octets.
+    pub(crate) fn of_outside(
+        place: &RecordPlace,
+        octets: u32,
+        frame: &OutsideFrame<'_>,
+    ) -> SourceFrame {
+        let fields = &frame.fields;
+        SourceFrame {
+            address: fields.source.address,
+            moment: place.moment,
+            octets: u64::from(octets),
+            hops: fields.basic.left,
+            number: number_of(&fields.extended),
+            is_outside: true,
+        }
+    }
+}
+
+/// The sequence number of a packet outside the profile, if it has one.
+fn number_of(fields: &ExtendedFields) -> Option<u16> {
+    match fields {
+        ExtendedFields::Beacon | ExtendedFields::Shb(_) => None,
+        ExtendedFields::Guc(sequence, _)
+        | ExtendedFields::Gac(sequence, _)
+        | ExtendedFields::Gbc(sequence, _)
+        | ExtendedFields::Tsb(sequence)
+        | ExtendedFields::LsRequest(sequence, _)
+        | ExtendedFields::LsReply(sequence, _) => Some(sequence.number),
+    }
+}
+
 /// What is counted of the frames of a source.
 #[derive(Drop)]
 struct Source {
     frames: u64,
+    /// How many of them are outside the profile.
+    outside: u64,
     octets: u64,
     /// The least and the greatest moment.
     first: u64,
@@ -32,6 +95,7 @@ impl Source {
     fn new(alloc: Global, moment: u64, hops: u8) -> Source {
         Source {
             frames: 0,
+            outside: 0,
             octets: 0,
             first: moment,
             last: moment,
@@ -44,29 +108,25 @@ impl Source {
     }
 
     /// Counts a frame.
-    fn add(
-        &mut self,
-        moment: u64,
-        octets: u64,
-        hops: u8,
-        number: Option<u16>,
-    ) -> Result<(), AllocError> {
+    fn add(&mut self, frame: SourceFrame) -> Result<(), AllocError> {
+        let moment = frame.moment;
         self.frames = self.frames.saturating_add(1);
-        self.octets = self.octets.saturating_add(octets);
+        self.outside = self.outside.saturating_add(u64::from(frame.is_outside));
+        self.octets = self.octets.saturating_add(frame.octets);
         self.first = self.first.min(moment);
         self.last = self.last.max(moment);
         self.greatest = self.greatest.max(moment.saturating_sub(self.previous));
         self.previous = moment;
-        self.fewest = self.fewest.min(hops);
-        self.most = self.most.max(hops);
-        match number {
+        self.fewest = self.fewest.min(frame.hops);
+        self.most = self.most.max(frame.hops);
+        match frame.number {
             Some(number) => self.numbers.add(number),
             None => Ok(()),
         }
     }
 
     /// Its row in the table.
-    fn row(&self, address: u64) -> SourceRow {
+    fn row(&self, address: u64, all_kinds: bool) -> SourceRow {
         let between = self.last.saturating_sub(self.first);
         SourceRow {
             address: Digits(address.to_be_bytes()),
@@ -81,6 +141,7 @@ impl Source {
             missing: self.numbers.missing(),
             repeated: self.numbers.repeated(),
             hops: [self.fewest, self.most],
+            outside: all_kinds.then_some(self.outside),
         }
     }
 }
@@ -98,6 +159,9 @@ pub(crate) struct SourceRow {
     missing: u64,
     repeated: u64,
     hops: [u8; 2],
+    /// How many frames are outside the profile, if all kinds are chosen.
+    #[serde(skip_serializing_if = "Option::is_none")]
+    outside: Option<u64>,
 }
 
 /// The hops left, as a table has them.
@@ -123,7 +187,11 @@ impl SourceRow {
         table.add(&self.greatest)?;
         table.add(&self.missing)?;
         table.add(&self.repeated)?;
-        table.add(&Hops(self.hops))
+        table.add(&Hops(self.hops))?;
+        match self.outside {
+            Some(outside) => table.add(&outside),
+            None => Ok(()),
+        }
     }
 }
 
@@ -143,29 +211,25 @@ impl Sources {
         }
     }
 
-    /// Counts a frame of so many octets at a moment.
-    pub(crate) fn add(
-        &mut self,
-        moment: u64,
-        octets: u64,
-        frame: &FrameView<'_>,
-    ) -> Result<(), AllocError> {
-        let packet = &frame.packet;
-        let address = packet.vector().address().as_u64();
-        let hops = packet.hops().left();
+    /// Counts a frame.
+    pub(crate) fn add(&mut self, frame: SourceFrame) -> Result<(), AllocError> {
         let source = self
             .sources
-            .entry(address)?
-            .or_insert(Source::new(self.alloc, moment, hops));
-        source.add(moment, octets, hops, packet.number())
+            .entry(frame.address)?
+            .or_insert(Source::new(self.alloc, frame.moment, frame.hops));
+        source.add(frame)
     }
 
     /// The rows, those of the most frames first, and of as many of the lower address; so many of
     /// them at most.
-    pub(crate) fn rows(&self, top: Option<u64>) -> Result<Vec<SourceRow>, AllocError> {
+    pub(crate) fn rows(
+        &self,
+        top: Option<u64>,
+        all_kinds: bool,
+    ) -> Result<Vec<SourceRow>, AllocError> {
         let mut rows = Vec::new(self.alloc);
         for (address, source) in self.sources.iter() {
-            rows.push(source.row(*address))?;
+            rows.push(source.row(*address, all_kinds))?;
         }
         rows.sort_by_key(|row| u64::MAX - row.frames)?;
         if let Some(top) = top {
@@ -175,13 +239,22 @@ impl Sources {
     }
 }
 
-/// The table of these rows.
-pub(crate) fn source_table(alloc: Global, rows: &[SourceRow]) -> Result<Table, AllocError> {
+/// The table of these rows. They have a last column if all kinds are chosen.
+pub(crate) fn source_table(
+    alloc: Global,
+    rows: &[SourceRow],
+    all_kinds: bool,
+) -> Result<Table, AllocError> {
     let heads = [
         "address", "frames", "octets", "first", "last", "mean", "greatest", "missing", "repeated",
-        "hops",
+        "hops", "outside",
     ];
-    let mut table = Table::new(alloc, &heads)?;
+    let columns = if all_kinds {
+        heads.len()
+    } else {
+        heads.len() - 1
+    };
+    let mut table = Table::new(alloc, &heads[..columns])?;
     for row in rows {
         row.add_to(&mut table)?;
     }
