@@ -88,6 +88,8 @@ ANSWERS = f"""\
 """
 
 SECOND = "1400020000000002 449 0"
+# The station of data/verdict, in the area of its packets.
+JUDGED = "1400020000000100 481000000 115000000"
 REPLAYED = "1000 accepted port 2002 info 0 6869 sent 0\n"
 RUNS = [
     Run("--help"),
@@ -128,6 +130,7 @@ RUNS = [
     Run(f"replay data/gbc.cap {SECOND} --port 2002"),
     Run(f"replay hi.cap {SECOND} --port 2002 --frames made.cap", REPLAYED, makes="made.cap"),
     Run(f"replay --signed --count 2 data/signed.pcap {SECOND} --port 2002"),
+    Run(f"replay data/verdict/iut.cap {JUDGED} --against 020000000100 --within 20"),
     Run("verdict --all data/verdict/iut.toml data/verdict/iut.cap", status=1),
     Run("verdict --json data/verdict/iut.toml empty"),
     Run(f"station {SECOND} --capacity 1 --remember 1", ANSWERS, 1, typed=TYPED),

@@ -158,6 +158,7 @@ pub record IsChoice (matches : ArgMatches) (choice : Choice) : Type 0 where
   pub refused : IsFlagged matches (codes "refused") → choice.refused ≡ true
   pub others : choice.skips_others
       ≡ is_skipping (value_in matches (codes "not-geonetworking"))
+  pub all_kinds : IsFlagged matches (codes "all-kinds") → choice.all_kinds ≡ true
 
 -- the same of a file of this format, and how many of them at most
 pub record IsSelection (matches : ArgMatches) (file : Option Format) (selection : Selection)

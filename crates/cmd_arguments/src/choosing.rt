@@ -18,12 +18,46 @@ use clap::ArgMatches;
 use cmd_captures::{Choice, Field, Kinds, Selection, Time, utc_moment};
 use cmd_stats::replay::PortList;
 use its_gnvalue::{GnAddress, Mac};
-use its_headers::Kind;
+use its_outside::StandardKind;
 use std::alloc::{AllocError, Global};
 use std::num::NonZeroU64;
 use std::str::FromStr;
 
-/// A list of kinds of packet.
+/// The kinds of packet of the profile, and the other ones of the standard.
+const PROFILE_KINDS: [StandardKind; 4] = [
+    StandardKind::Beacon,
+    StandardKind::Shb,
+    StandardKind::Gbc,
+    StandardKind::Gac,
+];
+
+const OTHER_KINDS: [StandardKind; 4] = [
+    StandardKind::Guc,
+    StandardKind::Tsb,
+    StandardKind::LsRequest,
+    StandardKind::LsReply,
+];
+
+/// The one of these kinds that has this word.
+fn kind_named(kinds: &[StandardKind], word: &str) -> Option<StandardKind> {
+    kinds.iter().copied().find(|kind| kind.word() == word)
+}
+
+/// Adds a kind to those that are chosen.
+fn add_kind(kinds: &mut Kinds, kind: StandardKind) {
+    match kind {
+        StandardKind::Beacon => kinds.beacon = true,
+        StandardKind::Guc => kinds.guc = true,
+        StandardKind::Gac => kinds.gac = true,
+        StandardKind::Gbc => kinds.gbc = true,
+        StandardKind::Shb => kinds.shb = true,
+        StandardKind::Tsb => kinds.tsb = true,
+        StandardKind::LsRequest => kinds.ls_request = true,
+        StandardKind::LsReply => kinds.ls_reply = true,
+    }
+}
+
+/// A list of kinds of packet of the profile.
 #[derive(Clone, Copy)]
 struct KindList(Kinds);
 
@@ -31,21 +65,29 @@ impl FromStr for KindList {
     type Err = ();
 
     fn from_str(words: &str) -> Result<KindList, ()> {
-        let mut kinds = Kinds {
-            beacon: false,
-            shb: false,
-            gbc: false,
-            gac: false,
-        };
+        let mut kinds = Kinds::none();
         for word in words.split(',') {
-            match Kind::named(word).ok_or(())? {
-                Kind::Beacon => kinds.beacon = true,
-                Kind::Shb => kinds.shb = true,
-                Kind::Gbc => kinds.gbc = true,
-                Kind::Gac => kinds.gac = true,
-            }
+            let kind = kind_named(&PROFILE_KINDS, word).ok_or(())?;
+            add_kind(&mut kinds, kind);
         }
         Ok(KindList(kinds))
+    }
+}
+
+/// A list of kinds of packet of the standard.
+#[derive(Clone, Copy)]
+struct AllKindList(Kinds);
+
+impl FromStr for AllKindList {
+    type Err = ();
+
+    fn from_str(words: &str) -> Result<AllKindList, ()> {
+        let mut kinds = Kinds::none();
+        for word in words.split(',') {
+            let kind = kind_named(&PROFILE_KINDS, word).or(kind_named(&OTHER_KINDS, word));
+            add_kind(&mut kinds, kind.ok_or(())?);
+        }
+        Ok(AllKindList(kinds))
     }
 }
 
@@ -71,7 +113,7 @@ impl FromStr for AddressDigits {
 
 /// The digits of a link address.
 #[derive(Clone, Copy)]
-struct MacDigits(Mac);
+pub(crate) struct MacDigits(pub(crate) Mac);
 
 impl FromStr for MacDigits {
     type Err = ();
@@ -145,12 +187,13 @@ const MOMENT: &str =
 
 const COUNT: &str = "a whole number of at least 1";
 
-const MAC: &str = "12 hexadecimal digits, with colons, hyphens or nothing between the pairs";
+pub(crate) const MAC: &str =
+    "12 hexadecimal digits, with colons, hyphens or nothing between the pairs";
 
 const PORT: &str = "a whole number in 0..=65535";
 
 /// The value of an option, if it is given.
-fn value_of<'a, T: FromStr>(
+pub(crate) fn value_of<'a, T: FromStr>(
     matches: &ArgMatches<'a>,
     option: &'a str,
     wanted: &'a str,
@@ -178,7 +221,7 @@ where
 ///   or hyphens, or without) are what their texts spell; `--since` and `--until` are the number
 ///   that their text is, if it is a whole number; all records where they aren't given; `--refused`
 ///   selects refused ones; other protocols are skipped if and only if `--not-geonetworking` is
-///   `skip`.
+///   `skip`; `--all-kinds` chooses frames of all kinds.
 /// - `port`: the port is the number that `--port` spells, of 16 bits; none where it isn't given, or
 ///   is for another use.
 pub fn selection_of<'a>(
@@ -260,15 +303,15 @@ fn choice_of<'a>(matches: &ArgMatches<'a>) -> Result<Choice, BadArgument<'a>>
     ensures choice { IfOk result (IsChoice matches.now) }
     ensures port { IfOk result (λ choice. choice.port ≡ None) }
 {
-    let wanted = "a list of beacon, shb, gbc and gac";
-    let kinds = value_of::<KindList>(matches, "kind", wanted)?;
+    let all_kinds = matches.get_flag("all-kinds");
+    let kinds = kinds_of(matches, all_kinds)?;
     let wanted = "the 16 hexadecimal digits of a station's address";
     let source = value_of::<AddressDigits>(matches, "source", wanted)?;
     let from = value_of::<MacDigits>(matches, "from-mac", MAC)?;
     let since = moment_of(matches, "since", 0)?;
     let until = moment_of(matches, "until", u64::MAX)?;
     Ok(Choice {
-        kinds: kinds.map(|list| list.0),
+        kinds,
         source: source.map(|digits| digits.0),
         from: from.map(|digits| digits.0),
         port: None,
@@ -276,7 +319,23 @@ fn choice_of<'a>(matches: &ArgMatches<'a>) -> Result<Choice, BadArgument<'a>>
         until,
         refused: matches.get_flag("refused"),
         skips_others: skips_others(matches),
+        all_kinds,
     })
+}
+
+/// The kinds that are chosen, if `--kind` is given: of the profile, or of all.
+fn kinds_of<'a>(
+    matches: &ArgMatches<'a>,
+    all_kinds: bool,
+) -> Result<Option<Kinds>, BadArgument<'a>> {
+    if all_kinds {
+        let wanted = "a list of beacon, shb, gbc, gac, guc, tsb, ls-request and ls-reply";
+        let list = value_of::<AllKindList>(matches, "kind", wanted)?;
+        return Ok(list.map(|list| list.0));
+    }
+    let wanted = "a list of beacon, shb, gbc and gac";
+    let list = value_of::<KindList>(matches, "kind", wanted)?;
+    Ok(list.map(|list| list.0))
 }
 
 /// From which moment on and up to which, by `--since` and `--until`.

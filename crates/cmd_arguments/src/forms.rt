@@ -135,6 +135,11 @@ const SIGNED: Argument = Argument::Flag(
     "Read secured frames by their plain part, without verifying them",
 );
 
+const ALL_KINDS: Argument = Argument::Flag(
+    "all-kinds",
+    "Read packets outside the profile, also of the kinds guc,tsb,ls-request,ls-reply",
+);
+
 const COUNT: Argument = Argument::Value("count", "N", "Stop after this many selected records");
 
 const TIME: Argument = Argument::Choice(
@@ -271,12 +276,14 @@ static READERS: [Form; 3] = [
         about: "Print a line for each record of a capture",
         arguments: &[
             CAPTURE, FORMAT, JSON, EXPLAIN, NO_EXPLAIN, COLOR, TIME, FIELDS, PARTIAL, SIGNED,
+            ALL_KINDS,
         ],
         choosing: CHOOSING,
         example: "\
 Keys of --fields: moment, from, to, kind, address, tst, lat, lon, pai, speed, heading, lt, tc,
 mobile, hops, max_hops, number, shape, alat, alon, a, b, angle, port, info, payload, refused,
-record, interface, length, vlan, rssi, rate, cut; with --signed psid, generated, secured
+record, interface, length, vlan, rssi, rate, cut; with --signed psid, generated, secured;
+with --all-kinds outside, destination, dtst, dlat, dlon, sought, next, source_port
 
 Example:
   geostation show first.cap",
@@ -284,7 +291,9 @@ Example:
     Form {
         name: "check",
         about: "Print a line for each refused record of a capture, and a count",
-        arguments: &[CAPTURE, FORMAT, JSON, EXPLAIN, NO_EXPLAIN, SIGNED],
+        arguments: &[
+            CAPTURE, FORMAT, JSON, EXPLAIN, NO_EXPLAIN, SIGNED, ALL_KINDS,
+        ],
         choosing: CHOOSING,
         example: "\
 Example:
@@ -305,6 +314,7 @@ Example:
                 "Print this many sources, those with the most frames",
             ),
             SIGNED,
+            ALL_KINDS,
         ],
         choosing: CHOOSING,
         example: "\
@@ -330,6 +340,7 @@ static MAKERS: [Form; 2] = [
             TO,
             FRAMES_ONLY,
             SIGNED,
+            ALL_KINDS,
             EXPLAIN,
             NO_EXPLAIN,
             QUIET,
@@ -480,6 +491,20 @@ static STATIONS: [Form; 3] = [
                 "port",
                 "N",
                 "Open this port at the start; it doesn't select frames",
+            ),
+            Argument::Value(
+                "against",
+                "HEX12",
+                "Compare with what the station under test sent, the frames from this link address",
+            ),
+            Argument::Value(
+                "within",
+                "MS",
+                "Time in which that station forwards a frame, 0 to 65535 ms [default: 50]",
+            ),
+            Argument::Flag(
+                "strict",
+                "End with status 1 if a frame of that station differs",
             ),
             FRAMES,
             TO,

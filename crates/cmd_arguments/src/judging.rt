@@ -26,9 +26,9 @@ pub fn duties_of<'a>(matches: &ArgMatches<'a>) -> Result<DutySet, BadArgument<'a
     };
     let wanted = match DutySet::listed(list) {
         Ok(duties) => return Ok(duties),
-        Err(DutyFault::Unknown) => "a list of D1 to D6, D10, D13, D14 and D16",
+        Err(DutyFault::Unknown) => "a list of D1 to D6, D10, D12 to D14, D16, D17 and D19",
         Err(DutyFault::NotJudged) => {
-            "a list of duties that are judged: D12, D15, D17, D19 and D20 are not judged yet"
+            "a list of duties that are judged: D15 and D20 are not judged yet"
         }
     };
     Err(BadArgument::Value("duty", list, wanted))

@@ -16,6 +16,7 @@
 //!   that a pipe has none of it.
 #![tactic(auto)]
 
+mod against;
 mod bad_argument;
 mod choosing;
 mod contention;
@@ -24,6 +25,7 @@ mod judging;
 mod station;
 pub mod terminal;
 
+pub use against::against_of;
 pub use bad_argument::BadArgument;
 pub use choosing::{
     count_of, fields_of, ports_of, selection_of, selection_to_any_port, time_of, times_of,

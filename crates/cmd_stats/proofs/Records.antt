@@ -25,19 +25,24 @@ use Rattle.cmd_stats.specs.declared.replay.on_air.OnAir.{OnAir}
 
 -- some steps, and then others
 steps_more : {S : Type 0} (gives : S → S → List ℕ → Result Step SourceFault → Type 0)
-    (choice : Choice) (signed : Bool) (file : S) (s : StationModel) (given : List Given)
+    (choice : Choice) (signed : Bool) (against : Option ℕ) (file : S) (s : StationModel)
+    (given : List Given)
     (told : List Heard) (left : S) (end : StationModel) (others : List Given) (new : List Heard)
     (then : S) (next : StationModel)
-    → TellsSteps gives choice signed file s given told left end
-    → TellsSteps gives choice signed left end others new then next
-    → TellsSteps gives choice signed file s (given ++ others) (told ++ new) then next
-steps_more gives choice signed file s [] told left end others new then next before after =
-    let from = subst (λ f. TellsSteps gives choice signed f end others new then next) before.1 after in
-    let from = subst (λ (m : StationModel). TellsSteps gives choice signed file m others new then next)
+    → TellsSteps gives choice signed against file s given told left end
+    → TellsSteps gives choice signed against left end others new then next
+    → TellsSteps gives choice signed against file s (given ++ others) (told ++ new) then next
+steps_more gives choice signed against file s [] told left end others new then next before after =
+    let from = subst (λ f. TellsSteps gives choice signed against f end others new then next)
+    before.1 after in
+    let from = subst (λ (m : StationModel). TellsSteps gives choice signed against file m others
+    new then next)
     before.2 from in
-    subst (λ (l : List Heard). TellsSteps gives choice signed file s others (l ++ new) then next)
+    subst (λ (l : List Heard). TellsSteps gives choice signed against file s others (l ++ new) then
+    next)
     (sym before.0) from
-steps_more gives choice signed file s (g ∷ gs) told left end others new then next before after =
+steps_more gives choice signed against file s (g ∷ gs) told left end others new then next before
+    after =
     let (first, rest, mid, m, is, was, tell, more) = before in (
       first,
       rest ++ new,
@@ -46,36 +51,39 @@ steps_more gives choice signed file s (g ∷ gs) told left end others new then n
       ap (λ k. k ++ new) is ∙ append_assoc first rest new,
       was,
       tell,
-      steps_more gives choice signed mid m gs rest left end others new then next more after,
+      steps_more gives choice signed against mid m gs rest left end others new then next more after,
     )
 
 -- one step
 steps_one : {S : Type 0} (gives : S → S → List ℕ → Result Step SourceFault → Type 0)
-    (choice : Choice) (signed : Bool) (file : S) (s : StationModel) (one : Given)
+    (choice : Choice) (signed : Bool) (against : Option ℕ) (file : S) (s : StationModel)
+    (one : Given)
     (new : List Heard) (then : S) (next : StationModel)
     → gives file then one.octets one.step
-    → TellsStep choice signed one.octets one.step s new next
-    → TellsSteps gives choice signed file s (one ∷ []) new then next
-steps_one gives choice signed file s one new then next gave tells =
+    → TellsStep choice signed against one.octets one.step s new next
+    → TellsSteps gives choice signed against file s (one ∷ []) new then next
+steps_one gives choice signed against file s one new then next gave tells =
     (new, [], then, next, sym (append-nil new), gave, tells, (refl, refl, refl))
 
 -- nothing is told of a step that is skipped
-skipped_tells : (selection : Selection) (w : List ℕ) (step : Result Step SourceFault)
+skipped_tells : (selection : Selection) (against : Option ℕ) (w : List ℕ)
+    (step : Result Step SourceFault)
     (after : List ℕ) (s : StationModel) → IsSkipped ReadsAir selection w step after
-    → TellsStep selection.choice selection.signed w step s [] s
-skipped_tells selection w (Ok (steps.Record head)) after s p =
+    → TellsStep selection.choice selection.signed against w step s [] s
+skipped_tells selection against w (Ok (steps.Record head)) after s p =
     inl (record { air = p.0; on_air = p.1; passed = p.2; told_is = refl; next_is = refl })
-skipped_tells selection w (Ok steps.Interface) after s p = absurd p
-skipped_tells selection w (Ok steps.Passed) after s p = (refl, refl)
-skipped_tells selection w (Ok steps.End) after s p = absurd p
-skipped_tells selection w (Err fault) after s p = absurd p
+skipped_tells selection against w (Ok steps.Interface) after s p = absurd p
+skipped_tells selection against w (Ok steps.Passed) after s p = (refl, refl)
+skipped_tells selection against w (Ok steps.End) after s p = absurd p
+skipped_tells selection against w (Err fault) after s p = absurd p
 
 passes_tell : {S : Type 0} (gives : S → S → List ℕ → Result Step SourceFault → Type 0)
-    (selection : Selection) (file : S) (s : StationModel) (skipped : List Given) (then : S)
+    (selection : Selection) (against : Option ℕ) (file : S) (s : StationModel)
+    (skipped : List Given) (then : S)
     → Passes gives ReadsAir selection file skipped then
-    → TellsSteps gives selection.choice selection.signed file s skipped [] then s
-passes_tell gives selection file s [] then p = (refl, p, refl)
-passes_tell gives selection file s (g ∷ gs) then p =
+    → TellsSteps gives selection.choice selection.signed against file s skipped [] then s
+passes_tell gives selection against file s [] then p = (refl, p, refl)
+passes_tell gives selection against file s (g ∷ gs) then p =
     let (mid, after, gave, skips, more) = p in (
       [],
       [],
@@ -83,8 +91,8 @@ passes_tell gives selection file s (g ∷ gs) then p =
       s,
       refl,
       gave,
-      skipped_tells selection g.octets g.step after s skips,
-      passes_tell gives selection mid s gs then more,
+      skipped_tells selection against g.octets g.step after s skips,
+      passes_tell gives selection against mid s gs then more,
     )
 
 -- ---- counts
@@ -142,12 +150,13 @@ counts_more counts next given others told new fault are read chosen is =
 
 -- no step yet
 pub replaying_none : {S : Type 0} (gives : S → S → List ℕ → Result Step SourceFault → Type 0)
-    (selection : Selection) (file : S) (s : StationModel) (station : StationState)
+    (selection : Selection) (against : Option ℕ) (file : S) (s : StationModel)
+    (station : StationState)
     (Took : List Heard → Type 0) (counts : RecordCounts)
     → (counts.read ≡ 0) × (counts.chosen ≡ 0) × (counts.left ≡ 2 ^ 64 - 1)
     → RepresentsStation station s → Took []
-    → IsReplaying gives selection file s file station counts Took
-replaying_none gives selection file s station Took counts are rep took = (
+    → IsReplaying gives selection against file s file station counts Took
+replaying_none gives selection against file s station Took counts are rep took = (
   record {
     given = [];
     told = [];
@@ -162,41 +171,46 @@ replaying_none gives selection file s station Took counts are rep took = (
 
 -- further steps that were skipped
 pub replaying_skips : {S : Type 0} (gives : S → S → List ℕ → Result Step SourceFault → Type 0)
-    (selection : Selection) (file : S) (s : StationModel) (left : S) (station : StationState)
+    (selection : Selection) (against : Option ℕ) (file : S) (s : StationModel) (left : S)
+    (station : StationState)
     (counts : RecordCounts) (Took : List Heard → Type 0) (then : S) (next : RecordCounts)
-    → IsReplaying gives selection file s left station counts Took
+    → IsReplaying gives selection against file s left station counts Took
     → Skips gives ReadsAir selection left counts then next
-    → IsReplaying gives selection file s then station next Took
-replaying_skips gives selection file s left station counts Took then next (before, gone) skips = (
-  record {
-    given = before.given ++ skips.skipped;
-    told = before.told ++ [];
-    end = before.end;
-    counted = counts_more counts next before.given skips.skipped before.told [] None before.counted
-        skips.read (omega (arith, skips.chosen))
-        (no_faults gives selection left skips.skipped then skips.passes);
-    tells = steps_more gives selection.choice selection.signed file s before.given before.told left
-        before.end skips.skipped [] then before.end before.tells
-        (passes_tell gives selection left before.end skips.skipped then skips.passes);
-    took = subst Took (sym (append-nil before.told)) before.took;
-    stands = before.stands;
-  },
-  omega (arith, gone, length-append before.given skips.skipped, skips.left),
-)
+    → IsReplaying gives selection against file s then station next Took
+replaying_skips gives selection against file s left station counts Took then next (before, gone)
+    skips = (
+      record {
+        given = before.given ++ skips.skipped;
+        told = before.told ++ [];
+        end = before.end;
+        counted = counts_more counts next before.given skips.skipped before.told [] None before.counted
+            skips.read (omega (arith, skips.chosen))
+            (no_faults gives selection left skips.skipped then skips.passes);
+        tells = steps_more gives selection.choice selection.signed against file s before.given
+            before.told left
+            before.end skips.skipped [] then before.end before.tells
+            (passes_tell gives selection against left before.end skips.skipped then skips.passes);
+        took = subst Took (sym (append-nil before.told)) before.took;
+        stands = before.stands;
+      },
+      omega (arith, gone, length-append before.given skips.skipped, skips.left),
+    )
 
 -- one more step
 replayed_more : {S : Type 0} (gives : S → S → List ℕ → Result Step SourceFault → Type 0)
-    (choice : Choice) (signed : Bool) (file : S) (s : StationModel) (left then : S)
+    (choice : Choice) (signed : Bool) (against : Option ℕ) (file : S) (s : StationModel)
+    (left then : S)
     (station : StationState) (later : StationState) (counts next : RecordCounts)
     (fault : Option SourceFault) (Took Later : List Heard → Type 0) (one : Given)
     (new : List Heard) (end : StationModel)
-    (before : IsReplayed gives choice signed file s left station counts None Took)
+    (before : IsReplayed gives choice signed against file s left station counts None Took)
     → gives left then one.octets one.step
-    → TellsStep choice signed one.octets one.step before.end new end
+    → TellsStep choice signed against one.octets one.step before.end new end
     → next.read ≡ counts.read + records_of one.step → next.chosen ≡ counts.chosen + length new
     → fault_of_step one.step ≡ fault → Later (before.told ++ new) → RepresentsStation later end
-    → IsReplayed gives choice signed file s then later next fault Later
-replayed_more gives choice signed file s left then station later counts next fault Took Later one new
+    → IsReplayed gives choice signed against file s then later next fault Later
+replayed_more gives choice signed against file s left then station later counts next fault Took
+    Later one new
     end before gave tells read chosen is took stands =
     record {
       given = before.given ++ one ∷ [];
@@ -204,64 +218,69 @@ replayed_more gives choice signed file s left then station later counts next fau
       end = end;
       counted = counts_more counts next before.given (one ∷ []) before.told new fault before.counted
           (omega (arith, read)) chosen (fault_alone (fault_of_step one.step) ∙ is);
-      tells = steps_more gives choice signed file s before.given before.told left before.end
+      tells = steps_more gives choice signed against file s before.given before.told left before.end
           (one ∷ []) new then end before.tells
-          (steps_one gives choice signed left before.end one new then end gave tells);
+          (steps_one gives choice signed against left before.end one new then end gave tells);
       took = took;
       stands = stands;
     }
 
 -- one more step, which isn't the last
 replaying_more : {S : Type 0} (gives : S → S → List ℕ → Result Step SourceFault → Type 0)
-    (selection : Selection) (file : S) (s : StationModel) (left then : S)
+    (selection : Selection) (against : Option ℕ) (file : S) (s : StationModel) (left then : S)
     (station later : StationState) (counts next : RecordCounts) (Took Later : List Heard → Type 0)
     (one : Given) (new : List Heard) (end : StationModel)
-    (k : IsReplaying gives selection file s left station counts Took)
+    (k : IsReplaying gives selection against file s left station counts Took)
     → gives left then one.octets one.step
-    → TellsStep selection.choice selection.signed one.octets one.step k.0.end new end
+    → TellsStep selection.choice selection.signed against one.octets one.step k.0.end new end
     → next.read ≡ counts.read + records_of one.step → next.chosen ≡ counts.chosen + length new
     → next.left + 1 ≡ counts.left → fault_of_step one.step ≡ None → Later (k.0.told ++ new)
     → RepresentsStation later end
-    → IsReplaying gives selection file s then later next Later
+    → IsReplaying gives selection against file s then later next Later
 unfolding replayed_more
-replaying_more gives selection file s left then station later counts next Took Later one new end k
+replaying_more gives selection against file s left then station later counts next Took Later one
+    new end k
     gave tells read chosen fewer is took stands = (
-      replayed_more gives selection.choice selection.signed file s left then station later counts next
+      replayed_more gives selection.choice selection.signed against file s left then station later
+          counts next
           None Took Later one new end k.0 gave tells read chosen is took stands,
       omega (arith, k.1, length-append k.0.given (one ∷ []), fewer),
     )
 
 -- a record that comes next, and is heard
 pub replaying_chosen : {S : Type 0} (gives : S → S → List ℕ → Result Step SourceFault → Type 0)
-    (selection : Selection) (file : S) (s : StationModel) (left then : S)
+    (selection : Selection) (against : Option ℕ) (file : S) (s : StationModel) (left then : S)
     (station later : StationState) (counts next : RecordCounts) (Took Later : List Heard → Type 0)
     (after : List ℕ) (head : RecordHeader) (air : OnAir)
-    → IsReplaying gives selection file s left station counts Took
+    → IsReplaying gives selection against file s left station counts Took
     → IsNext gives ReadsAir selection left counts then after next (pulls.Chosen head air)
     → ((end : StationModel) (log : List Heard) → RepresentsStation station end → Took log
-    → IsHeard air head.moment end log later Later)
-    → IsReplaying gives selection file s then later next Later
-replaying_chosen gives selection file s left then station later counts next Took Later after head air
+    → IsHeard against air head.moment end log later Later)
+    → IsReplaying gives selection against file s then later next Later
+replaying_chosen gives selection against file s left then station later counts next Took Later
+    after head air
     before comes hears =
-    let k = replaying_skips gives selection file s left station counts Took comes.mid comes.between
+    let k = replaying_skips gives selection against file s left station counts Took comes.mid
+    comes.between
     before comes.skips in
     let heard = hears k.0.end k.0.told k.0.stands k.0.took in
     elim comes.ends [
       | inl one ↦
           let (is, reads) = one.meets in
-          let tells : TellsStep selection.choice selection.signed one.given.octets
+          let tells : TellsStep selection.choice selection.signed against one.given.octets
           (Ok (steps.Record head)) k.0.end (heard.heard ∷ []) heard.next = inr (record {
             air = air;
             on_air = reads.0;
             chosen = reads.1;
             heard = heard.heard;
             told_is = refl;
-            told_of = heard.told;
-            received = heard.received;
+            tells = heard.tells;
           }) in
-          replaying_more gives selection file s comes.mid then station later comes.between next Took
+          replaying_more gives selection against file s comes.mid then station later comes.between
+          next Took
           Later one.given (heard.heard ∷ []) heard.next k one.gave
           (subst (λ (step : Result Step SourceFault). TellsStep selection.choice selection.signed
+          against
           one.given.octets step k.0.end (heard.heard ∷ []) heard.next) (sym is) tells)
           one.read one.chosen one.left (ap fault_of_step is) heard.took heard.stands
       | inr stopped ↦ absurd stopped.none
@@ -269,19 +288,23 @@ replaying_chosen gives selection file s left then station later counts next Took
 
 -- the start of an interface that comes next
 pub replaying_interface : {S : Type 0} (gives : S → S → List ℕ → Result Step SourceFault → Type 0)
-    (selection : Selection) (file : S) (s : StationModel) (left then : S)
+    (selection : Selection) (against : Option ℕ) (file : S) (s : StationModel) (left then : S)
     (station : StationState) (counts next : RecordCounts) (Took : List Heard → Type 0)
     (after : List ℕ)
-    → IsReplaying gives selection file s left station counts Took
+    → IsReplaying gives selection against file s left station counts Took
     → IsNext gives ReadsAir selection left counts then after next pulls.Interface
-    → IsReplaying gives selection file s then station next Took
-replaying_interface gives selection file s left then station counts next Took after before comes =
-    let k = replaying_skips gives selection file s left station counts Took comes.mid comes.between
+    → IsReplaying gives selection against file s then station next Took
+replaying_interface gives selection against file s left then station counts next Took after before
+    comes =
+    let k = replaying_skips gives selection against file s left station counts Took comes.mid
+    comes.between
     before comes.skips in
     elim comes.ends [
-      | inl one ↦ replaying_more gives selection file s comes.mid then station station comes.between
+      | inl one ↦ replaying_more gives selection against file s comes.mid then station station
+          comes.between
           next Took Took one.given [] k.0.end k one.gave
           (subst (λ (step : Result Step SourceFault). TellsStep selection.choice selection.signed
+          against
           one.given.octets step k.0.end [] k.0.end) (sym one.meets) (refl, refl))
           one.read one.chosen one.left (ap fault_of_step one.meets)
           (subst Took (sym (append-nil k.0.told)) k.0.took) k.0.stands
@@ -290,13 +313,15 @@ replaying_interface gives selection file s left then station counts next Took af
 
 -- no step is made: as many records are chosen as are wanted, or no step is left
 replayed_stopped : {S : Type 0} (gives : S → S → List ℕ → Result Step SourceFault → Type 0)
-    (selection : Selection) (file : S) (s : StationModel) (left : S) (station : StationState)
+    (selection : Selection) (against : Option ℕ) (file : S) (s : StationModel) (left : S)
+    (station : StationState)
     (counts : RecordCounts) (Took : List Heard → Type 0)
-    → IsReplaying gives selection file s left station counts Took
+    → IsReplaying gives selection against file s left station counts Took
     → (selection.count ≡ Some counts.chosen) ⊎ (counts.left ≡ 0)
-    → IsReplayedWhole gives selection.choice selection.count selection.signed file s station counts
+    → IsReplayedWhole gives selection.choice selection.count selection.signed against file s
+    station counts
     None Took
-replayed_stopped gives selection file s left station counts Took k why =
+replayed_stopped gives selection against file s left station counts Took k why =
     record {
       left = left;
       replayed = k.0;
@@ -308,23 +333,28 @@ replayed_stopped gives selection file s left station counts Took k why =
 
 -- the end that comes next, or the fault of the file
 pub replayed_end : {S : Type 0} (gives : S → S → List ℕ → Result Step SourceFault → Type 0)
-    (selection : Selection) (file : S) (s : StationModel) (left then : S)
+    (selection : Selection) (against : Option ℕ) (file : S) (s : StationModel) (left then : S)
     (station : StationState) (counts next : RecordCounts) (Took : List Heard → Type 0)
     (after : List ℕ) (fault : Option SourceFault)
-    → IsReplaying gives selection file s left station counts Took
+    → IsReplaying gives selection against file s left station counts Took
     → IsNext gives ReadsAir selection left counts then after next (pulls.End fault)
-    → IsReplayedWhole gives selection.choice selection.count selection.signed file s station next
+    → IsReplayedWhole gives selection.choice selection.count selection.signed against file s
+    station next
     fault Took
 unfolding replayed_more
-replayed_end gives selection file s left then station counts next Took after None before comes =
-    let k = replaying_skips gives selection file s left station counts Took comes.mid comes.between
+replayed_end gives selection against file s left then station counts next Took after None before
+    comes =
+    let k = replaying_skips gives selection against file s left station counts Took comes.mid
+    comes.between
     before comes.skips in
     elim comes.ends [
       | inl one ↦ record {
         left = then;
-        replayed = replayed_more gives selection.choice selection.signed file s comes.mid then station
+        replayed = replayed_more gives selection.choice selection.signed against file s comes.mid
+            then station
             station comes.between next None Took Took one.given [] k.0.end k.0 one.gave
             (subst (λ (step : Result Step SourceFault). TellsStep selection.choice selection.signed
+            against
             one.given.octets step k.0.end [] k.0.end) (sym one.meets) (refl, refl))
             one.read one.chosen (ap fault_of_step one.meets)
             (subst Took (sym (append-nil k.0.told)) k.0.took) k.0.stands;
@@ -332,18 +362,23 @@ replayed_end gives selection file s left then station counts next Took after Non
       }
       | inr stopped ↦ subst
           (λ (c : RecordCounts). IsReplayedWhole gives selection.choice selection.count
-          selection.signed file s station c None Took) (sym stopped.next_is)
-          (replayed_stopped gives selection file s comes.mid station comes.between Took k stopped.why)
+          selection.signed against file s station c None Took) (sym stopped.next_is)
+          (replayed_stopped gives selection against file s comes.mid station comes.between Took k
+          stopped.why)
     ]
-replayed_end gives selection file s left then station counts next Took after (Some fault) before comes =
-    let k = replaying_skips gives selection file s left station counts Took comes.mid comes.between
+replayed_end gives selection against file s left then station counts next Took after (Some fault)
+    before comes =
+    let k = replaying_skips gives selection against file s left station counts Took comes.mid
+    comes.between
     before comes.skips in
     elim comes.ends [
       | inl one ↦ record {
         left = then;
-        replayed = replayed_more gives selection.choice selection.signed file s comes.mid then station
+        replayed = replayed_more gives selection.choice selection.signed against file s comes.mid
+            then station
             station comes.between next (Some fault) Took Took one.given [] k.0.end k.0 one.gave
             (subst (λ (step : Result Step SourceFault). TellsStep selection.choice selection.signed
+            against
             one.given.octets step k.0.end [] k.0.end) (sym one.meets) (refl, refl))
             one.read one.chosen (ap fault_of_step one.meets)
             (subst Took (sym (append-nil k.0.told)) k.0.took) k.0.stands;

@@ -1,11 +1,14 @@
 -- What of a record was on the air.
-use Rattle.std.specs.Prelude.{◌≡◌, ℕ, Bool, true, false, List, Option, Some, None}
-use Rattle.std.specs.Prelude.{Result, Ok, Err, IfOk}
+use Rattle.std.specs.Prelude.{◌≡◌, ◌&&◌, ℕ, Bool, true, false, nat_le, List, length, Option, Some}
+use Rattle.std.specs.Prelude.{None, Result, Ok, Err, IfOk}
+use Rattle.std.specs.Option.{option_map}
+use Rattle.byteorder.specs.Endian.{big_bytes}
 use Rattle.cap_records.specs.Choosing.{is_chosen}
 use Rattle.cap_records.specs.declared.choosing.Choice.{Choice}
 use Rattle.cap_records.specs.declared.choosing.Traits.{Traits}
 use Rattle.its_faults.specs.declared.frame.FrameFault.{FrameFault}
 use Rattle.its_linkframe.specs.FrameFaults.{IsFrameFault}
+use Rattle.its_linkframe.specs.Copies.{octets_from, same_octets}
 use Rattle.its_linkframe.specs.Frames.{EncodesFrame}
 use Rattle.its_linkframe.specs.Padding.{IsUnpadded}
 use Rattle.its_faults.specs.declared.secured.SecuredFault.{SecuredFault}
@@ -98,6 +101,23 @@ pub record AnswersChoice (air : OnAir) (choice : Choice) (moment : ℕ) (answer 
   pub traits : Option Traits
   pub are_traits : AreTraitsOf air traits
   pub answer_is : answer ≡ is_chosen choice moment traits
+
+-- the source of its packet, if it is a frame that is read
+abbrev pub IsSource : OnAir → Option ℕ → Type 0
+IsSource air source =
+    (traits : Option Traits) × AreTraitsOf air traits
+    × (source ≡ option_map (λ t. t.source) traits)
+
+-- Whether these octets are a frame from this link address, if one is given.
+abbrev pub is_from : Option ℕ → List ℕ → Bool
+is_from None w = false
+is_from (Some mac) w = nat_le 12 (length w) && same_octets (octets_from 6 6 w) (big_bytes 6 mac)
+
+-- so of what was on the air
+abbrev pub is_sent : Option ℕ → OnAir → Bool
+is_sent against (airs.Octets octets) = is_from against octets.items
+is_sent against (airs.Secured s) = is_from against s.frame.items
+is_sent against (airs.Nothing fault) = false
 
 -- ---- words of private functions
 

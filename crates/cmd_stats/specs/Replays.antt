@@ -14,7 +14,7 @@ use Rattle.cap_pcap.specs.declared.record.Step.TheVariants as steps
 use Rattle.its_station.specs.Receiving.{IsFrameCall, IsVerifiedCall, VerifiedCall, verified_step}
 use Rattle.its_station.specs.Answers.{TellsAnswer}
 use Rattle.its_station.specs.State.{StationState, RepresentsStation}
-use Rattle.cmd_stats.specs.OnAir.{AnswersChoice, IsOnAir}
+use Rattle.cmd_stats.specs.OnAir.{AnswersChoice, IsOnAir, IsSource, is_sent}
 use Rattle.cmd_stats.specs.declared.replay.heard.Heard.{Heard}
 use Rattle.cmd_stats.specs.declared.replay.heard.Heard.TheVariants as heards
 use Rattle.cmd_stats.specs.declared.replay.on_air.OnAir.{OnAir}
@@ -29,6 +29,7 @@ TellsReceived s moment (heards.Received at frame reply) next =
     × TellsAnswer reply (station_step s moment call).answer
     × (next ≡ (station_step s moment call).station))
 TellsReceived s moment (heards.Nothing at fault) next = (at ≡ moment) × (next ≡ s)
+TellsReceived s moment (heards.Sent at frame source) next = ⊥
 
 -- The station receives these octets with the plain part of a secured frame, as
 -- `Station::receive_verified` does; the step is that of the model.
@@ -37,6 +38,7 @@ TellsVerified s moment (heards.Received at frame reply) next =
     (at ≡ moment) × ((plain : List ℕ) × (call : VerifiedCall)
     × IsVerifiedCall frame.items plain call × (next ≡ (verified_step s moment call).station))
 TellsVerified s moment (heards.Nothing at fault) next = (at ≡ moment) × (next ≡ s)
+TellsVerified s moment (heards.Sent at frame source) next = ⊥
 
 -- what was on the air is received
 abbrev pub TellsAir : OnAir → StationModel → ℕ → Heard → StationModel → Type 0
@@ -48,27 +50,53 @@ TellsAir (airs.Nothing fault) s moment heard next = TellsReceived s moment heard
 abbrev pub IsToldOf : List ℕ → Heard → Type 0
 IsToldOf octets (heards.Received at frame reply) = frame.items ≡ octets
 IsToldOf octets (heards.Nothing at fault) = ⊥
+IsToldOf octets (heards.Sent at frame source) = ⊥
 
 abbrev pub IsToldOfSecured : SecuredOctets → Heard → Type 0
 IsToldOfSecured s (heards.Received at frame reply) = frame.items ≡ s.frame.items
 IsToldOfSecured s (heards.Nothing at fault) = s.plain ≡ Err fault
+IsToldOfSecured s (heards.Sent at frame source) = ⊥
 
 abbrev pub IsTold : OnAir → Heard → Type 0
 IsTold (airs.Octets octets) heard = IsToldOf octets.items heard
 IsTold (airs.Secured s) heard = IsToldOfSecured s heard
 IsTold (airs.Nothing fault) (heards.Nothing at why) = why ≡ fault
 IsTold (airs.Nothing fault) (heards.Received at frame reply) = ⊥
+IsTold (airs.Nothing fault) (heards.Sent at frame source) = ⊥
 
--- The record is chosen, by what there is of it to hear, and received at its moment.
-pub record TellsHeard (choice : Choice) (signed : Bool) (head : RecordHeader) (w : List ℕ)
-    (s : StationModel) (told : List Heard) (next : StationModel) : Type 0 where
+-- the octets of what was on the air
+abbrev pub octets_on_air : OnAir → List ℕ
+octets_on_air (airs.Octets octets) = octets.items
+octets_on_air (airs.Secured s) = s.frame.items
+octets_on_air (airs.Nothing fault) = []
+
+-- What is told of what the station under test sent: its octets, and the source of its packet, if it
+-- is read.
+abbrev pub TellsSent : OnAir → ℕ → Heard → Type 0
+TellsSent air moment (heards.Sent at frame source) =
+    (at ≡ moment) × (frame.items ≡ octets_on_air air) × IsSource air source
+TellsSent air moment (heards.Nothing at fault) = (at ≡ moment) × (air ≡ airs.Nothing fault)
+TellsSent air moment (heards.Received at frame reply) = ⊥
+
+-- What came of what was on the air: it was received, unless the station under test sent it.
+abbrev pub TellsBy : Bool → OnAir → StationModel → ℕ → Heard → StationModel → Type 0
+TellsBy true air s moment heard next = TellsSent air moment heard × (next ≡ s)
+TellsBy false air s moment heard next = IsTold air heard × TellsAir air s moment heard next
+
+-- so with this link address of the station under test, if there is one
+abbrev pub Tells : Option ℕ → OnAir → StationModel → ℕ → Heard → StationModel → Type 0
+Tells against air s moment heard next = TellsBy (is_sent against air) air s moment heard next
+
+-- The record is chosen, by what there is of it to hear, and received at its moment, unless the
+-- station under test sent it.
+pub record TellsHeard (choice : Choice) (signed : Bool) (against : Option ℕ) (head : RecordHeader)
+    (w : List ℕ) (s : StationModel) (told : List Heard) (next : StationModel) : Type 0 where
   pub air : OnAir
   pub on_air : IsOnAir signed head w air
   pub chosen : AnswersChoice air choice head.moment true
   pub heard : Heard
   pub told_is : told ≡ heard ∷ []
-  pub told_of : IsTold air heard
-  pub received : TellsAir air s head.moment heard next
+  pub tells : Tells against air s head.moment heard next
 
 -- The record isn't chosen, by what there is of it to hear: it is as if it weren't there.
 pub record TellsPassed (choice : Choice) (signed : Bool) (head : RecordHeader) (w : List ℕ)
@@ -80,31 +108,34 @@ pub record TellsPassed (choice : Choice) (signed : Bool) (head : RecordHeader) (
   pub next_is : next ≡ s
 
 -- what is told of a record, and the station afterwards
-abbrev pub TellsRecord : Choice → Bool → RecordHeader → List ℕ → StationModel → List Heard → StationModel
-    → Type 0
-TellsRecord choice signed head w s told next =
-    TellsPassed choice signed head w s told next ⊎ TellsHeard choice signed head w s told next
+abbrev pub TellsRecord : Choice → Bool → Option ℕ → RecordHeader → List ℕ → StationModel
+    → List Heard → StationModel → Type 0
+TellsRecord choice signed against head w s told next =
+    TellsPassed choice signed head w s told next
+    ⊎ TellsHeard choice signed against head w s told next
 
 -- the same of what a call for the next record gives, with these octets: only a record is received
-abbrev pub TellsStep : Choice → Bool → List ℕ → Result Step SourceFault → StationModel
+abbrev pub TellsStep : Choice → Bool → Option ℕ → List ℕ → Result Step SourceFault → StationModel
     → List Heard → StationModel → Type 0
-TellsStep choice signed w (Ok (steps.Record head)) s told next =
-    TellsRecord choice signed head w s told next
-TellsStep choice signed w (Ok steps.Interface) s told next = (told ≡ []) × (next ≡ s)
-TellsStep choice signed w (Ok steps.Passed) s told next = (told ≡ []) × (next ≡ s)
-TellsStep choice signed w (Ok steps.End) s told next = (told ≡ []) × (next ≡ s)
-TellsStep choice signed w (Err fault) s told next = (told ≡ []) × (next ≡ s)
+TellsStep choice signed against w (Ok (steps.Record head)) s told next =
+    TellsRecord choice signed against head w s told next
+TellsStep choice signed against w (Ok steps.Interface) s told next = (told ≡ []) × (next ≡ s)
+TellsStep choice signed against w (Ok steps.Passed) s told next = (told ≡ []) × (next ≡ s)
+TellsStep choice signed against w (Ok steps.End) s told next = (told ≡ []) × (next ≡ s)
+TellsStep choice signed against w (Err fault) s told next = (told ≡ []) × (next ≡ s)
 
 -- The file gave these, one after the other, and was left so: what was told of them, and the station
 -- afterwards.
 abbrev pub TellsSteps : {S : Type 0} → (S → S → List ℕ → Result Step SourceFault → Type 0)
-    → Choice → Bool → S → StationModel → List Given → List Heard → S → StationModel → Type 0
-TellsSteps gives choice signed file s [] told left end = (told ≡ []) × (left ≡ file) × (end ≡ s)
-TellsSteps {S} gives choice signed file s (given ∷ more) told left end =
+    → Choice → Bool → Option ℕ → S → StationModel → List Given → List Heard → S → StationModel
+    → Type 0
+TellsSteps gives choice signed against file s [] told left end =
+    (told ≡ []) × (left ≡ file) × (end ≡ s)
+TellsSteps {S} gives choice signed against file s (given ∷ more) told left end =
     (first : List Heard) × (rest : List Heard) × (then : S) × (next : StationModel)
     × (told ≡ first ++ rest) × gives file then given.octets given.step
-    × TellsStep choice signed given.octets given.step s first next
-    × TellsSteps gives choice signed then next more rest left end
+    × TellsStep choice signed against given.octets given.step s first next
+    × TellsSteps gives choice signed against then next more rest left end
 
 -- why one call gave no step, and the first such fault of many
 abbrev pub fault_of_step : Result Step SourceFault → Option SourceFault
@@ -130,14 +161,14 @@ pub record AreCounts (counts : RecordCounts) (fault : Option SourceFault) (given
 -- their order and each at its moment: what was told of them was taken, and it represents the station
 -- of the model after these very receptions.
 pub record IsReplayed {S : Type 0} (gives : S → S → List ℕ → Result Step SourceFault → Type 0)
-    (choice : Choice) (signed : Bool) (file : S) (s : StationModel) (left : S)
+    (choice : Choice) (signed : Bool) (against : Option ℕ) (file : S) (s : StationModel) (left : S)
     (station : StationState) (counts : RecordCounts) (fault : Option SourceFault)
     (Took : List Heard → Type 0) : Type 0 where
   pub given : List Given
   pub told : List Heard
   pub end : StationModel
   pub counted : AreCounts counts fault given told
-  pub tells : TellsSteps gives choice signed file s given told left end
+  pub tells : TellsSteps gives choice signed against file s given told left end
   pub took : Took told
   pub stands : RepresentsStation station end
 
@@ -155,11 +186,11 @@ EndsFile count counts fault given =
 -- The same, and the file was read to its end, to its fault, or to as many chosen records as are
 -- wanted: so it was left.
 pub record IsReplayedWhole {S : Type 0} (gives : S → S → List ℕ → Result Step SourceFault → Type 0)
-    (choice : Choice) (count : Option ℕ) (signed : Bool) (file : S) (s : StationModel)
-    (station : StationState) (counts : RecordCounts) (fault : Option SourceFault)
+    (choice : Choice) (count : Option ℕ) (signed : Bool) (against : Option ℕ) (file : S)
+    (s : StationModel) (station : StationState) (counts : RecordCounts) (fault : Option SourceFault)
     (Took : List Heard → Type 0) : Type 0 where
   pub left : S
-  pub replayed : IsReplayed gives choice signed file s left station counts fault Took
+  pub replayed : IsReplayed gives choice signed against file s left station counts fault Took
   pub ended : EndsFile count counts fault replayed.given
 
 -- ---- words of private functions
@@ -174,18 +205,19 @@ ReadsAir selection head w after None =
 
 -- The steps so far, none of which was the last, with so many steps left.
 abbrev pub IsReplaying : {S : Type 0} → (S → S → List ℕ → Result Step SourceFault → Type 0)
-    → Selection → S → StationModel → S → StationState → RecordCounts → (List Heard → Type 0) → Type 0
-IsReplaying gives selection file s left station counts Took =
-    (r : IsReplayed gives selection.choice selection.signed file s left station counts None Took)
+    → Selection → Option ℕ → S → StationModel → S → StationState → RecordCounts
+    → (List Heard → Type 0) → Type 0
+IsReplaying gives selection against file s left station counts Took =
+    (r : IsReplayed gives selection.choice selection.signed against file s left station counts None
+    Took)
     × (counts.left + length r.given ≡ 2 ^ 64 - 1)
 
--- what was on the air was received at the moment, and taken after what is in the log
-pub record IsHeard (air : OnAir) (moment : ℕ) (s : StationModel) (log : List Heard)
-    (station : StationState) (Took : List Heard → Type 0) : Type 0 where
+-- what came of what was on the air was taken after what is in the log
+pub record IsHeard (against : Option ℕ) (air : OnAir) (moment : ℕ) (s : StationModel)
+    (log : List Heard) (station : StationState) (Took : List Heard → Type 0) : Type 0 where
   pub heard : Heard
-  pub told : IsTold air heard
   pub next : StationModel
-  pub received : TellsAir air s moment heard next
+  pub tells : Tells against air s moment heard next
   pub took : Took (log ++ heard ∷ [])
   pub stands : RepresentsStation station next
 
@@ -211,4 +243,11 @@ pub record TellsOnAir (air : OnAir) (moment : ℕ) (s : StationModel) (heard : H
   pub told : IsTold air heard
   pub next : StationModel
   pub received : TellsAir air s moment heard next
+  pub stands : RepresentsStation station next
+
+-- what came of what was on the air at the moment
+pub record TellsWhat (against : Option ℕ) (air : OnAir) (moment : ℕ) (s : StationModel)
+    (heard : Heard) (station : StationState) : Type 0 where
+  pub next : StationModel
+  pub tells : Tells against air s moment heard next
   pub stands : RepresentsStation station next

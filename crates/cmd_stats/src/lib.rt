@@ -3,7 +3,7 @@
 //!
 //! # What is proved
 //!
-//! The row of a refusal is one of the 22 of its table.
+//! The row of a kind or a refusal is one of the 44 of its table.
 //!
 //! The octets that the station receives (`AreHeard`) are the record's own in a capture of this
 //! program, otherwise the frame that its link layer gives (`IsFrameIn`), without padding. A record
@@ -12,6 +12,11 @@
 //!
 //! With `--signed`, a secured frame is a step of `Station::receive_verified`.
 //!
+//! With `--against`, a frame from the link address of the station under test is not received
+//! (`is_sent`, `Tells`). What it sent answers the first frame that waits and equals it but for the
+//! link source, otherwise the first of the same packet (`IsCompared`). A frame waits until its time
+//! is over (`missed_place`).
+//!
 //! # Only tested
 //!
 //! - `checks/stats`: every number and every line, against a second computation in Python over drawn
@@ -19,7 +24,9 @@
 //! - `checks/tshark`: the same tables, from Wireshark's fields.
 //! - `cases/stats.md`: selected records, a capture that ends early, and an empty one.
 //! - `cases/signed.md`: which plain part is taken of a secured frame, and what is reported.
-//! - `cases/replay.md`: lines, numbers of forwarded frames and their file.
+//! - `cases/replay.md`: lines, numbers of forwarded frames and their file; how a frame differs, and
+//!   the counts.
+//! - `checks/verdict`: replays against stations that obey, and with one fault each.
 //! - `checks/failures`: that each line is written before the next read of standard input.
 #![tactic(auto)]
 

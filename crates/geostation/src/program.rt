@@ -272,6 +272,7 @@ where
                 file: replay.records.file,
                 selection: replay.records.selection,
                 unit,
+                against: replay.against,
             };
             replay_file(rt, &options, input, replay.frames, io)
         }

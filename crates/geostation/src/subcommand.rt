@@ -7,14 +7,14 @@ use cap_pcap::Format;
 use clap::ArgMatches;
 use cmd_arguments::terminal::{Coloring, Console, Painter};
 use cmd_arguments::{
-    BadArgument, StationArguments, claims_of, count_of, duties_of, fields_of, ports_of,
+    BadArgument, StationArguments, against_of, claims_of, count_of, duties_of, fields_of, ports_of,
     printing_of, rule_of, selection_of, selection_to_any_port, time_of, times_of,
 };
 use cmd_captures::{Conversion, Field, Selection, Showing};
 use cmd_mesh::MeshOptions;
 use cmd_page::Viewing;
 use cmd_reporting::{OutputFormat, Target, is_standard};
-use cmd_stats::replay::PortList;
+use cmd_stats::replay::{Against, PortList};
 use cmd_verdict::VerdictOptions;
 use its_contention::ContentionRule;
 use sim_runs::{ResultFiles, RunFiles, RunOptions, VERSION};
@@ -120,6 +120,8 @@ pub struct Replay<'a> {
     pub ports: PortList,
     /// The file of the frames that it passes on, where they are written.
     pub frames: Option<Target<'a>>,
+    /// With what a station sent it is compared, if it is.
+    pub against: Option<Against>,
 }
 
 impl Subcommand<'_> {
@@ -317,6 +319,7 @@ fn replaying<'a>(matches: &ArgMatches<'a>) -> Result<Option<Subcommand<'a>>, Bad
         station,
         ports: ports_of(matches)?,
         frames: frames_of(matches),
+        against: against_of(matches)?,
     })))
 }
 

@@ -95,6 +95,13 @@ impl AirOctets {
         }
     }
 
+    /// The octets, as a slice.
+    pub(crate) fn as_slice(&self) -> &[u8]
+        ensures { result.now ≡ self.now.items }
+    {
+        self.octets.as_slice()
+    }
+
     /// The octets.
     pub(crate) fn into_octets(self) -> Vec<u8>
         ensures { result ≡ self }

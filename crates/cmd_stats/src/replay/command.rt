@@ -5,6 +5,7 @@ ghost use Rattle.cmd_reporting.specs.FileNames.{format_of_file};
 ghost use Rattle.cmd_reporting.specs.Statuses.{IsCommandStatus, IsStopped};
 ghost use Rattle.cmd_stats.specs.Units.{IsUnit};
 
+use crate::replay::against::{Against, AgainstFrames};
 use crate::replay::printing::Printer;
 use crate::replay::replaying::replay_records;
 use crate::replay::unit::Unit;
@@ -26,16 +27,19 @@ pub struct ReplayOptions<'a> {
     pub selection: Selection,
     /// The station.
     pub unit: Unit,
+    /// With what a station sent it is compared, if it is.
+    pub against: Option<Against>,
 }
 
 /// Prints what the station would have done with the selected records of the file, each at its moment.
 /// `input` is standard input. Frames that the station forwards are numbered. With `frames` they are
-/// also written to that file, which is created once the capture is open.
+/// also written to that file, which is created once the capture is open. With `against`, frames from
+/// the station under test are compared with them, and the differences counted.
 ///
 /// `BadArguments`, before anything is opened, if nothing says the format of the file of frames or its
 /// name is `-`, and before it is created if it is the capture itself. `Refused` if the capture was
-/// refused or a frame has no place in its file, `Failed` if a file could not be read, created or
-/// written or standard output not written, or memory ran out.
+/// refused, a frame has no place in its file or a difference is an error, `Failed` if a file could not
+/// be read, created or written or standard output not written, or memory ran out.
 pub fn replay_file<'a, R: Files + AllocGlobal, I: Read + Drop, W: Write, E: Write>(
     rt: &R,
     what: &ReplayOptions<'a>,
@@ -91,7 +95,11 @@ fn replay_into<'a, R: Read + Drop, F: Write + Drop, W: Write, E: Write>(
     requires { IsUnit replay.now.unit }
     ensures { IfOk result IsCommandStatus }
 {
-    let mut printer = Printer::new(alloc, is_standard(replay.file), frames, io)?;
+    let (address, explain) = (replay.unit.address, io.format.explain);
+    let against = replay.against.map(|against| AgainstFrames::new(
+        alloc, address, against, explain,
+    ));
+    let mut printer = Printer::new(alloc, is_standard(replay.file), frames, against, io)?;
     let ended = replay_lines(alloc, replay, reader, &mut printer);
     end_frames(printer.file.take(), ended)
 }
@@ -111,9 +119,11 @@ fn replay_lines<'a, R: Read + Drop, F: Write + Drop, W: Write, E: Write>(
         return printer.refuse(FileFault::gzip(), 0);
     };
     let mut station = replay.unit.begin(alloc)?;
-    let (counts, fault) = replay_records(alloc, &mut station, selection, source, printer)?;
+    let mac = replay.against.map(|against| against.mac);
+    let (counts, fault) = replay_records(alloc, &mut station, selection, &mac, source, printer)?;
+    let status = printer.end()?;
     let Some(fault) = fault else {
-        return Ok(Status::Done);
+        return Ok(status);
     };
     let fault = FileFault::of(fault, file, counts.read, selection.format)?;
     printer.refuse(fault, counts.read)

@@ -23,6 +23,31 @@ pub enum Heard {
         /// Why there is none.
         fault: RecordFault,
     },
+    /// The station under test sent it, so the station receives nothing.
+    Sent {
+        /// The record's moment, in milliseconds.
+        moment: u64,
+        /// The octets that it sent.
+        frame: Vec<u8>,
+        /// The source of the packet. `None` if the octets are not a frame that is read.
+        source: Option<u64>,
+    },
+}
+
+impl Heard {
+    /// The record's moment, in milliseconds.
+    pub(crate) fn moment(&self) -> u64 {
+        match self {
+            Heard::Received { moment, .. }
+            | Heard::Nothing { moment, .. }
+            | Heard::Sent { moment, .. } => *moment,
+        }
+    }
+
+    /// Whether the station under test sent it.
+    pub(crate) fn is_sent(&self) -> bool {
+        matches!(self, Heard::Sent { .. })
+    }
 }
 
 /// What takes what came of records, one by one, in their order.

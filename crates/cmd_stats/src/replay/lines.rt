@@ -65,6 +65,8 @@ impl<'a> ReplayLine<'a> {
                 let code = Code::Record(fault.code());
                 (*moment, AnswerKeys::refused(code, Reason::Record(*fault)))
             }
+            // What the station under test sent has a line of its own.
+            Heard::Sent { moment, .. } => (*moment, AnswerKeys::word("done")),
         };
         ReplayLine {
             moment,

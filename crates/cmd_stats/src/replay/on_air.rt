@@ -3,14 +3,23 @@
 ghost use Rattle.std.specs.Prelude.{◌≡◌, IfErr, IfOk};
 ghost use Rattle.its_linkframe.specs.FrameFaults.{IsFrameFault};
 ghost use Rattle.its_linkframe.specs.Frames.{EncodesFrame, transmission_of};
-ghost use Rattle.cmd_stats.specs.OnAir.{AnswersChoice, IsOf, IsOnAir};
+ghost use Rattle.cmd_stats.specs.OnAir.{AnswersChoice, AreTraitsOf, IsOf, IsOnAir};
+ghost use Rattle.cmd_stats.specs.OnAir.{IsSource, is_from, is_sent};
+ghost use Rattle.cmd_stats.specs.Replays.{TellsSent};
 
 use crate::replay::air_octets::AirOctets;
+use crate::replay::heard::Heard;
 use crate::replay::secured_octets::SecuredOctets;
 use cap_pcap::{RecordHeader, frame_start};
-use cap_records::{Choice, RecordFault, read_from, reads_secured, traits_of};
+use cap_records::{Choice, RecordFault, Traits, read_from, reads_secured, traits_of};
+use its_gnvalue::Mac;
 use its_linkframe::Unpadded;
 use std::alloc::{AllocError, Global};
+
+/// Where the link source and the type of a frame are.
+const SOURCE: usize = 6;
+
+const TYPE: usize = 12;
 
 /// What there is of a record for a station to hear.
 #[derive(Drop)]
@@ -67,16 +76,77 @@ impl OnAir {
     pub(crate) fn is_chosen(&self, choice: &Choice, moment: u64) -> bool
         ensures { AnswersChoice self.now choice.now moment result }
     {
-        let traits = match self {
+        choice.is_chosen(moment, self.traits())
+    }
+
+    /// What the record is chosen by: its frame, if it has one.
+    fn traits(&self) -> Option<Traits>
+        ensures { AreTraitsOf self.now result }
+    {
+        match self {
             OnAir::Octets(octets) => match octets.frame() {
                 Some(frame) => Some(traits_of(&frame)),
                 None => None,
             },
             OnAir::Secured(secured) => secured.traits(),
             OnAir::Nothing(_) => None,
-        };
-        choice.is_chosen(moment, traits)
+        }
     }
+
+    /// Whether the station under test sent it, if this is its link address.
+    pub(crate) fn is_sent(&self, against: &Option<Mac>) -> bool
+        ensures { result ≡ is_sent against.now self.now }
+    {
+        match self {
+            OnAir::Octets(octets) => is_from(against, octets.as_slice()),
+            OnAir::Secured(secured) => is_from(against, secured.frame.as_slice()),
+            OnAir::Nothing(_) => false,
+        }
+    }
+
+    /// The source of its packet, if it is a frame that is read.
+    fn source(&self) -> Option<u64>
+        ensures { IsSource self.now result }
+    {
+        match self.traits() {
+            Some(traits) => Some(traits.source),
+            None => None,
+        }
+    }
+
+    /// It, as what the station under test sent at a moment.
+    pub(crate) fn into_sent(self, moment: u64) -> Heard
+        ensures { TellsSent self moment result }
+    {
+        let source = self.source();
+        match self {
+            OnAir::Octets(octets) => Heard::Sent {
+                moment,
+                frame: octets.into_octets(),
+                source,
+            },
+            OnAir::Secured(secured) => Heard::Sent {
+                moment,
+                frame: secured.frame,
+                source,
+            },
+            OnAir::Nothing(fault) => Heard::Nothing { moment, fault },
+        }
+    }
+}
+
+/// Whether these octets are a frame from this link address, if one is given.
+fn is_from(against: &Option<Mac>, octets: &[u8]) -> bool
+    ensures { result ≡ is_from against.now octets.now }
+{
+    let Some(mac) = against else {
+        return false;
+    };
+    if octets.len() < TYPE {
+        return false;
+    }
+    let sender = mac.octets();
+    octets[SOURCE..TYPE] == sender[..]
 }
 
 /// The octets once more.

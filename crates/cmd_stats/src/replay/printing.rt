@@ -1,21 +1,27 @@
 //! The lines of a replay, and the file of its frames.
 
 ghost use Rattle.std.specs.Prelude.{◌≡◌, IfOk};
+ghost use Rattle.cmd_reporting.specs.Statuses.{IsCommandStatus};
 
+use crate::replay::against::AgainstFrames;
+use crate::replay::comparison::MOST_AWAITED;
+use crate::replay::differences::DifferenceTotal;
 use crate::replay::heard::{Heard, HeardSink};
 use crate::replay::lines::ReplayLine;
 use cap_records::{FileFault, RefusedCapture};
 use cmd_reporting::{Fault, FrameFile, Io, Status};
-use its_station::Answer;
+use its_station::{Answer, StationAnswer};
 use its_words::json_lines::JsonLine;
 use serde::Serialize;
 use std::alloc::{AllocError, Global};
 use std::fmt::Display;
 use std::io::Write;
 
-/// Prints a line of each record, and writes the frames that go on to a file, where there is one.
+/// Prints a line of each record, and writes the frames that go on to a file, where there is one. If
+/// the replay is compared with what a station sent, also prints what differs.
 #[derive(Drop)]
 pub(crate) struct Printer<'p, 't, W, E, F: Write + Drop> {
+    alloc: Global,
     line: JsonLine,
     /// Whether each line is written out at once, since the next read may wait.
     waits: bool,
@@ -23,6 +29,8 @@ pub(crate) struct Printer<'p, 't, W, E, F: Write + Drop> {
     pub(crate) file: Option<FrameFile<'t, F>>,
     /// How many frames went on so far.
     frames: u64,
+    /// The comparison, if there is one.
+    against: Option<AgainstFrames>,
 }
 
 impl<'p, 't, W: Write, E: Write, F: Write + Drop> Printer<'p, 't, W, E, F> {
@@ -31,14 +39,17 @@ impl<'p, 't, W: Write, E: Write, F: Write + Drop> Printer<'p, 't, W, E, F> {
         alloc: Global,
         waits: bool,
         file: Option<FrameFile<'t, F>>,
+        against: Option<AgainstFrames>,
         io: &'p mut Io<W, E>,
     ) -> Result<Printer<'p, 't, W, E, F>, AllocError> {
         Ok(Printer {
+            alloc,
             line: JsonLine::new(alloc)?,
             waits,
             io,
             file,
             frames: 0,
+            against,
         })
     }
 
@@ -65,14 +76,128 @@ impl<'p, 't, W: Write, E: Write, F: Write + Drop> Printer<'p, 't, W, E, F> {
         Ok(Status::Refused)
     }
 
+    /// Passes on the frame of a reply, if it has one.
+    fn pass_reply<'f>(&mut self, moment: u64, reply: StationAnswer) -> Result<(), Fault<'f>> {
+        match reply {
+            Answer::Accepted { sent, .. } => match sent {
+                Some(frame) => self.pass_on(moment, frame),
+                None => Ok(()),
+            },
+            _ => Ok(()),
+        }
+    }
+
+    /// Does what follows the line of a record.
+    fn follow<'f>(&mut self, heard: Heard) -> Result<(), Fault<'f>> {
+        match heard {
+            Heard::Received { moment, reply, .. } => self.pass_reply(moment, reply),
+            Heard::Sent {
+                moment,
+                frame,
+                source,
+            } => self.compare(moment, frame.as_slice(), source),
+            Heard::Nothing { .. } => Ok(()),
+        }
+    }
+
     /// Counts a frame that goes on, and writes it to the file.
-    fn pass_on<'f>(&mut self, moment: u64, frame: &[u8]) -> Result<(), Fault<'f>> {
+    fn pass_on<'f>(&mut self, moment: u64, frame: Vec<u8>) -> Result<(), Fault<'f>> {
+        let number = self.frames;
         // No file has as many records as there are numbers.
-        self.frames = self.frames.saturating_add(1);
+        self.frames = number.saturating_add(1);
         if let Some(file) = &mut self.file {
-            file.put(0, moment, frame, self.io.format, &mut self.io.err)?;
+            file.put(
+                0,
+                moment,
+                frame.as_slice(),
+                self.io.format,
+                &mut self.io.err,
+            )?;
+        }
+        let gone = match &mut self.against {
+            Some(against) => against.expect(number, moment, frame)?,
+            None => None,
+        };
+        match gone {
+            Some(line) => self.line(&line),
+            None => Ok(()),
+        }
+    }
+
+    /// Compares what the station under test sent at a moment: these octets, of a packet of this
+    /// source, if they are read.
+    fn compare<'f>(
+        &mut self,
+        moment: u64,
+        sent: &[u8],
+        source: Option<u64>,
+    ) -> Result<(), Fault<'f>> {
+        let line = match &mut self.against {
+            Some(against) => against.compare(moment, sent, source),
+            None => return Ok(()),
+        };
+        self.line(&line)
+    }
+
+    /// Writes the line of a record that the station under test didn't send.
+    fn print_heard<'f>(&mut self, heard: &Heard) -> Result<(), Fault<'f>> {
+        if heard.is_sent() {
+            return Ok(());
+        }
+        let explain = self.io.format.explain;
+        self.line(&ReplayLine::of(heard, self.frames, explain))
+    }
+
+    /// Writes the lines of the frames that were not sent in time, before a moment.
+    fn print_missed<'f>(&mut self, now: u64) -> Result<(), Fault<'f>> {
+        for _ in 0..=MOST_AWAITED {
+            let missed = match &mut self.against {
+                Some(against) => against.next_missed(now),
+                None => None,
+            };
+            match missed {
+                Some(line) => self.line(&line)?,
+                None => return Ok(()),
+            }
         }
         Ok(())
+    }
+
+    /// Writes the lines of the frames that still wait at the end of the capture.
+    fn print_left<'f>(&mut self) -> Result<(), Fault<'f>> {
+        for _ in 0..=MOST_AWAITED {
+            let left = match &mut self.against {
+                Some(against) => against.next_left(),
+                None => None,
+            };
+            match left {
+                Some(line) => self.line(&line)?,
+                None => return Ok(()),
+            }
+        }
+        Ok(())
+    }
+
+    /// Ends the comparison, if there is one, with the counts of what differs. `Refused` if a
+    /// difference is an error and there is one.
+    pub(crate) fn end<'f>(&mut self) -> Result<Status, Fault<'f>>
+        ensures { IfOk result IsCommandStatus }
+    {
+        self.print_left()?;
+        let (counts, has_error) = match &self.against {
+            Some(against) => (against.counts, against.has_error()),
+            None => return Ok(Status::Done),
+        };
+        let total = DifferenceTotal::of(counts);
+        if !self.io.format.json {
+            writeln!(self.io.out)?;
+            counts.table(self.alloc)?.write(&mut self.io.out)?;
+        }
+        self.line(&total)?;
+        if has_error {
+            return Ok(Status::Refused);
+        }
+        Ok(Status::Done)
     }
 }
 
@@ -81,18 +206,8 @@ impl<W: Write, E: Write, F: Write + Drop> HeardSink for Printer<'_, '_, W, E, F>
     ghost Took = { λ _ _. Unit {0} };
 
     fn put<'f>(&mut self, heard: Heard) -> Result<(), Fault<'f>> {
-        let explain = self.io.format.explain;
-        self.line(&ReplayLine::of(&heard, self.frames, explain))?;
-        match &heard {
-            Heard::Received {
-                moment,
-                reply: Answer::Accepted {
-                    sent: Some(frame),
-                    ..
-                },
-                ..
-            } => self.pass_on(*moment, frame.as_slice()),
-            _ => Ok(()),
-        }
+        self.print_missed(heard.moment())?;
+        self.print_heard(&heard)?;
+        self.follow(heard)
     }
 }

@@ -5,7 +5,7 @@ ghost use Rattle.its_model.specs.Station.{StationModel};
 ghost use Rattle.its_station.specs.State.{RepresentsStation};
 ghost use Rattle.cmd_stats.specs.declared.replay.heard.Heard.{Heard as ToldRecord};
 ghost use Rattle.cmd_stats.specs.Replays.{IsReplayedWhole, IsHeard, TellsOctets};
-ghost use Rattle.cmd_stats.specs.Replays.{TellsOnAir};
+ghost use Rattle.cmd_stats.specs.Replays.{TellsOnAir, TellsWhat};
 
 use crate::replay::air_octets::AirOctets;
 use crate::replay::heard::{Heard, HeardSink};
@@ -13,7 +13,7 @@ use crate::replay::on_air::OnAir;
 use cap_pcap::{LONGEST_RECORD, RecordHeader, RecordSource, SourceFault};
 use cap_records::{Pulled, RecordCounts, RecordReader, Records, Selection};
 use cmd_reporting::Fault;
-use its_gnvalue::NoMemory;
+use its_gnvalue::{Mac, NoMemory};
 use its_loctable::SortedTable;
 use its_station::Station;
 use std::alloc::{AllocError, Global};
@@ -56,48 +56,75 @@ impl RecordReader for AirReader {
 /// `OutOfMemory` where an allocation failed, and what the sink answers: then nothing further is
 /// read.
 ///
+/// With `against`, a frame from this link address is what the station under test sent. It is passed
+/// to the sink, and the station doesn't receive it.
+///
 /// - its clause (`IsReplayedWhole`): each selected record, in order, is one step of the written
 ///   rules of just this station, at the record's time and with the octets of its frame, or is
-///   reported as one without a frame. What is reported is that step's answer, once and in order.
+///   reported as one without a frame, or as one that the station under test sent. What is reported
+///   is that step's answer, once and in order.
 ///   The file is read to its end, to its fault, or to as many selected records as are wanted. The
 ///   station is one of the model throughout.
 pub fn replay_records<'f, S: RecordSource + Drop, K: HeardSink>(
     alloc: Global,
     station: &mut Station<SortedTable>,
     selection: &Selection,
+    against: &Option<Mac>,
     source: S,
     sink: &mut K,
 ) -> Result<(RecordCounts, Option<SourceFault>), Fault<'f>>
     ensures { (s : StationModel) → RepresentsStation station.old s → K.Took sink.old [] →
         IfOk result (λ ended. IsReplayedWhole S.GivesStep selection.now.choice
-        selection.now.count selection.now.signed source s station.new ended.0 ended.1
+        selection.now.count selection.now.signed against.now source s station.new ended.0 ended.1
         (K.Took sink.new)) }
 {
     let octets = Vec::with_capacity(alloc, LONGEST_RECORD)?;
     let mut records = Records::new(source, AirReader { alloc }, octets, *selection);
     loop {
         match records.next_chosen()? {
-            Pulled::Chosen(head, on_air) => hear(alloc, station, head.moment, on_air, sink)?,
+            Pulled::Chosen(head, on_air) => {
+                hear(alloc, station, against, head.moment, on_air, sink)?
+            }
             Pulled::Interface => {}
             Pulled::End(fault) => return Ok((records.counts, fault)),
         }
     }
 }
 
-/// Gives what was on the air to the station at a moment, and what came of it to the sink.
+/// Gives what was on the air to the station at a moment, unless the station under test sent it, and
+/// what came of it to the sink.
 fn hear<'f, K: HeardSink>(
     alloc: Global,
     station: &mut Station<SortedTable>,
+    against: &Option<Mac>,
     moment: u64,
     on_air: OnAir,
     sink: &mut K,
 ) -> Result<(), Fault<'f>>
     ensures { (s : StationModel) (log : List ToldRecord) → RepresentsStation station.old s →
-        K.Took sink.old log → IfOk result (λ _. IsHeard on_air moment s log station.new
+        K.Took sink.old log → IfOk result (λ _. IsHeard against.now on_air moment s log station.new
         (K.Took sink.new)) }
 {
-    let heard = receive(alloc, station, moment, on_air)?;
+    let heard = heard_of(alloc, station, against, moment, on_air)?;
     sink.put(heard)
+}
+
+/// What there is to report of what was on the air at a moment. `NoMemory` if an allocation failed:
+/// the station stands as before.
+fn heard_of(
+    alloc: Global,
+    station: &mut Station<SortedTable>,
+    against: &Option<Mac>,
+    moment: u64,
+    on_air: OnAir,
+) -> Result<Heard, NoMemory>
+    ensures { (s : StationModel) → RepresentsStation station.old s →
+        IfOk result (λ heard. TellsWhat against.now on_air moment s heard station.new) }
+{
+    if on_air.is_sent(against) {
+        return Ok(on_air.into_sent(moment));
+    }
+    receive(alloc, station, moment, on_air)
 }
 
 /// Gives what was on the air to the station at a moment. `NoMemory` where an allocation failed: the

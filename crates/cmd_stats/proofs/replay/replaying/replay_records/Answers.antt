@@ -8,11 +8,12 @@ pub loop-records-init : goal.loop-records-init
 loop-records-init g c = record {
   selection = c.new-records.ensures.selection;
   received = λ s rep took.
-      let none = replaying_none g.S.RecordSource.GivesStep c.args.selection.now c.args.source s
+      let none = replaying_none g.S.RecordSource.GivesStep c.args.selection.now c.args.against.now
+      c.args.source s
       c.args.station.now (g.K.HeardSink.Took c.args.sink.now) c.new-records.result.counts
       c.new-records.ensures.counts rep took in
       subst (λ (file : g.row.S.Denot). IsReplaying g.S.RecordSource.GivesStep c.args.selection.now
-      c.args.source s file c.args.station.now c.new-records.result.counts
+      c.args.against.now c.args.source s file c.args.station.now c.new-records.result.counts
       (g.K.HeardSink.Took c.args.sink.now)) (sym c.new-records.ensures.source) none;
 }
 
@@ -23,7 +24,8 @@ loop-records-preserved-in-Continue-branch-4 g c =
     record {
       selection = c.in_ok-head.ensures.selection ∙ i.selection;
       received = λ s rep took.
-          replaying_chosen g.S.RecordSource.GivesStep c.args.selection.now c.args.source s
+          replaying_chosen g.S.RecordSource.GivesStep c.args.selection.now c.args.against.now
+          c.args.source s
           c.loop-records.records.source c.next_chosen.new.self.source c.loop-records.station
           c.hear.new.station c.loop-records.records.counts c.next_chosen.new.self.counts
           (g.K.HeardSink.Took c.loop-records.sink) (g.K.HeardSink.Took c.hear.new.sink)
@@ -38,7 +40,8 @@ loop-records-preserved g c =
     record {
       selection = c.in_ok-head.ensures.selection ∙ i.selection;
       received = λ s rep took.
-          replaying_interface g.S.RecordSource.GivesStep c.args.selection.now c.args.source s
+          replaying_interface g.S.RecordSource.GivesStep c.args.selection.now c.args.against.now
+          c.args.source s
           c.loop-records.records.source c.next_chosen.new.self.source c.loop-records.station
           c.loop-records.records.counts c.next_chosen.new.self.counts
           (g.K.HeardSink.Took c.loop-records.sink) c.next_chosen.new.self.octets.items
@@ -49,7 +52,7 @@ pub returns-in-End : goal.returns-in-End
 returns-in-End g c = λ s rep took.
     let i = c.loop-records.invariant in
     let comes = (rw c.in-End.is at (rw i.selection at c.in_ok-head.ensures.next)) in
-    replayed_end g.S.RecordSource.GivesStep c.args.selection.now c.args.source s
+    replayed_end g.S.RecordSource.GivesStep c.args.selection.now c.args.against.now c.args.source s
     c.loop-records.records.source c.next_chosen.new.self.source c.loop-records.station
     c.loop-records.records.counts c.next_chosen.new.self.counts
     (g.K.HeardSink.Took c.loop-records.sink) c.next_chosen.new.self.octets.items c.in-End.fault

@@ -10,8 +10,8 @@ invariant-loop-records g l = record {
   selection : l.records.selection ≡ l.selection;
   received : (s : StationModel) → RepresentsStation l.fn.station s
       → g.K.HeardSink.Took l.fn.sink []
-      → IsReplaying g.S.RecordSource.GivesStep l.selection l.fn.source s l.records.source l.station
-      l.records.counts (g.K.HeardSink.Took l.sink);
+      → IsReplaying g.S.RecordSource.GivesStep l.selection l.against l.fn.source s l.records.source
+      l.station l.records.counts (g.K.HeardSink.Took l.sink);
 }
 
 abbrev pub decreases-loop-records : goal.decreases-loop-records
