@@ -287,6 +287,12 @@ class NotSilencedByTwo(Station):
     """a station that says that it contends is not silenced by two others."""
 
 
+class HoldsTheLongest(Station):
+    """a station that says that it contends holds each packet for 0.9 s."""
+
+    delay = 900
+
+
 class LostWithoutNextHop(Station):
     """outside the area a packet without a next hop is not forwarded."""
 
@@ -423,6 +429,7 @@ TABLE = [
     Found(OnlyHoldsAccurate, "CBF-04", (), ("D22",)),
     Found(FullBuffer, "CBF-05", (), ("D20",)),
     Found(NotSilencedByTwo, "CBF-06", (), ("D23",)),
+    Found(HoldsTheLongest, "CBF-07", (), ("D22",)),
     Found(faults.MoreHopsThanAtMost, "FDV-11", ("D13",), ("D21",)),
     Found(faults.StopsAfterMalformed, "FDV-11", (), ("D20",)),
     Found(DiesOfTruncated, "FDV-11", (), ("D20",)),

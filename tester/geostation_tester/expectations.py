@@ -126,8 +126,11 @@ def of_packet(
             yield f"D19: {e.of} was forwarded to {observed.target(r)}, not to {e.to} #{r.number}"
         if e.hops is not None and r.frame[HOPS_AT] != e.hops:
             yield f"D15: {e.of} has {r.frame[HOPS_AT]} hops left, not {e.hops} #{r.number}"
-        if (held := (r.stamp - packet.stamp) // MILLISECOND) < e.after:
+        held = (r.stamp - packet.stamp) // MILLISECOND
+        if held < e.after:
             yield f"D22: {e.of} was held for {held} ms, not {e.after} #{r.number}"
+        if e.before is not None and held > e.before:
+            yield f"D22: {e.of} was held for {held} ms, over {e.before} #{r.number}"
         if e.times and len(r.frame) < len(packet.frame):
             octets = f"{len(r.frame)} octets, not {len(packet.frame)}"
             yield f"D13: {e.of} has {octets} #{r.number}"

@@ -16,7 +16,7 @@ OWN = {"sent": 1, "beacons": 0, "moved": 1}
 @dataclass(frozen=True)
 class Relays:
     """Each packet of an action is forwarded so often, to this one, with so many hops left, and not
-    before it was held for so many ms."""
+    before it was held for so many ms, nor later than for so many."""
 
     of: str
     times: int
@@ -24,6 +24,7 @@ class Relays:
     hops: int | None
     duty: str
     after: int
+    before: int | None
 
 
 @dataclass(frozen=True)
@@ -109,9 +110,10 @@ def target_of(t: Table, names: set[str]) -> str:
 def read_relays(t: Table, actions: tuple[Action, ...], names: set[str]) -> Relays:
     of, times = name_of(t, actions, FOR_AREAS), t.whole("relays", 0, 64, 1)
     if not times:
-        return Relays(of, 0, "", None, t.one_of("duty", WITHHELD, "D21"), 0)
+        return Relays(of, 0, "", None, t.one_of("duty", WITHHELD, "D21"), 0, None)
     hops, after = t.optional("hops", 0, 255), t.whole("after", 0, LONGEST, 0)
-    return Relays(of, times, target_of(t, names), hops, "D20", after)
+    before = t.optional("before", after, LONGEST)
+    return Relays(of, times, target_of(t, names), hops, "D20", after, before)
 
 
 def read_expectation(t: Table, actions: tuple[Action, ...], names: set[str]) -> Expectation:

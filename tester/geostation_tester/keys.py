@@ -93,6 +93,7 @@ KEYS = [
         ("to", "`all`, name", "any", "to whom"),
         ("hops", "0..255", "any", "with which RHL"),
         ("after", MS, "0", "for how long it is held at least"),
+        ("before", MS, "any", "for how long it is held at most"),
         ("gap", "1..3600000 ms", "none", "greatest time without an own packet"),
         ("delivered", "0..64", "none", "how often its payload is delivered, at each port"),
         ("sent", "1", "none", "the requested packet is sent once, as requested"),
