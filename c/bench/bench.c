@@ -157,7 +157,10 @@ static uint64_t next_due_from_c(uint32_t rounds) {
     struct geostation_reception r;
     uint64_t sum = 0;
     for (size_t k = 0; k < PLACES; k++) {
-        geostation_receive(s, 5, frames + k * stride, stride, &r, relay, sizeof relay);
+        if (geostation_receive(s, 5, frames + k * stride, stride, &r, relay, sizeof relay)
+            != GEOSTATION_OK) {
+            exit(1);
+        }
     }
     for (uint32_t k = 0; k < rounds * MANY; k++) {
         sum += geostation_next_due(s);
