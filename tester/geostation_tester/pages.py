@@ -64,7 +64,7 @@ def aims(e: Expectation) -> str:
     """The duties for which an expectation compares."""
     match e:
         case Relays():
-            return e.duty + (" D19" if e.to else "") + (" D22" if e.after or e.before else "")
+            return e.duty + (" D19" if e.to else "") + (" D22" if e.after or e.before is not None else "")
         case Silence():
             return "D11"
         case Deliveries():
