@@ -102,7 +102,8 @@ pub relay_again_proof : (k : Claims) (tap : List Seen) (j : ℕ) (r : Seen) (t :
     (e : EarlierRelay)
     → AreRead tap → IsModelled k → IsRelayAgain k tap j r t e
     → is_fail (once_verdict k e) ≡ true → NoScenario k tap
-relay_again_proof k tap j r t (earlier.None known) all modelled is fails =
-    absurd (first_is (k.sent && known) fails)
+relay_again_proof k tap j r t earlier.Never all modelled is fails = absurd (first_is k.sent fails)
+relay_again_proof k tap j r t earlier.NotSeen all modelled is fails =
+    absurd (true≢false (sym fails))
 relay_again_proof k tap j r t (earlier.Again a) all modelled is fails =
     again_proof k tap j r t a all modelled is (again_is (breaks_once k a) a.others fails)

@@ -34,8 +34,8 @@ breaks_once k a =
     && a.sources_known
 
 abbrev pub once_verdict : Claims → EarlierRelay → Verdict
-once_verdict k (earlier.None known) =
-    if k.sent && known then Pass else Inconclusive doubts.FirstTime
+once_verdict k earlier.Never = if k.sent then Pass else Inconclusive doubts.FirstTime
+once_verdict k earlier.NotSeen = Inconclusive doubts.FirstTime
 once_verdict k (earlier.Again a) =
     if breaks_once k a then Fail (breaches.Again a.others)
     else Inconclusive (doubts.Again a.others)
@@ -72,5 +72,6 @@ pub record IsAgain (k : Claims) (tap : List Seen) (j : ℕ) (seen : Seen) (frame
 
 -- This was found of record j, a packet that the station forwarded.
 abbrev pub IsRelayAgain : Claims → List Seen → ℕ → Seen → Transmission → EarlierRelay → Type 0
-IsRelayAgain k tap j r t (earlier.None known) = IsRelayRecord k tap j r t
+IsRelayAgain k tap j r t earlier.Never = IsRelayRecord k tap j r t
+IsRelayAgain k tap j r t earlier.NotSeen = IsRelayRecord k tap j r t
 IsRelayAgain k tap j r t (earlier.Again a) = IsAgain k tap j r t a

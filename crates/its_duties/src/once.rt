@@ -40,8 +40,10 @@ pub struct RelayAgain {
 /// Whether the station forwarded a packet of this source and number before.
 #[derive(Clone, Copy, Debug, PartialEq, Eq)]
 pub enum EarlierRelay {
-    /// None is in the capture. `true`: the capture has each one that counts.
-    None(bool),
+    /// It did not: the capture has each frame that counts.
+    Never,
+    /// None is in the capture, but one may be from before it.
+    NotSeen,
     /// It did.
     Again(RelayAgain),
 }
@@ -66,12 +68,13 @@ fn once_of(claims: &Claims, earlier: EarlierRelay) -> Verdict
     ensures { result ≡ once_verdict claims.now earlier }
 {
     match earlier {
-        EarlierRelay::None(known) => {
-            if claims.sent && known {
+        EarlierRelay::Never => {
+            if claims.sent {
                 return Verdict::Pass;
             }
             Verdict::Inconclusive(Doubt::FirstTime)
         }
+        EarlierRelay::NotSeen => Verdict::Inconclusive(Doubt::FirstTime),
         EarlierRelay::Again(again) => {
             if breaks_once(claims, again) {
                 return Verdict::Fail(Breach::Again(again.others));
@@ -111,7 +114,7 @@ fn is_not_forgotten(claims: &Claims, again: RelayAgain) -> bool
 }
 
 /// Whether the table has room for so many sources for sure.
-fn has_room(capacity: Option<u32>, sources: u32) -> bool
+pub(crate) fn has_room(capacity: Option<u32>, sources: u32) -> bool
     ensures { result ≡ has_room capacity sources }
 {
     match capacity {
