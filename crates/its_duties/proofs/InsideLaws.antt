@@ -223,7 +223,7 @@ position_inside true outside e = refl
 position_inside false true e = cc
 position_inside false false e = cc
 
-inside_by : (k : Claims) (area : GeoArea) → position_in k area ≡ Inside
+pub inside_by : (k : Claims) (area : GeoArea) → position_in k area ≡ Inside
     → is_surely_inside k area ≡ true
 inside_by k area e = position_inside (is_surely_inside k area) (is_surely_outside k area) e
 

@@ -16,7 +16,12 @@ pub mod Remembered
 pub mod Injections
 pub mod OnceLaws
 pub mod AgainLaws
+pub mod Histories
+pub mod NamedSources
+pub mod OwedLaws
+pub mod FoundLaws
 pub mod AllLaws
 pub mod RowsOfBeacons
-mod RowsOfRelays
+pub mod RowsOfRelays
+mod RowsOfOwed
 mod RowsOfPlaces

@@ -202,7 +202,7 @@ number_there (r ∷ tap) (suc i) seen p n m at passes number other =
     by true rest = other_there (number_of_frame r.frame) n m (numbers_but n (filter p tap)) rest
     by false rest = rest
 
-distinct_has : (ns : List ℕ) (m : ℕ) → is_among m ns ≡ true → is_among m (distinct ns) ≡ true
+pub distinct_has : (ns : List ℕ) (m : ℕ) → is_among m ns ≡ true → is_among m (distinct ns) ≡ true
 distinct_has [] m e = e
 distinct_has (n ∷ ns) m e = by (eqb n m) refl (distinct_has ns m) e
   where
@@ -229,7 +229,7 @@ record Between (calls : List TimedCall) (n m : ℕ) (e : TimedCall) : Type 0 whe
   pub before : place < m
 
 -- the packet of a record that was heard
-heard_from : (k : Claims) (seen : Seen) (v : Transmission) (source : ℕ) → WasHeard k seen v
+pub heard_from : (k : Claims) (seen : Seen) (v : Transmission) (source : ℕ) → WasHeard k seen v
     → v.pdu.vector.address ≡ source → is_heard_from k source seen ≡ true
 heard_from k seen v source h is =
     both (is_heard k seen) (is_of source seen.frame) h.heard

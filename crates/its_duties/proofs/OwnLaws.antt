@@ -176,7 +176,7 @@ kind_proof k tap i r t all is fails w x =
 -- ---- the form
 
 -- what breaks the form of a packet
-breaks_by : (secured named breaks : Bool) (fault : FrameFault) (breach : Breach)
+pub breaks_by : (secured named breaks : Bool) (fault : FrameFault) (breach : Breach)
     → Fail breach
     ≡ cond secured (Inconclusive (doubts.OutsideProfile fault))
     (cond (not named) (Inconclusive (doubts.NotRead fault))
@@ -188,7 +188,7 @@ breaks_by false true true fault breach e = refl
 breaks_by false true false fault breach e = absurd (true≢false (ap is_fail e))
 
 -- no frame of the station has such a fault
-no_form_fault : (fault : FrameFault) (r : Seen) (u : Transmission) → IsRead r → r.cut ≡ false
+pub no_form_fault : (fault : FrameFault) (r : Seen) (u : Transmission) → IsRead r → r.cut ≡ false
     → Carries r u → InRange u → breaks_frame fault r.octets ≡ true → IsFrameFault r.octets fault
     → ⊥
 unfolding breaks_frame

@@ -46,7 +46,7 @@ source_there (a ∷ b ∷ c ∷ d ∷ e ∷ f ∷ g ∷ h ∷ i ∷ j ∷ k ∷ 
     ∙ big_number-reads_back 6 v.link_source [] small)
 source_there _ x y v long small is = absurd (omega arith)
 
-target_there : (w x y : List ℕ) (v : Transmission) → 14 ≤ length w → v.link_target < 2 ^ 48
+pub target_there : (w x y : List ℕ) (v : Transmission) → 14 ≤ length w → v.link_target < 2 ^ 48
     → w ++ x ≡ frame_octets v ++ y → number_at 0 6 w ≡ Some v.link_target
 unfolding link_header
 target_there (a ∷ b ∷ c ∷ d ∷ e ∷ f ∷ g ∷ h ∷ i ∷ j ∷ k ∷ l ∷ m ∷ n ∷ w) x y v long small is =
@@ -78,7 +78,7 @@ pub record Begins (w frame : List ℕ) : Type 0 where
   pub rest : List ℕ
   pub is : w ++ after ≡ frame ++ rest
 
-begins : (cut : Bool) (w frame rest : List ℕ) → HasOctets cut w frame rest → Begins w frame
+pub begins : (cut : Bool) (w frame rest : List ℕ) → HasOctets cut w frame rest → Begins w frame
 begins true w frame rest h = record { after = rest; rest = []; is = h ∙ sym (append-nil frame) }
 begins false w frame rest h = record { after = []; rest = rest; is = append-nil w ∙ h }
 
@@ -112,7 +112,7 @@ for_known true k target there v at same is =
     ap (is_for_it k.mac) at
     ∙ ap (λ (n : ℕ). eqb n k.mac || eqb n broadcast) (same refl) ∙ is
 
-both : (a b : Bool) → a ≡ true → b ≡ true → (a && b) ≡ true
+pub both : (a b : Bool) → a ≡ true → b ≡ true → (a && b) ≡ true
 both a b p q = ap (λ x. x && b) p ∙ q
 
 -- a record of such a frame with 14 octets comes to the station
@@ -137,7 +137,7 @@ of_other : (k : Claims) (o : Option Transmission) (u : Transmission) → o ≡ S
 of_other k o u is other =
     ap (is_of_other k.address) is ∙ ap not (ne_eqb u.pdu.vector.address k.address other)
 
-in_range : (v : Transmission) → IsTransmission v → InRange v
+pub in_range : (v : Transmission) → IsTransmission v → InRange v
 in_range v f = record { packet = f.packet; source = f.source }
 
 -- by what is read of the record
@@ -160,6 +160,10 @@ heard_by None k r v is read c f = inr (by r.cut refl)
   where
     u : Transmission
     u = sent_to c.target v
+
+    fields : IsTransmission u
+    fields =
+        record { target = c.in_range; source = f.fields.source; packet = f.fields.packet }
 
     either : (a b : Bool) → b ≡ true → (a || b) ≡ true
     either true b e = refl
@@ -194,7 +198,7 @@ heard_by None k r v is read c f = inr (by r.cut refl)
         record {
           none = is;
           comes = either (has_no_type r) _ (both _ _ there.0 there.1);
-          profile = λ profile e. (u, c.rest, whole cut);
+          profile = λ profile e. (u, fields, c.rest, whole cut);
         }
 
 -- ---- the stamps
@@ -225,7 +229,7 @@ pub record Forwarded (k : Claims) (shift : Shift) (retried : Bool)
   pub soon : stamp + shift.ahead
       ≤ nanos arrival + wait k + shift.behind + slack k + by_retry retried
 
-forwarded : (retried : Bool) (k : Claims) (shift : Shift) (stamp arrival moment left : ℕ)
+pub forwarded : (retried : Bool) (k : Claims) (shift : Shift) (stamp arrival moment left : ℕ)
     → arrival ≤ moment → moment ≤ left → nanos left ≤ nanos arrival + wait k
     → IsStampOfSent k shift retried stamp left → Forwarded k shift retried stamp arrival
 forwarded false k shift stamp arrival moment left a b c near = record {
@@ -373,7 +377,7 @@ latest_each last (t ∷ stamps) zero s at =
 latest_each last (t ∷ stamps) (suc n) s at =
     latest_each (cond (nat_le last t) t last) stamps n s at
 
-sending_last : (r : Seen) (n s : ℕ) → slice_get (sendings r) n ≡ Some s → s ≤ last_sending r
+pub sending_last : (r : Seen) (n s : ℕ) → slice_get (sendings r) n ≡ Some s → s ≤ last_sending r
 sending_last r zero s at =
     omega (arith, same_stamp r.moment s at, latest_last r.moment r.repeats)
 sending_last r (suc n) s at = latest_each r.moment r.repeats n s at

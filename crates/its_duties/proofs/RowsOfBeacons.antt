@@ -1,5 +1,5 @@
 -- Why a beacon fails only under premises: small scenarios, evaluated.
-use Rattle.std.proofs.Common.{◌≡◌, ℕ, zero, suc, ◌<◌, true, false, List, [], ◌∷◌}
+use Rattle.std.proofs.Common.{◌≡◌, ℕ, zero, suc, ◌<◌, ◌≤◌, true, false, List, [], ◌∷◌}
 use Rattle.std.proofs.Common.{◌++◌, Some, None, inl, refl, sym, subst, true≢false, arith}
 use Rattle.std.specs.Prelude.{pos, slice_get}
 use Rattle.its_gnvalue.specs.Values.{Position, broadcast}
@@ -11,7 +11,8 @@ use Rattle.its_model.specs.Calls.{OwnCall, ShbRequest}
 use Rattle.its_model.specs.Calls.OwnCall.{Tick, SendShb, Restart}
 use Rattle.its_model.specs.Calls.Call.{Own, Receive}
 use Rattle.its_model.specs.Calls.Answer.{Sent, Restarted}
-use Rattle.its_model.specs.Station.{StationModel, new_station, beacon_of, shb_of, own_step}
+use Rattle.its_model.specs.Station.{StationModel, last_moment, new_station, beacon_of, shb_of}
+use Rattle.its_model.specs.Station.{own_step}
 use Rattle.its_model.specs.Isolation.{TimedCall, answers_of}
 use Rattle.its_duties.specs.declared.claims.Claims.{Claims}
 use Rattle.its_duties.specs.declared.claims.AreaForwarding.TheVariants as areas
@@ -183,6 +184,8 @@ scenario = record {
   record_of = λ n. None;
   starts = starts;
   order = (omega arith, (omega arith, tt));
+  clock_range = λ n c e. of_both (λ (c : TimedCall). c.moment ≤ last_moment) _ _ n c e (omega arith)
+      (omega arith);
   begins = omega arith;
   in_range = λ n c e. of_both (λ (c : TimedCall). IsCall c.call) _ _ n c e tt (omega arith, message);
   heard = λ n c t e. of_both (λ (c : TimedCall). c.call ≡ Receive t

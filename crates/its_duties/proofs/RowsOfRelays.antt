@@ -1,6 +1,6 @@
 -- Why a forwarded packet fails only if all that was received is recorded: a small scenario,
 -- evaluated.
-use Rattle.std.proofs.Common.{◌≡◌, ℕ, zero, suc, true, false, List, [], ◌∷◌}
+use Rattle.std.proofs.Common.{◌≡◌, ℕ, zero, suc, ◌≤◌, true, false, List, [], ◌∷◌}
 use Rattle.std.proofs.Common.{Some, None, refl, sym, subst, ◌∙◌, true≢false, arith, inl}
 use Rattle.std.specs.Prelude.{pos, slice_get}
 use Rattle.its_gnvalue.specs.Values.{broadcast}
@@ -17,7 +17,7 @@ use Rattle.its_model.specs.Decision.{decision}
 use Rattle.its_model.specs.Calls.OwnCall.{Tick}
 use Rattle.its_model.specs.Calls.Call.{Receive}
 use Rattle.its_model.specs.Calls.Answer.{Sent, Accepted}
-use Rattle.its_model.specs.Station.{own_step, receive_step, verdict}
+use Rattle.its_model.specs.Station.{last_moment, own_step, receive_step, verdict}
 use Rattle.its_model.specs.Isolation.{TimedCall}
 use Rattle.its_duties.specs.declared.claims.Claims.{Claims}
 use Rattle.its_duties.specs.Seen.{Seen, is_heard}
@@ -34,11 +34,11 @@ use Rattle.its_duties.proofs.RowsOfBeacons.{of_both, starts, never, carries}
 abbrev lossy : Claims
 lossy = claims
 
-abbrev area : GeoArea
+abbrev pub area : GeoArea
 area = record { shape = Circle; centre = here; a = 100; b = 0; angle = 0 }
 
 -- a warning of station 02:00:00:00:02:00
-abbrev came : Transmission
+abbrev pub came : Transmission
 came = record {
   pdu = record {
     vector = record {
@@ -77,7 +77,7 @@ not_heard i r u h =
     true≢false (sym h.heard
     ∙ of_both (λ (r : Seen). is_heard lossy r ≡ false) _ _ i r h.at refl refl)
 
-came_fits : IsTransmission came
+pub came_fits : IsTransmission came
 came_fits = record {
   target = omega arith;
   source = omega arith;
@@ -110,7 +110,7 @@ came_fits = record {
   };
 }
 
-abbrev no_shift : Shift
+abbrev pub no_shift : Shift
 no_shift = record { ahead = 0; behind = 0 }
 
 came_there : IsReceived lossy tap no_shift came 4999 4999 None
@@ -121,7 +121,7 @@ came_there = record {
   arrives = inl refl;
 }
 
-same_frame : (t : Transmission) → Receive came ≡ Receive t → came ≡ t
+pub same_frame : (t : Transmission) → Receive came ≡ Receive t → came ≡ t
 same_frame t e = cc
 
 scenario : Scenario lossy tap
@@ -134,6 +134,8 @@ scenario = record {
   record_of = λ n. None;
   starts = starts;
   order = (omega arith, (omega arith, tt));
+  clock_range = λ n c e. of_both (λ (c : TimedCall). c.moment ≤ last_moment) _ _ n c e (omega arith)
+      (omega arith);
   begins = omega arith;
   in_range = λ n c e. of_both (λ (c : TimedCall). IsCall c.call) _ _ n c e tt came_fits;
   heard = λ n c t e. of_both (λ (c : TimedCall). c.call ≡ Receive t

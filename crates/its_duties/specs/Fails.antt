@@ -1,6 +1,5 @@
--- On which records of a tap each duty fails, and of which duties it is proved that a fail is a
--- proof.
-use Rattle.std.specs.Prelude.{ℕ, Bool, true, false, List}
+-- On which records of a tap each duty fails.
+use Rattle.std.specs.Prelude.{ℕ, List}
 use Rattle.its_duties.specs.declared.claims.Claims.{Claims}
 use Rattle.its_duties.specs.declared.duty.Duty.{Duty}
 use Rattle.its_duties.specs.declared.duty.Duty.TheVariants as duties
@@ -10,7 +9,8 @@ use Rattle.its_duties.specs.Verdicts.{lifetime_verdict}
 use Rattle.its_duties.specs.Duties.{FailsForm, FailsOwn, FailsBeacon, FailsKind}
 use Rattle.its_duties.specs.Numbers.{FailsNumbers}
 use Rattle.its_duties.specs.Forwarding.{FailsFaithful, FailsInTime, FailsStopsInside}
-use Rattle.its_duties.specs.Forwarding.{FailsAreaTarget, FailsNextHop, FailsOnce, FailsForward}
+use Rattle.its_duties.specs.Forwarding.{FailsAreaTarget, FailsNextHop, FailsOnce}
+use Rattle.its_duties.specs.Owed.{FailsForward}
 
 -- the duty fails on record i
 abbrev pub FailOf : Duty → Claims → List Seen → ℕ → Type 0
@@ -29,21 +29,3 @@ FailOf duties.InTime k tap i = FailsInTime k tap i
 FailOf duties.StopsInside k tap i = FailsStopsInside k tap i
 FailOf duties.NextHop k tap i = FailsNextHop k tap i
 FailOf duties.Forward k tap i = FailsForward k tap i
-
--- its law is proved
-abbrev pub has_law : Duty → Bool
-has_law duties.Form = true
-has_law duties.LinkTarget = true
-has_law duties.Mobile = true
-has_law duties.Hops = true
-has_law duties.Lifetime = true
-has_law duties.Numbers = true
-has_law duties.BeaconNotEarly = true
-has_law duties.AreaTarget = true
-has_law duties.Faithful = true
-has_law duties.Kind = true
-has_law duties.Once = true
-has_law duties.InTime = true
-has_law duties.StopsInside = true
-has_law duties.NextHop = true
-has_law duties.Forward = false

@@ -15,10 +15,9 @@ use Rattle.its_duties.specs.declared.claims.Claims.{Claims}
 use Rattle.its_duties.specs.declared.claims.AreaForwarding.TheVariants as areas
 use Rattle.its_duties.specs.Seen.{Seen, is_of, is_heard, is_relay, sendings, last_sending}
 use Rattle.its_duties.specs.Times.{Stretch, lies_in, caused_in, life, wait, slack, retry_time}
-use Rattle.its_duties.specs.Times.{begin_of, end_of}
+use Rattle.its_duties.specs.Times.{begin_of}
 use Rattle.its_duties.specs.Places.{is_surely_inside}
-use Rattle.its_duties.specs.Heard.{IsCopy, has_number, is_heard_from, run_before, is_closed, is_new}
-use Rattle.its_duties.specs.Heard.{oldest, sources_in, has_room, NoUnread, NoneSent, may_be_relay}
+use Rattle.its_duties.specs.Heard.{IsCopy, has_number, is_heard_from, sources_in, has_room, NoUnread}
 use Rattle.its_duties.specs.Duties.{IsOwnRecord, IsRelayRecord}
 
 -- ---- what a forwarded packet was made from
@@ -236,74 +235,3 @@ pub record FailsOnce (k : Claims) (tap : List Seen) (j : ℕ) : Type 0 where
   pub room_known : k.fresh ≡ false
       → begin_of tap + life k + 2 * wait k + 2 * slack k ≤ before.moment
   pub all_read : NoUnread k tap (table_time k before.moment seen.moment)
-
--- ---- what was accepted is forwarded (10.3.11.3)
-
--- Record i, a packet for an area that was heard, is owed: the station accepted it for sure, inside
--- of its area and with another hop, and it forwards it within the longest wait.
-pub record IsOwed (k : Claims) (tap : List Seen) (i : ℕ) (r : Seen) (t : Transmission)
-    (n : ℕ) (area : GeoArea) : Type 0 where
-  pub at : slice_get tap i ≡ Some r
-  pub heard : is_heard k r ≡ true
-  pub frame : r.frame ≡ Some t
-  pub number : number_in t.pdu.body ≡ Some n
-  pub area_is : area_in t.pdu.body ≡ Some area
-  -- a geoanycast inside goes no further
-  pub for_all : (m : ℕ) (area : GeoArea) (message : Message) → t.pdu.body ≡ gac m area message → ⊥
-  pub sent : k.sent ≡ true
-  pub received : k.received ≡ true
-  pub delivered : k.delivered ≡ true
-  pub unlimited : k.unlimited ≡ true
-  pub unbuffered : k.unbuffered ≡ true
-  pub simple : k.area ≡ areas.Simple
-  pub known_target : r.known_target ≡ true
-  pub hops : 2 ≤ t.hops_left
-  pub new : is_new k tap i r t ≡ true
-  pub closed : is_closed k tap r.moment
-      (run_before k tap i r.moment t.pdu.vector.address) ≡ true
-  -- each other record of it that may be accepted in its place is a copy with another hop
-  pub copies : (m : ℕ) (s : Seen) (u : Transmission) → slice_get tap m ≡ Some s → i < m
-      → s.moment ≤ last_sending r + wait k + 2 * slack k → is_heard k s ≡ true
-      → s.frame ≡ Some u → is_packet t.pdu.vector.address n s ≡ true
-      → IsCopy k t.pdu u.pdu × (2 ≤ u.hops_left)
-  pub room : has_room k.capacity (sources_in k (record {
-    from = r.moment - life k - wait k - 2 * slack k;
-    to = last_sending r + wait k + 2 * slack k;
-  }) tap) ≡ true
-  pub steady : k.steady ≡ true
-  pub inside : is_surely_inside k area ≡ true
-  pub all_read : NoUnread k tap (record {
-    from = oldest r.moment (run_before k tap i r.moment t.pdu.vector.address) - life k - wait k
-        - 2 * slack k;
-    to = last_sending r + wait k + 2 * slack k;
-  })
-
--- the last sending of any record of the packet up to a stamp
-abbrev pub last_copy : Claims → ℕ → ℕ → ℕ → ℕ → List Seen → ℕ
-last_copy k source n until last [] = last
-last_copy k source n until last (r ∷ tap) =
-    if is_heard k r && is_packet source n r && nat_le r.moment until
-    && nat_lt last (last_sending r)
-    then last_copy k source n until (last_sending r) tap
-    else last_copy k source n until last tap
-
--- it is owed, and not forwarded
-pub record FailsForward (k : Claims) (tap : List Seen) (i : ℕ) : Type 0 where
-  pub seen : Seen
-  pub frame : Transmission
-  pub number : ℕ
-  pub area : GeoArea
-  pub owed : IsOwed k tap i seen frame number area
-  pub until : ℕ
-  pub until_is : until
-      ≡ last_copy k frame.pdu.vector.address number
-      (last_sending seen + wait k + 2 * slack k) (last_sending seen) tap + wait k + 2 * slack k
-  -- The tap goes on until then. Frames may come again on IEEE 802.11.
-  pub goes_on : until + by_retry seen.wireless ≤ end_of k tap
-  pub not_forwarded : (j : ℕ) (s : Seen) → slice_get tap j ≡ Some s → is_relay k s ≡ true
-      → is_packet frame.pdu.vector.address number s ≡ true
-      → seen.moment ≤ s.moment + 2 * slack k → s.moment ≤ until → ⊥
-  pub all_read : NoneSent (may_be_relay k) tap (record {
-    from = seen.moment - 2 * slack k;
-    to = until;
-  })

@@ -1,16 +1,15 @@
--- What the station may have heard of a source: runs of records, what is new in them, and whether
+-- What the station may have heard of a source: copies of a packet, how many sources, and whether
 -- another record may be missing.
 use Rattle.std.specs.Prelude.{◌≡◌, ◌⊎◌, ℕ, ◌+◌, ◌<◌, Bool, true, false, not, ◌&&◌, ◌||◌}
-use Rattle.std.specs.Prelude.{nat_le, nat_lt, if◌then◌else◌, List, [], ◌∷◌, filter, reverse, take}
+use Rattle.std.specs.Prelude.{nat_le, List, [], ◌∷◌, filter}
 use Rattle.std.specs.Prelude.{length, Option, Some, None, slice_get, is_none}
-use Rattle.std.specs.List.{list_any}
 use Rattle.its_gnvalue.specs.Values.{lifetime_millis}
 use Rattle.its_model.specs.Packet.{Pdu, Transmission, number_in}
 use Rattle.its_model.specs.Log.{distinct}
 use Rattle.its_duties.specs.declared.claims.Claims.{Claims}
 use Rattle.its_duties.specs.Seen.{Seen, is_of, is_heard, is_unread_sent, is_number, named_source}
-use Rattle.its_duties.specs.Seen.{has_no_type, last_sending, IsUnread}
-use Rattle.its_duties.specs.Times.{Stretch, lies_in, reach, begin_of}
+use Rattle.its_duties.specs.Seen.{has_no_type, IsUnread}
+use Rattle.its_duties.specs.Times.{Stretch, lies_in}
 
 -- ---- copies of a packet
 
@@ -31,41 +30,6 @@ has_number n (Some t) = is_number n (number_in t.pdu.body)
 
 abbrev pub is_heard_from : Claims → ℕ → Seen → Bool
 is_heard_from k source r = is_heard k r && is_of source r.frame
-
--- those that were heard, the newest first
-abbrev pub heard_from : Claims → ℕ → List Seen → List Seen
-heard_from k source tap = reverse (filter (is_heard_from k source) tap)
-
--- The newest of these, back to the first gap: each was sent less than a reach before the one that
--- followed it, and the newest less than that before this stamp.
-abbrev pub run_back : Claims → ℕ → List Seen → List Seen
-run_back k stamp [] = []
-run_back k stamp (r ∷ older) =
-    if nat_lt stamp (last_sending r + reach k) then r ∷ run_back k r.moment older else []
-
--- The run of a source before record i, which has this stamp.
-abbrev pub run_before : Claims → List Seen → ℕ → ℕ → ℕ → List Seen
-run_before k tap i stamp source = run_back k stamp (heard_from k source (take i tap))
-
--- the stamp of the oldest record of a run; of none this stamp
-abbrev pub oldest : ℕ → List Seen → ℕ
-oldest stamp [] = stamp
-oldest stamp (r ∷ older) = oldest r.moment older
-
--- A run is open if it may go on before the begin: not if the station knew nobody then, and not if
--- it begins a reach after the begin, or later.
-abbrev pub is_closed : Claims → List Seen → ℕ → List Seen → Bool
-is_closed k tap stamp run = k.fresh || nat_le (begin_of tap + reach k) (oldest stamp run)
-
--- a packet for an area is new if no record of the run before it has its number
-abbrev pub is_new_by : Option ℕ → List Seen → Bool
-is_new_by None run = true
-is_new_by (Some n) run = not (list_any (λ r. has_number n r.frame) run)
-
--- record i, with this packet, is new
-abbrev pub is_new : Claims → List Seen → ℕ → Seen → Transmission → Bool
-is_new k tap i r t =
-    is_new_by (number_in t.pdu.body) (run_before k tap i r.moment t.pdu.vector.address)
 
 -- ---- how many sources
 

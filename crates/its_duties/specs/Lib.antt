@@ -10,4 +10,5 @@ pub mod Forwarding
 pub mod Relays
 pub mod Inside
 pub mod Once
+pub mod Owed
 pub mod Fails

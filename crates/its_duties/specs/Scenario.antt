@@ -13,7 +13,7 @@ use Rattle.its_model.specs.Calls.{OwnCall, Call, Answer, ShbRequest, GbcRequest}
 use Rattle.its_model.specs.Calls.OwnCall.{Move, Open, Close, Tick, SendShb, SendGbc, SendGac}
 use Rattle.its_model.specs.Calls.OwnCall.{Restart}
 use Rattle.its_model.specs.Calls.Call.{Own, Receive, Junk}
-use Rattle.its_model.specs.Station.{StationModel}
+use Rattle.its_model.specs.Station.{StationModel, last_moment}
 use Rattle.its_model.specs.World.{frame_of}
 use Rattle.its_model.specs.Isolation.{TimedCall, answers_of, NeverFalls}
 use Rattle.its_duties.specs.declared.claims.Claims.{Claims}
@@ -136,6 +136,8 @@ pub record Scenario (k : Claims) (tap : List Seen) : Type 0 where
   pub record_of : ℕ → Option ℕ  -- the number of the record of that frame
   pub starts : IsStart k start
   pub order : NeverFalls 0 calls
+  -- the station's clock is in the range that it has: a later call is refused
+  pub clock_range : (n : ℕ) (c : TimedCall) → IsAsked calls n c → c.moment ≤ last_moment
   -- the station's clock is not after the begin
   pub begins : nanos start.clock + shift.behind ≤ begin_of tap + shift.ahead + slack k
   pub in_range : (n : ℕ) (c : TimedCall) → IsAsked calls n c → IsCall c.call

@@ -7,7 +7,7 @@ use Rattle.byteorder.specs.Endian.{big_number}
 use Rattle.its_gnvalue.specs.Values.{broadcast}
 use Rattle.its_headers.specs.Encoding.{IsBytes}
 use Rattle.its_model.specs.Packet.{Transmission}
-use Rattle.its_linkframe.specs.Frames.{EncodesFrame, frame_octets}
+use Rattle.its_linkframe.specs.Frames.{EncodesFrame, IsTransmission, frame_octets}
 use Rattle.its_duties.specs.declared.claims.Claims.{Claims}
 
 -- A record. Its octets are those of a frame as Ethernet has it: link target, link source, type and
@@ -27,6 +27,15 @@ pub record Seen : Type 0 where
 -- all stamps of a record
 abbrev pub sendings : Seen → List ℕ
 sendings r = r.moment ∷ r.repeats
+
+-- the first of these, or this one
+abbrev pub earliest : ℕ → List ℕ → ℕ
+earliest first [] = first
+earliest first (stamp ∷ stamps) = earliest (if nat_le stamp first then stamp else first) stamps
+
+-- when it was sent first
+abbrev pub first_sending : Seen → ℕ
+first_sending r = earliest r.moment r.repeats
 
 -- the last of these, or this one
 abbrev pub latest : ℕ → List ℕ → ℕ
@@ -184,4 +193,4 @@ pub record IsUnread (k : Claims) (r : Seen) : Type 0 where
   pub none : r.frame ≡ None
   pub comes : (has_no_type r || (comes_to_it k r && is_geonetworking r)) ≡ true
   pub profile : k.profile ≡ true → (r.cut || is_secured r) ≡ false
-      → (t : Transmission) × (rest : List ℕ) × (r.octets ≡ frame_octets t ++ rest)
+      → (t : Transmission) × IsTransmission t × (rest : List ℕ) × (r.octets ≡ frame_octets t ++ rest)

@@ -15,17 +15,19 @@
 //! the true times as claimed, and no transmission is recorded twice but for repeats of the link.
 //! What the caller found in the capture has to be so: the gap before a beacon (`IsBeaconAfter`),
 //! what a forwarded packet was made from (`IsSearch`), whether it was forwarded before
-//! (`IsRelayAgain`), the step from one sequence number to the next (`IsNumberStep`).
-//! `laws::a_fail_is_proof` says the same of the definitions, for each duty that has a law
-//! (`has_law`). `judge_lifetime`, `judge_beacon`, `judge_numbers`, `judge_faithful`,
-//! `judge_in_time`, `judge_once` and this law are of claims that the model has (`IsModelled`).
+//! (`IsRelayAgain`), the step from one sequence number to the next (`IsNumberStep`), whether a
+//! packet that was heard was forwarded (`IsFound`). `laws::a_fail_is_proof` says the same of the
+//! definitions. `judge_lifetime`, `judge_beacon`, `judge_numbers`, `judge_faithful`,
+//! `judge_in_time`, `judge_once`, `judge_relay_owed` and this law are of claims that the model has
+//! (`IsModelled`).
 //!
 //! A station that stands still is inside of an area for sure if each place that the claims allow is.
 //! `judge_stops_inside`, `judge_area_target` and `judge_next_hop` fail only then.
 //!
 //! Evaluated in `proofs/Rows*.antt`: why a beacon fails only if the station did not restart, and
 //! only if its call was later for sure; why a forwarded packet fails only if all that was received
-//! is recorded; places near a border, and boxes that reach round the earth.
+//! is recorded, and one that was heard only if it came after the begin; places near a border, and
+//! boxes that reach round the earth.
 //!
 //! No call has a condition, and none takes memory, by their types.
 //!
@@ -44,6 +46,7 @@ pub mod laws;
 mod numbers;
 mod octets;
 mod once;
+mod owed;
 mod own;
 mod places;
 mod relays;
@@ -59,7 +62,8 @@ pub use inside::{judge_area_target, judge_next_hop, judge_stops_inside};
 pub use numbers::{NumberStep, judge_numbers};
 pub use octets::named_source;
 pub use once::{EarlierRelay, RelayAgain, judge_once};
+pub use owed::{OwedSearch, RelaySeen, judge_relay_owed};
 pub use own::{judge_hops, judge_kind, judge_lifetime, judge_link_target, judge_mobile};
 pub use relays::{PacketOrigin, RelaySearch, judge_faithful, judge_in_time};
 pub use spans::{doubt_between, lag, longest, slack, wait};
-pub use verdict::{Breach, Doubt, Verdict};
+pub use verdict::{Breach, Doubt, NotOwed, Verdict};

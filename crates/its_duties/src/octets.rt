@@ -42,6 +42,17 @@ pub(crate) fn u16_at(octets: &[u8], place: u8) -> Option<u16>
     None
 }
 
+/// The number of six octets at a place.
+pub(crate) fn u48_at(octets: &[u8], place: u8) -> Option<u64>
+    ensures { result ≡ number_at place 6 octets.now }
+{
+    let at = place as usize;
+    if at + 6 <= octets.len() {
+        return Some(BigEndian::read_u48(rest_from(octets, at)));
+    }
+    None
+}
+
 /// The number of eight octets at a place.
 fn u64_at(octets: &[u8], place: u8) -> Option<u64>
     ensures { result ≡ number_at place 8 octets.now }

@@ -44,6 +44,8 @@ pub enum Breach {
     InsideArea,
     /// Inside of its area a packet was sent to this link address, and not to all.
     InsideTo(Mac),
+    /// A packet that was accepted, with another hop left, was not forwarded.
+    NotForwarded,
 }
 
 /// Why it isn't known whether a record obeys a rule.
@@ -83,4 +85,39 @@ pub enum Doubt {
     OutsideArea,
     /// Inside of its area a packet was sent to one station. No claim says that it goes to all.
     InsideToOne,
+    /// A packet that was heard was not forwarded, and for this reason need not be for sure.
+    NotOwed(NotOwed),
+}
+
+/// Why it isn't sure that a packet that was heard has to be forwarded.
+#[derive(Clone, Copy, Debug, PartialEq, Eq)]
+pub enum NotOwed {
+    /// No claim says that each frame that the station sent is in the capture.
+    Sent,
+    /// No claim says that each frame that it received is in the capture: one may have come before.
+    Received,
+    /// No claim says that each frame of the capture reached it.
+    Delivered,
+    /// No claim says that the station has no limit on what it forwards.
+    Limited,
+    /// No claim says that it keeps no packet.
+    Buffered,
+    /// No claim says that it forwards at once inside of an area.
+    OtherForwarding,
+    /// The capture doesn't have the link target.
+    NoLinkTarget,
+    /// The station may have heard the number before the capture began.
+    KnownBefore,
+    /// Another packet of its number may have been accepted in its place, or was forwarded.
+    OtherPacket,
+    /// Its location table may have been full.
+    TableFull,
+    /// No claim says that it did not restart.
+    Restarted,
+    /// It isn't known whether the station is inside of the area.
+    PlaceUnsure,
+    /// The capture ends before the frame would have to be in it.
+    CaptureEnds,
+    /// A record isn't read that may be another packet of its number, or the frame.
+    NotRead,
 }
