@@ -20,6 +20,8 @@ pub mod Histories
 pub mod NamedSources
 pub mod OwedLaws
 pub mod FoundLaws
+pub mod RoleLaws
+pub mod AskedLaws
 pub mod AllLaws
 pub mod RowsOfBeacons
 pub mod RowsOfRelays

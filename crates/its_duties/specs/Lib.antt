@@ -11,4 +11,5 @@ pub mod Relays
 pub mod Inside
 pub mod Once
 pub mod Owed
+pub mod Roles
 pub mod Fails

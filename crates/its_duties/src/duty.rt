@@ -2,6 +2,11 @@
 
 ghost use Rattle.std.specs.Prelude.{◌≡◌};
 ghost use Rattle.its_duties.specs.Duties.{number_of};
+ghost use Rattle.its_duties.specs.Roles.{is_for_area, is_beacon_kind, is_anycast_kind};
+ghost use Rattle.its_duties.specs.Roles.{is_own_duty, is_relay_duty, is_form, is_forward, is_asked};
+
+use crate::role::Role;
+use its_headers::Kind;
 
 /// A duty: a rule that a record of the capture obeys or breaks (EN 302 636-4-1).
 #[derive(Clone, Copy, Debug, PartialEq, Eq)]
@@ -60,5 +65,134 @@ impl Duty {
             Duty::NextHop => 19,
             Duty::Forward => 20,
         }
+    }
+
+    /// Whether the duty is asked of a record with this role, and with a packet of this kind if it is
+    /// read. Of a packet that was heard and of one that was forwarded, another verdict may be a
+    /// reason not to ask.
+    pub fn is_asked(self, role: Role, kind: Option<Kind>) -> bool
+        ensures { result ≡ is_asked self role kind }
+    {
+        match role {
+            Role::Own => is_own_duty(self, kind),
+            Role::Forwarded => is_relay_duty(self, kind),
+            Role::SentUnread => is_form(self),
+            Role::Heard => is_forward(self) && is_for_area(kind),
+            Role::SentOther | Role::Unread | Role::Untyped | Role::Other => false,
+        }
+    }
+}
+
+/// Whether the duty is one of an own packet of this kind.
+fn is_own_duty(duty: Duty, kind: Option<Kind>) -> bool
+    ensures { result ≡ is_own_duty duty kind }
+{
+    match duty {
+        Duty::Form | Duty::LinkTarget | Duty::Mobile | Duty::Hops | Duty::Lifetime => true,
+        Duty::Numbers | Duty::AreaTarget => is_for_area(kind),
+        Duty::BeaconNotEarly => is_beacon_kind(kind),
+        Duty::Faithful
+        | Duty::Kind
+        | Duty::Once
+        | Duty::InTime
+        | Duty::StopsInside
+        | Duty::NextHop
+        | Duty::Forward => false,
+    }
+}
+
+/// Whether the duty is one of a packet of this kind that was forwarded.
+fn is_relay_duty(duty: Duty, kind: Option<Kind>) -> bool
+    ensures { result ≡ is_relay_duty duty kind }
+{
+    match duty {
+        Duty::Kind => true,
+        Duty::Faithful | Duty::Once | Duty::InTime | Duty::NextHop => is_for_area(kind),
+        Duty::StopsInside => is_anycast_kind(kind),
+        Duty::Form
+        | Duty::LinkTarget
+        | Duty::Mobile
+        | Duty::Hops
+        | Duty::Lifetime
+        | Duty::Numbers
+        | Duty::BeaconNotEarly
+        | Duty::AreaTarget
+        | Duty::Forward => false,
+    }
+}
+
+/// Whether it is the duty of a frame that isn't read.
+fn is_form(duty: Duty) -> bool
+    ensures { result ≡ is_form duty }
+{
+    match duty {
+        Duty::Form => true,
+        Duty::LinkTarget
+        | Duty::Mobile
+        | Duty::Hops
+        | Duty::Lifetime
+        | Duty::Numbers
+        | Duty::BeaconNotEarly
+        | Duty::AreaTarget
+        | Duty::Faithful
+        | Duty::Kind
+        | Duty::Once
+        | Duty::InTime
+        | Duty::StopsInside
+        | Duty::NextHop
+        | Duty::Forward => false,
+    }
+}
+
+/// Whether it is the duty of a packet that was heard.
+fn is_forward(duty: Duty) -> bool
+    ensures { result ≡ is_forward duty }
+{
+    match duty {
+        Duty::Forward => true,
+        Duty::Form
+        | Duty::LinkTarget
+        | Duty::Mobile
+        | Duty::Hops
+        | Duty::Lifetime
+        | Duty::Numbers
+        | Duty::BeaconNotEarly
+        | Duty::AreaTarget
+        | Duty::Faithful
+        | Duty::Kind
+        | Duty::Once
+        | Duty::InTime
+        | Duty::StopsInside
+        | Duty::NextHop => false,
+    }
+}
+
+/// Whether a packet of this kind has an area and a sequence number.
+fn is_for_area(kind: Option<Kind>) -> bool
+    ensures { result ≡ is_for_area kind }
+{
+    match kind {
+        Some(Kind::Gbc | Kind::Gac) => true,
+        Some(Kind::Beacon | Kind::Shb) | None => false,
+    }
+}
+
+/// Whether it is a beacon.
+fn is_beacon_kind(kind: Option<Kind>) -> bool
+    ensures { result ≡ is_beacon_kind kind }
+{
+    match kind {
+        Some(Kind::Beacon) => true,
+        Some(Kind::Shb | Kind::Gbc | Kind::Gac) | None => false,
+    }
+}
+
+/// Whether it is a geoanycast.
+fn is_anycast_kind(kind: Option<Kind>) -> bool
+    ensures { result ≡ is_anycast_kind kind }
+{
+    match kind {
+        Some(Kind::Gac) => true,
+        Some(Kind::Beacon | Kind::Shb | Kind::Gbc) | None => false,
     }
 }

@@ -21,6 +21,9 @@
 //! `judge_in_time`, `judge_once`, `judge_relay_owed` and this law are of claims that the model has
 //! (`IsModelled`).
 //!
+//! `role_of` tells what a record is to the station, and `Duty::is_asked` which duties are asked of
+//! it. `laws::nothing_is_left_out`: a record that fails a duty fails one that is asked.
+//!
 //! A station that stands still is inside of an area for sure if each place that the claims allow is.
 //! `judge_stops_inside`, `judge_area_target` and `judge_next_hop` fail only then.
 //!
@@ -50,6 +53,7 @@ mod owed;
 mod own;
 mod places;
 mod relays;
+mod role;
 mod sines;
 mod spans;
 mod verdict;
@@ -65,5 +69,6 @@ pub use once::{EarlierRelay, RelayAgain, judge_once};
 pub use owed::{OwedSearch, RelaySeen, judge_relay_owed};
 pub use own::{judge_hops, judge_kind, judge_lifetime, judge_link_target, judge_mobile};
 pub use relays::{PacketOrigin, RelaySearch, judge_faithful, judge_in_time};
+pub use role::{FrameSource, RecordFacts, Role, role_of};
 pub use spans::{doubt_between, lag, longest, slack, wait};
 pub use verdict::{Breach, Doubt, NotOwed, Verdict};
