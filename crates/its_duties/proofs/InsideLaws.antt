@@ -122,7 +122,7 @@ relayed_inside (gac number a message) s moment v u area is inside e =
     (holds_same a area s.vector.place is inside) e)
 
 -- a geoanycast stops there
-anycast_stops : (body : Body) (s : StationModel) (moment : ℕ) (v u : Transmission) (number : ℕ)
+pub anycast_stops : (body : Body) (s : StationModel) (moment : ℕ) (v u : Transmission) (number : ℕ)
     (area : GeoArea) (message : Message)
     → body ≡ gac number area message → area_holds area s.vector.place ≡ true
     → relayed s moment v body ≡ Some u → ⊥
@@ -139,7 +139,7 @@ accepted_frame (Refuse r) s moment t u e = cc
 accepted_frame (Ignore why) s moment t u e = cc
 accepted_frame Accept s moment t u e = e
 
-received_frame : (s : StationModel) (moment : ℕ) (t u : Transmission)
+pub received_frame : (s : StationModel) (moment : ℕ) (t u : Transmission)
     → frame_of (receive_step s moment t).answer ≡ Some u
     → relayed (after_hearing s moment t) moment t t.pdu.body ≡ Some u
 unfolding receive_step

@@ -22,8 +22,9 @@ pub mod OwedLaws
 pub mod FoundLaws
 pub mod RoleLaws
 pub mod AskedLaws
+pub mod WireLaws
 pub mod AllLaws
 pub mod RowsOfBeacons
 pub mod RowsOfRelays
-mod RowsOfOwed
+pub mod RowsOfOwed
 mod RowsOfPlaces

@@ -62,7 +62,7 @@ use Rattle.its_duties.proofs.NamedSources.{other_named}
 
 -- ---- the sendings of a record
 
-is_at_most : (a b : ℕ) → nat_le a b ≡ true → a ≤ b
+pub is_at_most : (a b : ℕ) → nat_le a b ≡ true → a ≤ b
 is_at_most a b e = grind (arith, nat_tests)
 
 is_above : (a b : ℕ) → nat_le a b ≡ false → b ≤ a
@@ -568,7 +568,7 @@ for_known : (known : Bool) (mac target : ℕ) (there : Option ℕ) → known ≡
 for_known true mac target there known at is = ap (is_for_it mac) (sym at) ∙ is
 for_known false mac target there known at is = absurd (true≢false (sym known))
 
-for_it : (k : Claims) (r : Seen) (t u : Transmission) (s : StationModel) → IsRead r
+pub for_it : (k : Claims) (r : Seen) (t u : Transmission) (s : StationModel) → IsRead r
     → r.frame ≡ Some t → Carries r u → r.known_target ≡ true → is_heard k r ≡ true
     → IsModelled k → s.address ≡ k.address → is_for s u ≡ true
 for_it k r t u s read frame c known heard modelled address =
@@ -584,7 +584,7 @@ for_it k r t u s read frame c known heard modelled address =
     ∙ ap (λ (n : ℕ). eqb n k.mac || eqb n broadcast) (sym (c.same_target known))
     ∙ for_known r.known_target k.mac c.target (number_at 0 6 r.octets) known target is
 
-other_source : (o : Option Transmission) (address : ℕ) (t : Transmission) → o ≡ Some t
+pub other_source : (o : Option Transmission) (address : ℕ) (t : Transmission) → o ≡ Some t
     → is_of_other address o ≡ true → t.pdu.vector.address ≢ address
 other_source o address t is other =
     eqb-false t.pdu.vector.address address

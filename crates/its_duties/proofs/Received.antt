@@ -36,7 +36,7 @@ use Rattle.its_duties.proofs.Causes.{relay_cause}
 
 -- ---- addresses and type of octets that begin as a frame does
 
-source_there : (w x y : List ℕ) (v : Transmission) → 14 ≤ length w → v.link_source < 2 ^ 48
+pub source_there : (w x y : List ℕ) (v : Transmission) → 14 ≤ length w → v.link_source < 2 ^ 48
     → w ++ x ≡ frame_octets v ++ y → number_at 6 6 w ≡ Some v.link_source
 unfolding link_header
 source_there (a ∷ b ∷ c ∷ d ∷ e ∷ f ∷ g ∷ h ∷ i ∷ j ∷ k ∷ l ∷ m ∷ n ∷ w) x y v long small is =
@@ -396,7 +396,7 @@ found_by false p x xs is e rest =
     (let f = rest e in
     record { number = suc f.number; stamp = f.stamp; at = f.at; passes = f.passes })
 
-any_found : (p : ℕ → Bool) (xs : List ℕ) → list_any p xs ≡ true → Found p xs
+pub any_found : (p : ℕ → Bool) (xs : List ℕ) → list_any p xs ≡ true → Found p xs
 any_found p [] e = absurd (true≢false (sym e))
 any_found p (x ∷ xs) e = found_by (p x) p x xs refl e (λ rest. any_found p xs rest)
 

@@ -32,7 +32,7 @@ use Rattle.its_duties.proofs.RowsOfBeacons.{seen_at, of_both, starts, never, car
 use Rattle.its_duties.proofs.RowsOfRelays.{area, came, came_fits, same_frame, no_shift}
 
 -- all is claimed
-abbrev sure : Claims
+abbrev pub sure : Claims
 sure = record claims {
   place = Some here;
   accuracy = 0;

@@ -60,7 +60,7 @@ came = record {
   link_target = broadcast;
 }
 
-abbrev forwarded : Transmission
+abbrev pub forwarded : Transmission
 forwarded = relay came mac broadcast
 
 abbrev calls : List TimedCall

@@ -13,3 +13,4 @@ pub mod Once
 pub mod Owed
 pub mod Roles
 pub mod Fails
+pub mod Wire

@@ -23,6 +23,8 @@
 //!
 //! `role_of` tells what a record is to the station, and `Duty::is_asked` which duties are asked of
 //! it. `laws::nothing_is_left_out`: a record that fails a duty fails one that is asked.
+//! `laws::a_wire_is_decided`: on a wire (`IsWire`) a frame that is missing, or that isn't what a
+//! station of the model gives, fails a duty.
 //!
 //! A station that stands still is inside of an area for sure if each place that the claims allow is.
 //! `judge_stops_inside`, `judge_area_target` and `judge_next_hop` fail only then.
