@@ -177,6 +177,13 @@ static const char *drawn_id(void) {
     return ids[drawn(7)];
 }
 
+static const char *drawn_media(void) {
+    static const char *const media[] = {
+        "", "", "\"media\":\"4d00A0ff\",", "\"media\":\"00000000\",", "\"media\":\"4d00a0f\",",
+    };
+    return media[drawn(5)];
+}
+
 static size_t write_area_line(const char *id) {
     static const char *const shapes[] = { "circle", "rectangle", "ellipse", "elipse" };
     static const uint32_t below[10] = { 4, 70000, 256, 256, 256, 2000, 4000, 1000, 1000, 360 };
@@ -218,8 +225,9 @@ static size_t write_good_line(void) {
     case 2: return print_line("{%s\"do\":\"tick\",\"jitter\":%s}", id, c);
     case 3:
         write_hex(hex, payload, drawn(60));
-        return print_line("{%s\"do\":\"shb\",\"port\":%u,\"info\":%s,\"tc\":3,\"payload\":\"%s\"}",
-                          id, port, c, hex);
+        return print_line("{%s\"do\":\"shb\",\"port\":%u,\"info\":%s,\"tc\":3,%s"
+                          "\"payload\":\"%s\"}",
+                          id, port, c, drawn_media(), hex);
     case 4: return write_area_line(id);
     case 5:
         write_hex(hex, frame, write_frame());
@@ -307,10 +315,13 @@ static void send(geostation_handle *s, uint64_t at) {
     area.b = (uint16_t)drawn(600);
     area.angle = (uint16_t)drawn(400);
     const struct geostation_shb_request shb = { area.port, area.info, area.traffic_class };
+    const struct geostation_shb_options options = {
+        area.lifetime, { (uint8_t)area.a, (uint8_t)area.b, area.max_hops, (uint8_t)area.angle },
+    };
     const size_t length = drawn(10) == 0 ? drawn(1400) : drawn(60);
     size_t sent = 0;
     int status = 0;
-    switch (drawn(4)) {
+    switch (drawn(5)) {
     case 0: {
         const uint64_t jitter = dirty(drawn(760), 16);
         status = wide_tick(s, at, jitter, out, sizeof out, &sent);
@@ -321,6 +332,10 @@ static void send(geostation_handle *s, uint64_t at) {
         break;
     case 2:
         status = geostation_send_gbc(s, at, &area, payload, length, out, sizeof out, &sent);
+        break;
+    case 3:
+        status = geostation_send_shb_with(s, at, &shb, &options, payload, length, out, sizeof out,
+                                          &sent);
         break;
     default:
         status = geostation_send_gac(s, at, &area, payload, length, out, sizeof out, &sent);
@@ -338,6 +353,7 @@ static void receive(geostation_handle *s, uint64_t at) {
         r.due, r.held, r.cancelled,
     };
     add_octets(fields, sizeof fields);
+    add_octets(r.media, sizeof r.media);
     add_sent(status, r.relay_length);
     accepted += status == GEOSTATION_OK;
     delivered += r.delivered;

@@ -2,7 +2,7 @@
  * @file geostation.h
  * A GeoNetworking and BTP-B station (EN 302 636-4-1, EN 302 636-5-1) for C11 and C++.
  *
- * Link with `libgeostation.a` or `libgeostation.so.4`. The library has no global state, does no
+ * Link with `libgeostation.a` or `libgeostation.so.5`. The library has no global state, does no
  * input or output, and reads no clock. You pass in the time, the position and the frames that you
  * received. You get payloads, and frames to send.
  *
@@ -106,7 +106,7 @@ extern "C" {
 /** The version of the library. */
 #define GEOSTATION_VERSION "0.3.0"
 /** The version of the structs and functions in this header. */
-#define GEOSTATION_ABI 4
+#define GEOSTATION_ABI 5
 
 /** @} */
 
@@ -312,7 +312,7 @@ typedef struct geostation geostation_handle;
  * The result of geostation_receive() and geostation_receive_verified().
  *
  * If the status is not #GEOSTATION_OK, all fields are 0, except the fault fields in case of
- * #GEOSTATION_BAD_FRAME. `source` to `hops_left` are set for each frame with status
+ * #GEOSTATION_BAD_FRAME. `media`, and `source` to `hops_left`, are set for each frame with status
  * #GEOSTATION_OK, whether it was ignored or not.
  */
 struct geostation_reception {
@@ -320,6 +320,7 @@ struct geostation_reception {
     uint32_t delivered;    /**< 1 if a payload is delivered, otherwise 0 */
     uint16_t port;         /**< destination port of the payload (BTP-B) */
     uint16_t info;         /**< destination port info of the payload */
+    uint8_t media[4];      /**< SHB: its media-dependent data, otherwise zeros */
     size_t payload_start;  /**< offset of the payload in the received frame, or in `plain` */
     size_t payload_length; /**< length of the payload, in bytes */
     size_t relay_length;   /**< number of bytes to send from the relay buffer, or 0 */
@@ -421,6 +422,18 @@ struct geostation_shb_request {
     uint8_t traffic_class; /**< traffic class byte of the packet: see geostation_area_request */
 };
 
+/** What a single-hop broadcast (SHB) has besides its request: see geostation_send_shb_with(). */
+struct geostation_shb_options {
+    uint8_t lifetime; /**< lifetime byte: see geostation_area_request */
+    /**
+     * media-dependent data, in the order in which they are sent. On ITS-G5 (EN 302 636-4-2), the
+     * first byte is the channel busy ratio that the station measured, the second is the greatest
+     * that its neighbours reported, and the third has its transmit power. Neighbours take zeros as
+     * measured values. The library neither reads nor changes the bytes.
+     */
+    uint8_t media[4];
+};
+
 /** A request for a geobroadcast (GBC) or a geoanycast (GAC). */
 struct geostation_area_request {
     uint16_t port;         /**< destination port (BTP-B) */
@@ -504,7 +517,7 @@ struct geostation_packet {
     uint8_t lifetime;                  /**< lifetime byte: see geostation_area_request */
     uint8_t traffic_class;             /**< traffic class byte: see geostation_area_request */
     uint8_t mobile;                    /**< 1 if the source is mobile, otherwise 0 */
-    uint8_t media[4];                  /**< SHB: the media-dependent data */
+    uint8_t media[4];                  /**< SHB: see geostation_shb_options; otherwise zeros */
     uint16_t number;                   /**< GBC, GAC: sequence number */
     struct geostation_area area;       /**< GBC, GAC: destination area */
     struct geostation_message message; /**< SHB, GBC, GAC: payload and port */
@@ -706,7 +719,7 @@ int geostation_tick(geostation_handle *s, uint64_t now, uint16_t jitter,
 /**
  * Writes the frame of a single-hop broadcast (SHB), for all stations in radio range.
  *
- * Its lifetime is 60 s (0x1a).
+ * Its lifetime is 60 s (0x1a), and its media-dependent data are zeros.
  *
  * @param s               the station
  * @param now             time, in ms
@@ -799,6 +812,29 @@ int geostation_send_shb_with_lifetime(geostation_handle *s, uint64_t now,
     GEOSTATION_NODISCARD;
 /** Deprecated: the former name of geostation_send_shb_with_lifetime(). */
 #define geostation_send_shb_for geostation_send_shb_with_lifetime
+
+/**
+ * Writes the frame of a single-hop broadcast (SHB) with a given lifetime and media-dependent data.
+ *
+ * @param s               the station
+ * @param now             time, in ms
+ * @param request         port and traffic class
+ * @param options         lifetime and media-dependent data
+ * @param payload         the payload; may be NULL if `payload_length` is 0
+ * @param payload_length  0 to #GEOSTATION_PAYLOAD_MAX
+ * @param[out] frame      the frame
+ * @param room            size of `frame`, at least #GEOSTATION_FRAME_MAX
+ * @param[out] length     length of the frame
+ * @return #GEOSTATION_OK, #GEOSTATION_MOMENT_EARLIER, #GEOSTATION_MOMENT_TOO_LATE,
+ *         #GEOSTATION_NO_MEMORY, #GEOSTATION_PAYLOAD_TOO_LONG, #GEOSTATION_NO_ROOM or
+ *         #GEOSTATION_OVER_RATE
+ */
+int geostation_send_shb_with(geostation_handle *s, uint64_t now,
+                             const struct geostation_shb_request *request,
+                             const struct geostation_shb_options *options,
+                             const uint8_t *payload, size_t payload_length,
+                             uint8_t *frame, size_t room, size_t *length)
+    GEOSTATION_NODISCARD;
 
 /** @} */
 
@@ -1304,6 +1340,8 @@ GEOSTATION_AT(counts, contention.full, 200);
 GEOSTATION_SIZE(shb_request, 6);
 GEOSTATION_AT(shb_request, info, 2);
 GEOSTATION_AT(shb_request, traffic_class, 4);
+GEOSTATION_SIZE(shb_options, 5);
+GEOSTATION_AT(shb_options, media, 1);
 GEOSTATION_SIZE(area_request, 24);
 GEOSTATION_AT(area_request, info, 2);
 GEOSTATION_AT(area_request, traffic_class, 4);
@@ -1339,6 +1377,7 @@ GEOSTATION_SIZE(reception, 88);
 GEOSTATION_AT(reception, delivered, 4);
 GEOSTATION_AT(reception, port, 8);
 GEOSTATION_AT(reception, info, 10);
+GEOSTATION_AT(reception, media, 12);
 GEOSTATION_AT(reception, payload_start, 16);
 GEOSTATION_AT(reception, payload_length, 24);
 GEOSTATION_AT(reception, relay_length, 32);

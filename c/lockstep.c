@@ -113,10 +113,15 @@ static void send_shb(struct geostation *s, uint64_t now, const uint8_t *payload,
         .port = (uint16_t)(2001 + drawn(3)), .info = (uint16_t)drawn(65536),
         .traffic_class = (uint8_t)drawn(256),
     };
+    /* those of geostation_send_shb: the frame is the same */
+    const struct geostation_shb_options usual = { .lifetime = 0x1a };
+    uint8_t *octets = frames[sent].octets;
     size_t length;
     fprintf(scenario, "do = \"shb\"\nport = %u\ninfo = %u\ntc = %u\n", r.port, r.info,
             r.traffic_class);
-    int status = geostation_send_shb(s, now, &r, payload, n, frames[sent].octets, ROOM, &length);
+    int status = r.info % 2 == 0
+        ? geostation_send_shb(s, now, &r, payload, n, octets, ROOM, &length)
+        : geostation_send_shb_with(s, now, &r, &usual, payload, n, octets, ROOM, &length);
     tell_sent(status, now, length, "");
 }
 

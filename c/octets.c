@@ -12,6 +12,11 @@ int proved_geostation_send_shb_with_lifetime(geostation_handle *s, uint64_t now,
                                              uint8_t lifetime,
                                              const uint8_t *payload, size_t payload_length,
                                              uint8_t *frame, size_t room, size_t *length);
+int proved_geostation_send_shb_with(geostation_handle *s, uint64_t now,
+                                    const struct geostation_shb_request *request,
+                                    const struct geostation_shb_options *options,
+                                    const uint8_t *payload, size_t payload_length,
+                                    uint8_t *frame, size_t room, size_t *length);
 int proved_geostation_send_gbc(geostation_handle *s, uint64_t now,
                                const struct geostation_area_request *request,
                                const uint8_t *payload, size_t payload_length,
@@ -69,6 +74,15 @@ int geostation_send_shb_with_lifetime(geostation_handle *s, uint64_t now,
                                       uint8_t *frame, size_t room, size_t *length) {
     return proved_geostation_send_shb_with_lifetime(s, now, request, lifetime, address(payload),
                                                     payload_length, frame, room, length);
+}
+
+int geostation_send_shb_with(geostation_handle *s, uint64_t now,
+                             const struct geostation_shb_request *request,
+                             const struct geostation_shb_options *options,
+                             const uint8_t *payload, size_t payload_length,
+                             uint8_t *frame, size_t room, size_t *length) {
+    return proved_geostation_send_shb_with(s, now, request, options, address(payload),
+                                           payload_length, frame, room, length);
 }
 
 int geostation_send_gbc(geostation_handle *s, uint64_t now,

@@ -42,7 +42,7 @@ static int is_nothing(void) {
         && r.payload_start == 0 && r.payload_length == 0 && r.relay_length == 0
         && r.fault == 0 && r.fault_kind == 0 && r.fault_at == 0 && r.source == 0 && r.kind == 0
         && r.number == 0 && r.traffic_class == 0 && r.hops_left == 0 && r.due == 0 && r.held == 0
-        && r.cancelled == 0;
+        && r.cancelled == 0 && memcmp(r.media, "\0\0\0\0", 4) == 0;
 }
 
 /* The fields of the reception that each valid frame sets. */
@@ -166,6 +166,60 @@ static void test_beside(void) {
     CHECK(geostation_send_gbc(a, 20, &AREA, HI, 2, frame, ROOM, &n) == GEOSTATION_OK);
     CHECK(geostation_next_number(a) == 0);
     geostation_free(a);
+}
+
+/* Media-dependent data of an SHB are octets 50 to 53 of its frame, and nothing else differs. Each
+ * reception of the frame has them, and no other does. */
+static void test_media(void) {
+    static const struct geostation_shb_request request = { .port = 2001 };
+    static const struct geostation_shb_options options = { 0x05, { 0x12, 0x34, 0x56, 0x78 } };
+    static const struct geostation_shb_options usual = { .lifetime = 0x1a };
+    struct geostation *a = station(A_ADDRESS, 0, 64), *b = station(B_ADDRESS, 900, 64);
+    struct geostation_packet p;
+    size_t n = 99, m = 99;
+    CHECK(geostation_send_shb_with(a, 20, &request, &options, HI, 2, frame, ROOM, &n)
+          == GEOSTATION_OK && n == 60);
+    CHECK(frame[16] == 0x05 && memcmp(frame + 50, "\x12\x34\x56\x78", 4) == 0);
+    CHECK(geostation_read_frame(frame, n, &p) == GEOSTATION_OK && p.lifetime == 0x05);
+    CHECK(memcmp(p.media, options.media, 4) == 0);
+    CHECK(geostation_send_shb_with_lifetime(a, 20, &request, 0x05, HI, 2, other, ROOM, &m)
+          == GEOSTATION_OK && m == n);
+    CHECK(memcmp(frame, other, 50) == 0 && memcmp(frame + 54, other + 54, n - 54) == 0);
+    CHECK(memcmp(other + 50, "\0\0\0\0", 4) == 0);
+
+    memset(r.media, 0xff, 4);
+    CHECK(geostation_receive(b, 21, frame, n, &r, relay, ROOM) == GEOSTATION_OK && r.ignored == 0);
+    CHECK(is_of(A_ADDRESS, GEOSTATION_SHB, 0, 0, 1) && memcmp(r.media, options.media, 4) == 0);
+    CHECK(geostation_receive(a, 21, frame, n, &r, relay, ROOM) == GEOSTATION_OK);
+    CHECK(r.ignored == GEOSTATION_OWN_SOURCE && memcmp(r.media, options.media, 4) == 0);
+    CHECK(geostation_receive(b, 21, other, m, &r, relay, ROOM) == GEOSTATION_OK);
+    CHECK(memcmp(r.media, "\0\0\0\0", 4) == 0);
+    memset(r.media, 0xff, 4);
+    CHECK(geostation_send_gbc(a, 21, &AREA, HI, 2, other, ROOM, &m) == GEOSTATION_OK);
+    CHECK(geostation_receive(b, 21, other, m, &r, relay, ROOM) == GEOSTATION_OK);
+    CHECK(r.kind == GEOSTATION_GBC && memcmp(r.media, "\0\0\0\0", 4) == 0);
+    memset(r.media, 0xff, 4);
+    CHECK(geostation_receive(b, 21, frame, n - 1, &r, relay, ROOM) == GEOSTATION_BAD_FRAME);
+    CHECK(memcmp(r.media, "\0\0\0\0", 4) == 0);
+
+    CHECK(geostation_send_shb_with(a, 22, &request, &usual, HI, 2, frame, ROOM, &n)
+          == GEOSTATION_OK);
+    CHECK(geostation_send_shb(a, 22, &request, HI, 2, other, ROOM, &m) == GEOSTATION_OK);
+    CHECK(m == n && memcmp(frame, other, n) == 0);
+    CHECK(geostation_send_shb_with(a, 22, &request, &options, payload, 1395, frame, ROOM, &n)
+          == GEOSTATION_PAYLOAD_TOO_LONG && n == 0);
+    CHECK(geostation_send_shb_with(a, 22, &request, &options, HI, 2, frame, ROOM - 1, &n)
+          == GEOSTATION_NO_ROOM && n == 0);
+    CHECK(geostation_send_shb_with(a, 21, &request, &options, HI, 2, frame, ROOM, &n)
+          == GEOSTATION_MOMENT_EARLIER && n == 0);
+    until_fail = 0;
+    CHECK(geostation_send_shb_with(a, 22, &request, &options, HI, 2, frame, ROOM, &n)
+          == GEOSTATION_NO_MEMORY && n == 0);
+    until_fail = -1;
+    CHECK(geostation_send_shb_with(a, 22, &request, &options, NULL, 0, frame, ROOM, &n)
+          == GEOSTATION_OK && n == 58);
+    geostation_free(a);
+    geostation_free(b);
 }
 
 static void check_code(const char *wanted, int status, uint32_t fault, uint32_t kind, size_t at) {
@@ -1116,6 +1170,7 @@ static int forwards(struct geostation *a, struct geostation *b, uint64_t now, ui
  * rate leaves the station as it was, and a beacon passes all the same. */
 static void test_own_rate(void) {
     static const struct geostation_shb_request shb = { .port = 2001 };
+    static const struct geostation_shb_options options = { .lifetime = 5 };
     struct geostation_config c = unlimited(A_ADDRESS, 0);
     struct geostation_counts k;
     c.own_rate = 10, c.own_burst = 2;
@@ -1129,6 +1184,8 @@ static void test_own_rate(void) {
     CHECK(geostation_send_gac(a, 1000, &AREA, HI, 2, frame, ROOM, &n) == GEOSTATION_OVER_RATE);
     CHECK(geostation_send_shb(a, 1000, &shb, HI, 2, frame, ROOM, &n) == GEOSTATION_OVER_RATE);
     CHECK(geostation_send_shb_with_lifetime(a, 1000, &shb, 5, HI, 2, frame, ROOM, &n)
+          == GEOSTATION_OVER_RATE && n == 0);
+    CHECK(geostation_send_shb_with(a, 1000, &shb, &options, HI, 2, frame, ROOM, &n)
           == GEOSTATION_OVER_RATE && n == 0);
     /* the beacon is due 3 s after the packet of 1000, not after those that were refused */
     CHECK(geostation_send_shb(a, 1099, &shb, HI, 2, frame, ROOM, &n) == GEOSTATION_OVER_RATE);
@@ -1151,7 +1208,7 @@ static void test_own_rate(void) {
     CHECK(geostation_send_shb(a, 9000, &shb, HI, 2, frame, ROOM, &n) == GEOSTATION_OK);
     CHECK(geostation_send_shb(a, 9000, &shb, HI, 2, frame, ROOM, &n) == GEOSTATION_OVER_RATE);
     geostation_counts(a, &k);
-    CHECK(k.over_rate == 8 && k.suppressed == 0 && k.repeated == 0);
+    CHECK(k.over_rate == 9 && k.suppressed == 0 && k.repeated == 0);
     CHECK(k.sent.single_hop == 5 && k.sent.geobroadcasts == 1 && k.sent.geoanycasts == 0);
     CHECK(k.sent.beacons == 1 && k.refused.other == 1 && k.refused.moment_earlier == 1);
     geostation_free(a);
@@ -1333,6 +1390,7 @@ int main(int argc, char **argv) {
     test_beacons();
     test_beacon_moments();
     test_beside();
+    test_media();
     test_codes();
     test_look_ups();
     test_frames();
