@@ -281,6 +281,16 @@ class Station {
             handle_, now, &request, lifetime, payload.data, payload.size, frame.octets.data(),
             frame.octets.size(), &frame.size));
     }
+    /// Writes the frame of a single-hop broadcast with this lifetime byte and these
+    /// media-dependent data: geostation_send_shb_with().
+    /// @return Ok, MomentEarlier, MomentTooLate, NoMemory, PayloadTooLong or OverRate
+    Status send_shb_with(std::uint64_t now, const geostation_shb_request &request,
+                         const geostation_shb_options &options, Octets payload,
+                         Frame &frame) noexcept {
+        return Status(geostation_send_shb_with(handle_, now, &request, &options, payload.data,
+                                               payload.size, frame.octets.data(),
+                                               frame.octets.size(), &frame.size));
+    }
     /// The former name of send_shb_with_lifetime().
     [[deprecated("use send_shb_with_lifetime")]] Status
     send_shb_for(std::uint64_t now, const geostation_shb_request &request, std::uint8_t lifetime,

@@ -44,6 +44,19 @@ Frame make_frame(Station &a) {
     return frame;
 }
 
+void test_media(Station &a) {
+    const geostation_shb_request request{2001, 0, 0};
+    const geostation_shb_options options{0x05, {1, 2, 3, 4}};
+    Frame frame, relay;
+    CHECK(a.send_shb_with(10, request, options, {HI, sizeof HI}, frame) == Status::Ok);
+    CHECK(frame.size == 60 && frame.octets[16] == 0x05);
+    CHECK(std::equal(options.media, options.media + 4, frame.octets.begin() + 50));
+    const auto got = a.receive(10, view(frame), relay);
+    CHECK(got.status == Status::Ok);
+    CHECK(std::equal(options.media, options.media + 4, got.reception.media));
+    CHECK(a.send_shb_with(9, request, options, {}, frame) == Status::MomentEarlier);
+}
+
 void test_parts(const Frame &frame) {
     SecuredFrame secured;
     const Part plain = geostation::plain_part(view(frame));
@@ -123,6 +136,7 @@ int main() {
     auto b = Station::make(0x1400020000000002, 449, 900, 64, 8);
     CHECK(a && b && b->open_port(0, 2002) == Status::Ok);
     const Frame frame = make_frame(*a);
+    test_media(*a);
     test_parts(frame);
     test_receiving(*b, frame);
     test_lines(*b);
