@@ -13,7 +13,7 @@ from typing import Any, Dict, List, Optional, Tuple
 
 HERE = Path(__file__).resolve().parent
 PACKAGE = "geostation"
-SUFFIXES = (".py", ".typed", ".so.4")
+SUFFIXES = (".py", ".typed", ".so.5")
 # The processors of the library, by the number in the header of an ELF file.
 MACHINES = {62: "x86_64", 183: "aarch64"}
 
@@ -38,7 +38,7 @@ def _metadata() -> str:
 def _platform(files: Dict[str, bytes]) -> str:
     """Returns the tag of the platform: `any`, or that of the library if the files include one."""
     for path, octets in files.items():
-        if path.endswith(".so.4"):
+        if path.endswith(".so.5"):
             assert octets[:6] == b"\x7fELF\x02\x01", f"{path} is not a library for 64-bit Linux"
             (machine,) = struct.unpack_from("<H", octets, 18)
             return f"linux_{MACHINES[machine]}"
@@ -76,7 +76,7 @@ def build_wheel(
 ) -> str:
     """Builds a wheel of the package and its subpackages.
 
-    It includes a libgeostation.so.4 in the folder of the package. Then the wheel is for the
+    It includes a libgeostation.so.5 in the folder of the package. Then the wheel is for the
     processor of that library only."""
     paths = sorted((HERE / PACKAGE).rglob("*"))
     files: List[Tuple[str, bytes]] = [

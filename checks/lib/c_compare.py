@@ -292,7 +292,7 @@ def check_package_numbers(sources):
         wrong += compare_numbers(path, enum, enums[enum], found, without)
     path = f"{RUST}/station.rs"
     kinds = twins.rust_constants(sources.text(path)).items()
-    wrong += compare_numbers(path, "kind", enums["kind"], kinds, ("BEACON", "SHB"))
+    wrong += compare_numbers(path, "kind", enums["kind"], kinds, ("BEACON",))
     for file, enum, name in (
         ("errors.py", "status", "Status"),
         ("values.py", "why", "IgnoreReason"),

@@ -19,6 +19,8 @@ PAYLOAD_MAX = 1394
 """The longest payload that can be sent, in bytes."""
 LAST_MOMENT = 1 << 62
 """The latest time that a call accepts, in ms."""
+NO_MEDIA = bytes(4)
+"""Media-dependent data of zeros."""
 
 Address = Union[int, str]
 Degrees = Optional[Tuple[float, float]]
@@ -47,6 +49,14 @@ def octets(name: str, value: bytes) -> bytes:
     if isinstance(value, (str, int)):
         raise TypeError(f"{name} must be bytes, not {value!r}")
     return bytes(value)
+
+
+def media_of(value: bytes) -> bytes:
+    """Returns media-dependent data after a check of their length."""
+    told = octets("media", value)
+    if len(told) != len(NO_MEDIA):
+        raise BadArgument("media")
+    return told
 
 
 class _Guard:
@@ -201,7 +211,14 @@ class Calls(ABC):
             return self._tick(moment(now), whole("jitter", jitter, 0, 65535))
 
     def send_shb(
-        self, now: int, *, port: int, payload: bytes, info: int = 0, traffic_class: int = 0
+        self,
+        now: int,
+        *,
+        port: int,
+        payload: bytes,
+        info: int = 0,
+        traffic_class: int = 0,
+        media: bytes = NO_MEDIA,
     ) -> bytes:
         """Returns the frame of a single-hop broadcast (SHB), for all stations in radio range.
 
@@ -211,6 +228,10 @@ class Calls(ABC):
             payload: At most `PAYLOAD_MAX` bytes.
             info: Destination port info, 0 to 65535.
             traffic_class: Traffic class byte.
+            media: Media-dependent data, 4 bytes. On ITS-G5 (EN 302 636-4-2), the first byte is the
+                channel busy ratio that the station measured, the second is the greatest that its
+                neighbours reported, and the third has its transmit power. Neighbours take zeros as
+                measured values.
 
         Raises:
             OverRate: Own packets are over their rate.
@@ -222,6 +243,7 @@ class Calls(ABC):
                 whole("port", port, 0, 65535),
                 whole("info", info, 0, 65535),
                 whole("traffic_class", traffic_class, 0, 255),
+                media_of(media),
                 octets("payload", payload),
             )
 
@@ -443,7 +465,7 @@ class Calls(ABC):
 
     @abstractmethod
     def _send_shb(
-        self, now: int, port: int, info: int, traffic_class: int, payload: bytes
+        self, now: int, port: int, info: int, traffic_class: int, media: bytes, payload: bytes
     ) -> bytes: ...
 
     @abstractmethod

@@ -14,7 +14,7 @@ from typing import Any
 from .errors import Fault
 
 # The layouts below are those of a header with this ABI.
-ABI = 4
+ABI = 5
 NAME = f"libgeostation.so.{ABI}"
 # What geostation_beacon_at returns for a jitter out of range, and geostation_next_due if no frame is
 # held.
@@ -29,6 +29,7 @@ class Reception(c.Structure):
         ("delivered", c.c_uint32),
         ("port", c.c_uint16),
         ("info", c.c_uint16),
+        ("media", c.c_uint8 * 4),
         ("payload_start", c.c_size_t),
         ("payload_length", c.c_size_t),
         ("relay_length", c.c_size_t),
@@ -99,6 +100,10 @@ class Counts(c.Structure):
 
 class ShbRequest(c.Structure):
     _fields_ = [("port", c.c_uint16), ("info", c.c_uint16), ("traffic_class", c.c_uint8)]
+
+
+class ShbOptions(c.Structure):
+    _fields_ = [("lifetime", c.c_uint8), ("media", c.c_uint8 * 4)]
 
 
 class AreaRequest(c.Structure):
@@ -191,6 +196,7 @@ SIZES = {
     Config: 88,
     Counts: 208,
     ShbRequest: 6,
+    ShbOptions: 5,
     AreaRequest: 24,
     Vector: 32,
     LineResult: 80,
@@ -233,13 +239,12 @@ CALLS = {
     "close_port": (c.c_int, c.c_void_p, c.c_uint64, c.c_uint16),
     "restart": (c.c_int, c.c_void_p, c.c_uint64, c.c_uint16),
     "tick": (c.c_int, c.c_void_p, c.c_uint64, c.c_uint16, *_WRITTEN),
-    "send_shb": (c.c_int, c.c_void_p, c.c_uint64, c.POINTER(ShbRequest), *_OCTETS, *_WRITTEN),
-    "send_shb_with_lifetime": (
+    "send_shb_with": (
         c.c_int,
         c.c_void_p,
         c.c_uint64,
         c.POINTER(ShbRequest),
-        c.c_uint8,
+        c.POINTER(ShbOptions),
         *_OCTETS,
         *_WRITTEN,
     ),

@@ -8,7 +8,7 @@ import subprocess
 from dataclasses import asdict
 from typing import Any, Dict, List, Optional, Sequence, Tuple, Union
 
-from .calls import FRAME_MAX, PAYLOAD_MAX, SECURED_FRAME_MAX, Calls, octets
+from .calls import FRAME_MAX, NO_MEDIA, PAYLOAD_MAX, SECURED_FRAME_MAX, Calls, octets
 from .errors import BadArgument, Refused, Status, refused_by
 from .values import (
     Area,
@@ -203,12 +203,18 @@ class PipeStation(Calls):
         return self._sent(answer) if answer["result"] == "sent" else None
 
     def _send_shb(
-        self, now: int, port: int, info: int, traffic_class: int, payload: bytes
+        self, now: int, port: int, info: int, traffic_class: int, media: bytes, payload: bytes
     ) -> bytes:
-        told = _short(payload, PAYLOAD_MAX).hex()
-        return self._sent(
-            self._ask("shb", now, port=port, info=info, tc=traffic_class, payload=told)
+        answer = self._ask(
+            "shb",
+            now,
+            port=port,
+            info=info,
+            tc=traffic_class,
+            media=media.hex(),
+            payload=_short(payload, PAYLOAD_MAX).hex(),
         )
+        return self._sent(answer)
 
     def _send_area(
         self,
@@ -334,8 +340,13 @@ class PipeStation(Calls):
             )
         delivered = _message(answer) if "payload" in answer else None
         relay = self._sent(answer) if "frame" in answer else None
-        source = int(answer["source"], 16)
-        return Reception(delivered=delivered, relay=relay, source=source, due=answer.get("due"))
+        return Reception(
+            delivered=delivered,
+            relay=relay,
+            source=int(answer["source"], 16),
+            due=answer.get("due"),
+            media=bytes.fromhex(answer.get("media", NO_MEDIA.hex())),
+        )
 
     def _next_due(self) -> Optional[int]:
         due: Optional[int] = self._ask("next_due").get("moment")

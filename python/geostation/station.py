@@ -7,8 +7,8 @@ from dataclasses import fields
 from typing import Any, Callable, List, Optional, Tuple
 
 from . import library
-from .calls import ANSWER_MAX, FRAME_MAX, SECURED_FRAME_MAX, Address, Calls, Degrees
-from .calls import moment, octets
+from .calls import ANSWER_MAX, FRAME_MAX, NO_MEDIA, SECURED_FRAME_MAX, Address, Calls, Degrees
+from .calls import media_of, moment, octets
 from .errors import BadArgument, BadFrame, Fault, OverRate, Refused, Status
 from .values import (
     Area,
@@ -29,6 +29,9 @@ from .values import (
     place,
     whole,
 )
+
+# The lifetime byte of `send_shb`: 60 s.
+SHB_LIFETIME = 0x1A
 
 
 def _vector(told: library.Vector) -> Vector:
@@ -162,10 +165,19 @@ class Station(Calls):
         return self._written(self._library.tick, now, jitter) or None
 
     def _send_shb(
-        self, now: int, port: int, info: int, traffic_class: int, payload: bytes
+        self,
+        now: int,
+        port: int,
+        info: int,
+        traffic_class: int,
+        media: bytes,
+        payload: bytes,
+        lifetime: int = SHB_LIFETIME,
     ) -> bytes:
         request = library.ShbRequest(port, info, traffic_class)
-        return self._written(self._library.send_shb, now, request, payload, len(payload))
+        options = library.ShbOptions(lifetime, tuple(media))
+        call = self._library.send_shb_with
+        return self._written(call, now, request, options, payload, len(payload))
 
     def _send_area(
         self,
@@ -233,6 +245,7 @@ class Station(Calls):
             None if heard.ignored else heard.source,
             heard.due if heard.held else None,
             heard.cancelled != 0,
+            NO_MEDIA if heard.ignored else bytes(heard.media),
         )
 
     def _next_due(self) -> Optional[int]:
@@ -296,6 +309,7 @@ class Station(Calls):
         payload: bytes,
         info: int = 0,
         traffic_class: int = 0,
+        media: bytes = NO_MEDIA,
     ) -> bytes:
         """Returns the frame of a single-hop broadcast (SHB) with a given lifetime.
 
@@ -307,21 +321,22 @@ class Station(Calls):
             payload: At most `PAYLOAD_MAX` bytes.
             info: Destination port info, 0 to 65535.
             traffic_class: Traffic class byte.
+            media: Media-dependent data, 4 bytes: see `send_shb`.
 
         Raises:
             OverRate: Own packets are over their rate.
             Refused: The payload is too long, or memory ran out.
         """
         with self._calling:
-            request = library.ShbRequest(
+            return self._send_shb(
+                moment(now),
                 whole("port", port, 0, 65535),
                 whole("info", info, 0, 65535),
                 whole("traffic_class", traffic_class, 0, 255),
+                media_of(media),
+                octets("payload", payload),
+                whole("lifetime", lifetime, 0, 255),
             )
-            told = octets("payload", payload)
-            octet = whole("lifetime", lifetime, 0, 255)
-            call = self._library.send_shb_with_lifetime
-            return self._written(call, moment(now), request, octet, told, len(told))
 
     def handle_json(self, now: int, line: bytes, *, number: int = 1) -> Tuple[bytes, bytes]:
         """Executes one JSON request, as the command `geostation station` does.

@@ -220,6 +220,8 @@ class Reception:
     While it is set, `relay` is `None`."""
     cancelled: bool = False
     """With contention: whether this frame has cancelled a held one."""
+    media: bytes = bytes(4)
+    """Media-dependent data of an SHB that was accepted, otherwise zeros (see `send_shb`)."""
 
 
 @dataclass(frozen=True)

@@ -33,6 +33,11 @@ def outcome(call, station):
         return type(refused), refused.code, refused.status, str(refused)
 
 
+def media_in(payload):
+    """Media-dependent data out of a payload, zeros if that is empty."""
+    return payload[:4].ljust(4, b"\0")
+
+
 class Traffic:
     """Random calls: moments mostly rise, frames are those of another station, or nearly so."""
 
@@ -61,6 +66,10 @@ class Traffic:
         return {"port": draws.choice(PORTS), "info": draws.randint(0, 65535),
                 "payload": draws.randbytes(length), "traffic_class": draws.randint(0, 255)}
 
+    def single_hop(self):
+        keys = self.sending()
+        return {**keys, "media": media_in(keys["payload"])}
+
     def to_area(self):
         draws = self.draws
         return {**self.sending(), "area": self.area(), "lifetime": draws.randint(0, 255),
@@ -74,7 +83,7 @@ class Traffic:
         if kind == 0:
             frame = other.tick(self.now) or b""
         elif kind == 1:
-            frame = other.send_shb(self.now, **keys)
+            frame = other.send_shb(self.now, media=media_in(keys["payload"]), **keys)
         else:
             send = other.send_gbc if kind == 2 else other.send_gac
             frame = send(self.now, area=self.area(), **keys)
@@ -160,7 +169,7 @@ class Traffic:
             "close_port": lambda: {"port": draws.choice(PORTS)},
             "restart": lambda: {"number": draws.randint(0, 65535)},
             "tick": lambda: {"jitter": draws.choice([0, 750, 751])},
-            "send_shb": self.sending,
+            "send_shb": self.single_hop,
             "send_gbc": self.to_area,
             "send_gac": self.to_area,
             "bad": lambda: {"port": 65536},
@@ -183,9 +192,10 @@ class Alike(unittest.TestCase):
                     want = outcome(call, station)
                     self.assertEqual(want, outcome(call, line), f"call {number}")
                     kinds.add(self.kind(want))
+                    kinds |= {"media"} if any(getattr(want, "media", b"")) else set()
         wanted = {"S1", "S2", "S4", "S6", "S7", "S8 B2", "S8 B4", "S9", "", "NoneType", "bytes",
                   "int", "Vector", "list", "Counts",
-                  "ignored", "accepted", "delivered", "relay"}
+                  "ignored", "accepted", "delivered", "relay", "media"}
         self.assertEqual(set(), wanted - kinds)
         self.assertTrue({"S3 L1", "S3 L3", "S3 L4"} <= kinds)
         self.assertTrue(any(kind.startswith("S3 L6 ") for kind in kinds))

@@ -114,6 +114,28 @@ class Stations(unittest.TestCase):
         a.restart(1000, 65535)
         self.assertEqual(65535, a.next_number())
 
+    def test_media_dependent_data(self):
+        """They are octets 50 to 53 of the frame of an SHB, and nothing else differs."""
+        a, b = Station(A, latitude=0, longitude=0), Station(B, latitude=0, longitude=0)
+        media, zeros = bytes.fromhex("4d5a00ff"), bytes(4)
+        plain = a.send_shb(10, port=9, payload=b"x")
+        frame = a.send_shb(10, port=9, payload=b"x", media=bytearray(media))
+        self.assertEqual(plain[:50] + media + plain[54:], frame)
+        self.assertEqual(media, read_frame(frame).media)
+        self.assertEqual(zeros, plain[50:54])
+        longer = a.send_shb_with_lifetime(10, 0x05, port=9, payload=b"x", media=media)
+        self.assertEqual((0x05, media), (longer[16], longer[50:54]))
+        self.assertEqual([media, zeros], [b.receive(11, it).media for it in (frame, plain)])
+        self.assertEqual(Reception(IgnoreReason.OWN_SOURCE), a.receive(11, frame))
+        self.assertEqual(Reception(source=A), b.receive(11, a.tick(3010)))
+        for wrong in (b"", bytes(3), bytes(5)):
+            with self.assertRaises(BadArgument) as told:
+                a.send_shb(3010, port=9, payload=b"x", media=wrong)
+            self.assertEqual("media", told.exception.name)
+        for wrong in (4, "00000000", None):
+            with self.assertRaises(TypeError):
+                a.send_shb(3010, port=9, payload=b"x", media=wrong)
+
     def test_a_road_side_unit_its_counts_and_padding(self):
         a = Station(A, latitude=0, longitude=0, mobile=False, number=65535)
         frame = a.send_gbc(5, port=1, payload=b"", area=CIRCLE)
@@ -593,6 +615,7 @@ class Library(unittest.TestCase):
             "config": library.Config,
             "counts": library.Counts,
             "shb_request": library.ShbRequest,
+            "shb_options": library.ShbOptions,
             "area_request": library.AreaRequest,
             "vector": library.Vector,
             "area": library.Area,

@@ -28,6 +28,7 @@ pub(crate) struct Reception {
     pub(crate) delivered: u32,
     pub(crate) port: u16,
     pub(crate) info: u16,
+    pub(crate) media: [u8; 4],
     pub(crate) payload_start: usize,
     pub(crate) payload_length: usize,
     pub(crate) relay_length: usize,
@@ -94,6 +95,13 @@ pub(crate) struct ShbRequest {
     pub(crate) port: u16,
     pub(crate) info: u16,
     pub(crate) traffic_class: u8,
+}
+
+/// `struct geostation_shb_options`.
+#[repr(C)]
+pub(crate) struct ShbOptions {
+    pub(crate) lifetime: u8,
+    pub(crate) media: [u8; 4],
 }
 
 /// `struct geostation_area_request`.
@@ -191,7 +199,8 @@ const _: () = {
     assert!(size_of::<Reception>() == 88 && size_of::<Packet>() == 120);
     assert!(size_of::<Message>() == 24);
     assert!(size_of::<Config>() == 88 && size_of::<Counts>() == 208);
-    assert!(size_of::<ShbRequest>() == 6 && size_of::<AreaRequest>() == 24);
+    assert!(size_of::<ShbRequest>() == 6 && size_of::<ShbOptions>() == 5);
+    assert!(size_of::<AreaRequest>() == 24);
     assert!(size_of::<Vector>() == 32 && size_of::<Area>() == 16);
     assert!(size_of::<LineResult>() == 80);
 };
@@ -242,21 +251,11 @@ extern "C" {
         room: usize,
         length: *mut usize,
     ) -> c_int;
-    fn geostation_send_shb(
+    fn geostation_send_shb_with(
         s: *mut Opaque,
         now: u64,
         request: *const ShbRequest,
-        payload: *const u8,
-        payload_length: usize,
-        frame: *mut u8,
-        room: usize,
-        length: *mut usize,
-    ) -> c_int;
-    fn geostation_send_shb_with_lifetime(
-        s: *mut Opaque,
-        now: u64,
-        request: *const ShbRequest,
-        lifetime: u8,
+        options: *const ShbOptions,
         payload: *const u8,
         payload_length: usize,
         frame: *mut u8,
@@ -447,10 +446,11 @@ impl Handle {
         (status, length)
     }
 
-    pub(crate) fn send_shb(
+    pub(crate) fn send_shb_with(
         &mut self,
         now: u64,
         request: &ShbRequest,
+        options: &ShbOptions,
         payload: &[u8],
         frame: &mut [u8],
     ) -> Written {
@@ -460,29 +460,11 @@ impl Handle {
         // SAFETY: the handle is valid, and in no other call; both slices have the given lengths,
         // and don't overlap, as one of them is borrowed mutably.
         let status = unsafe {
-            geostation_send_shb(s, now, request, given, count, octets, room, &mut length)
-        };
-        (status, length)
-    }
-
-    pub(crate) fn send_shb_with_lifetime(
-        &mut self,
-        now: u64,
-        request: &ShbRequest,
-        lifetime: u8,
-        payload: &[u8],
-        frame: &mut [u8],
-    ) -> Written {
-        let (s, mut length) = (self.0.as_ptr(), 0);
-        let (octets, room) = (frame.as_mut_ptr(), frame.len());
-        let (given, count) = (payload.as_ptr(), payload.len());
-        // SAFETY: as for `geostation_send_shb`.
-        let status = unsafe {
-            geostation_send_shb_with_lifetime(
+            geostation_send_shb_with(
                 s,
                 now,
                 request,
-                lifetime,
+                options,
                 given,
                 count,
                 octets,

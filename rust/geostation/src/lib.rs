@@ -45,7 +45,8 @@ pub use frame::{frame_length, read_frame, Area, Content, Message, Packet, Shape,
 pub use secured::{message_of, plain_part, seal};
 pub use station::{
     AreaRequest, Config, Contention, ContentionCounts, Counts, IgnoreReason, IgnoredCounts, Limits,
-    LineResult, Neighbours, Place, Received, RefusedCounts, SentCounts, ShbRequest, Station,
+    LineResult, Neighbours, Place, Received, RefusedCounts, SentCounts, ShbOptions, ShbRequest,
+    Station,
 };
 
 /// The name of [`IgnoreReason`] until 0.1.

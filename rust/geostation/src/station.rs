@@ -8,7 +8,8 @@ use crate::{FRAME_MAX, SECURED_FRAME_MAX};
 use std::fmt;
 use std::iter::FusedIterator;
 
-/// The types of packets for an area, as in `enum geostation_kind`.
+/// Types of packets, as in `enum geostation_kind`.
+const SHB: u32 = 2;
 const GBC: u32 = 3;
 const GAC: u32 = 4;
 
@@ -160,6 +161,26 @@ pub struct ShbRequest {
     pub traffic_class: u8,
 }
 
+/// What a single-hop broadcast (SHB) has besides its request: see [`Station::send_shb_with`].
+#[derive(Clone, Copy, Debug, PartialEq, Eq, Hash)]
+pub struct ShbOptions {
+    /// Lifetime byte: 6 bits of multiplier, 2 bits of base (0 = 50 ms, 1 = 1 s, 2 = 10 s, 3 = 100
+    /// s).
+    pub lifetime: u8,
+    /// Media-dependent data, in the order in which they are sent. On ITS-G5 (EN 302 636-4-2), the
+    /// first byte is the channel busy ratio that the station measured, the second is the greatest
+    /// that its neighbours reported, and the third has its transmit power. Neighbours take zeros
+    /// as measured values.
+    pub media: [u8; 4],
+}
+
+impl Default for ShbOptions {
+    /// A lifetime of 60 s (0x1a), and zeros.
+    fn default() -> ShbOptions {
+        ShbOptions { lifetime: 0x1a, media: [0; 4] }
+    }
+}
+
 /// A request for a geobroadcast (GBC) or a geoanycast (GAC).
 #[derive(Clone, Copy, Debug, PartialEq, Eq, Hash)]
 pub struct AreaRequest {
@@ -252,6 +273,8 @@ pub struct Received<'a> {
     pub traffic_class: u8,
     /// Sequence number of a GBC or GAC.
     pub number: Option<u16>,
+    /// Media-dependent data of an SHB: see [`ShbOptions`].
+    pub media: Option<[u8; 4]>,
     /// If the frame to forward is held: the time at which it is due, in ms ([`Station::release`]).
     pub due: Option<u64>,
     /// Whether this frame has cancelled a held one.
@@ -287,6 +310,7 @@ impl<'a> Received<'a> {
             hops_left: r.hops_left,
             traffic_class: r.traffic_class,
             number: (r.kind == GBC || r.kind == GAC).then_some(r.number),
+            media: (r.kind == SHB).then_some(r.media),
             due: (r.held != 0).then_some(r.due),
             cancelled: r.cancelled != 0,
         })
@@ -614,9 +638,42 @@ impl Station {
         payload: &[u8],
         buffer: &'a mut B,
     ) -> Result<&'a [u8], Error> {
+        self.send_shb_with(now, request, &ShbOptions::default(), payload, buffer)
+    }
+
+    /// Writes and returns the frame of a single-hop broadcast (SHB) with this lifetime and these
+    /// media-dependent data. [`Station::send_shb`] uses those of [`ShbOptions::default`].
+    ///
+    /// ```
+    /// # use geostation::{Config, ShbOptions, ShbRequest, Station};
+    /// # fn main() -> Result<(), geostation::Error> {
+    /// # let mut station = Station::new(&Config::new(0x1400_0200_0000_0001, 0, 0))?;
+    /// # let mut buffer = Vec::new();
+    /// # let request = ShbRequest { port: 2001, info: 0, traffic_class: 2 };
+    /// let options = ShbOptions { media: [77, 90, 0, 0], ..ShbOptions::default() };
+    /// let frame = station.send_shb_with(1000, &request, &options, b"hi", &mut buffer)?;
+    /// # assert_eq!([77, 90, 0, 0], frame[50..54]);
+    /// # Ok(())
+    /// # }
+    /// ```
+    ///
+    /// # Errors
+    ///
+    /// Those of [`Station::send_shb`].
+    pub fn send_shb_with<'a, B: Buffer + ?Sized>(
+        &mut self,
+        now: u64,
+        request: &ShbRequest,
+        options: &ShbOptions,
+        payload: &[u8],
+        buffer: &'a mut B,
+    ) -> Result<&'a [u8], Error> {
         let ShbRequest { port, info, traffic_class } = *request;
+        let ShbOptions { lifetime, media } = *options;
         let request = ffi::ShbRequest { port, info, traffic_class };
-        let told = self.handle.send_shb(now, &request, payload, buffer.room(FRAME_MAX));
+        let options = ffi::ShbOptions { lifetime, media };
+        let room = buffer.room(FRAME_MAX);
+        let told = self.handle.send_shb_with(now, &request, &options, payload, room);
         written(buffer, told)
     }
 
@@ -634,12 +691,8 @@ impl Station {
         payload: &[u8],
         buffer: &'a mut B,
     ) -> Result<&'a [u8], Error> {
-        let ShbRequest { port, info, traffic_class } = *request;
-        let request = ffi::ShbRequest { port, info, traffic_class };
-        let handle = &mut self.handle;
-        let told =
-            handle.send_shb_with_lifetime(now, &request, lifetime, payload, buffer.room(FRAME_MAX));
-        written(buffer, told)
+        let options = ShbOptions { lifetime, ..ShbOptions::default() };
+        self.send_shb_with(now, request, &options, payload, buffer)
     }
 
     /// The former name of [`Station::send_shb_with_lifetime`].

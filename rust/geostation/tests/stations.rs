@@ -3,8 +3,8 @@
 
 use geostation::{
     frame_length, message_of, plain_part, read_frame, seal, Area, AreaRequest, Config, Content,
-    Contention, Error, Fault, IgnoreReason, Limits, Place, Shape, ShbRequest, Station, FRAME_MAX,
-    LAST_MOMENT, PAYLOAD_MAX, SECURED_FRAME_MAX,
+    Contention, Error, Fault, IgnoreReason, Limits, Place, Shape, ShbOptions, ShbRequest, Station,
+    FRAME_MAX, LAST_MOMENT, PAYLOAD_MAX, SECURED_FRAME_MAX,
 };
 
 const A: u64 = 0x1400_0200_0000_0001;
@@ -248,6 +248,34 @@ fn a_fix_a_lifetime_and_a_number() {
     assert_eq!(0, a.next_number());
     a.restart(1000, 65_535).unwrap();
     assert_eq!(65_535, a.next_number());
+}
+
+/// They are octets 50 to 53 of the frame, and nothing else differs.
+#[test]
+fn media_dependent_data() {
+    let (mut a, mut b) = pair();
+    let (mut plain, mut sent, mut out) = (Vec::new(), Vec::new(), Vec::new());
+    let request = ShbRequest { port: 9, ..ShbRequest::default() };
+    let media = [0x4d, 0x5a, 0, 0xff];
+    let options = ShbOptions { media, ..ShbOptions::default() };
+    let plain = a.send_shb(10, &request, b"x", &mut plain).unwrap();
+    let frame = a.send_shb_with(10, &request, &options, b"x", &mut sent).unwrap();
+    assert_eq!((&plain[..50], &plain[54..]), (&frame[..50], &frame[54..]));
+    assert_eq!((&[0; 4][..], &media[..]), (&plain[50..54], &frame[50..54]));
+    assert!(matches!(read_frame(frame).unwrap().content, Content::SingleHop { media: told, .. }
+        if told == media));
+    let heard = [frame, plain].map(|it| b.receive(11, it, &mut out).unwrap().media);
+    assert_eq!([Some(media), Some([0; 4])], heard);
+    let own = a.receive(11, frame, &mut out).unwrap();
+    assert_eq!((Some(IgnoreReason::OwnSource), Some(media)), (own.ignored, own.media));
+    let options = ShbOptions { lifetime: 0x05, media };
+    let frame = a.send_shb_with(11, &request, &options, b"x", &mut out).unwrap();
+    assert_eq!((0x05, &media[..]), (frame[16], &frame[50..54]));
+    let frame = a.send_gbc(11, &warning(), b"hi", &mut sent).unwrap();
+    assert_eq!(None, b.receive(12, frame, &mut out).unwrap().media);
+    let long = [0; PAYLOAD_MAX + 1];
+    let refused = a.send_shb_with(12, &request, &options, &long, &mut sent);
+    assert_eq!(Err(Error::PayloadTooLong), refused);
 }
 
 #[test]
