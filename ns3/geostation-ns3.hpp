@@ -238,6 +238,14 @@ class StationApplication : public ns3::Application {
         });
     }
 
+    /// Sends a payload to all stations in reach, with a lifetime and media-dependent data.
+    Status SendShbWith(const geostation_shb_request &request,
+                       const geostation_shb_options &options, Octets payload) {
+        return Send(GEOSTATION_SHB, [&](Frame &frame) {
+            return station_->send_shb_with(Now(), request, options, payload, frame);
+        });
+    }
+
     /// Sends a payload to all stations in an area.
     Status SendGbc(const geostation_area_request &request, Octets payload) {
         return Send(GEOSTATION_GBC, [&](Frame &frame) {

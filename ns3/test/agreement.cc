@@ -11,6 +11,8 @@
 #include "ns3/config.h"
 #include "ns3/constant-position-mobility-model.h"
 
+#include <algorithm>
+#include <array>
 #include <fstream>
 #include <iostream>
 #include <memory>
@@ -30,6 +32,17 @@ std::vector<std::uint8_t> Bytes(const std::string &hex) {
         bytes.push_back(static_cast<std::uint8_t>(std::stoul(hex.substr(i, 2), nullptr, 16)));
     }
     return bytes;
+}
+
+/// Media-dependent data that an SHB with this port info carries, which `sim` does not have.
+std::array<std::uint8_t, 4> MediaOf(std::uint16_t info) {
+    return {static_cast<std::uint8_t>(info >> 8), static_cast<std::uint8_t>(info), 0, 7};
+}
+
+/// Whether a reception has the media-dependent data that were sent.
+bool HasItsMedia(const geostation_reception &got) {
+    const auto media = got.kind == GEOSTATION_SHB ? MediaOf(got.info) : decltype(MediaOf(0)){};
+    return std::equal(media.begin(), media.end(), got.media);
 }
 
 struct Run {
@@ -67,6 +80,7 @@ struct Run {
             Callback<void, const geostation::Delivery &>([i](const geostation::Delivery &got) {
                 std::printf("%" PRId64 " %zu %u ", Simulator::Now().GetMilliSeconds(), i,
                             unsigned{got.reception.port});
+                NS_ABORT_MSG_UNLESS(HasItsMedia(got.reception), "media-dependent data");
                 for (std::size_t k = 0; k < got.payload.size; k++) {
                     std::printf("%02x", unsigned{got.payload.data[k]});
                 }
@@ -106,7 +120,10 @@ struct Run {
             const geostation_shb_request request{static_cast<std::uint16_t>(port),
                                                  static_cast<std::uint16_t>(info),
                                                  static_cast<std::uint8_t>(traffic_class)};
-            (void)station->SendShb(request, {bytes.data(), bytes.size()});
+            geostation_shb_options options{0x1a, {}};
+            const auto media = MediaOf(request.info);
+            std::copy(media.begin(), media.end(), options.media);
+            (void)station->SendShbWith(request, options, {bytes.data(), bytes.size()});
         } else {
             unsigned lifetime, hops, a, b, angle;
             geostation_area_request area{};
