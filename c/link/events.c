@@ -3,8 +3,9 @@
 #include <inttypes.h>
 #include <stdarg.h>
 #include <stdio.h>
+#include <string.h>
 
-/* The longest event is a delivery: about 150 octets, and two for each octet of the payload. */
+/* The longest event is a delivery: about 200 octets, and two for each octet of the payload. */
 _Static_assert(sizeof(((struct text *)0)->octets) > 2 * GEOSTATION_PAYLOAD_MAX + 256, "text");
 
 __attribute__((format(printf, 2, 3))) static void put(struct text *t, const char *format, ...) {
@@ -91,11 +92,21 @@ static void put_verified(struct text *t, const struct answer *a) {
     }
 }
 
+/* Media-dependent data of zeros are left out. */
+static void put_media(struct text *t, const uint8_t media[4]) {
+    static const uint8_t none[4];
+    if (memcmp(media, none, sizeof none) != 0) {
+        put(t, "\"media\":\"%02x%02x%02x%02x\",", media[0], media[1], media[2], media[3]);
+    }
+}
+
 void event_delivered(struct text *t, uint64_t moment, const struct geostation_reception *r,
                      const uint8_t *payload, const struct answer *verified) {
     begin_at(t, moment, "delivered");
-    put(t, "\"source\":\"%016" PRIx64 "\",\"port\":%u,\"info\":%u,\"tc\":%u,\"payload\":\"",
-        r->source, r->port, r->info, r->traffic_class);
+    put(t, "\"source\":\"%016" PRIx64 "\",\"port\":%u,\"info\":%u,\"tc\":%u,", r->source,
+        r->port, r->info, r->traffic_class);
+    put_media(t, r->media);
+    put(t, "\"payload\":\"");
     t->length += hex_write(t->octets + t->length, payload, r->payload_length);
     put(t, "\"");
     if (verified != NULL) {

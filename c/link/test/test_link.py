@@ -63,17 +63,24 @@ def test_three():
         for k in range(20):
             has({"result": "sent"}, a.ask(**GBC, payload=f"{k:04x}"))
         has({"result": "sent"}, b.ask(do="shb", port=7, info=1, tc=3, payload="abcd"))
+        measured = {"do": "shb", "port": 7, "info": 1, "tc": 3, "payload": "ef"}
+        has({"result": "sent"}, b.ask(**measured, media="4D5A00ff"))
+        has({"error": "media"}, b.ask(**measured, media="4d5a00f"))
         has({"result": "sent"}, c.ask(**{**GBC, "do": "gac"}, payload=""))
-        wanted, limit = 20 * 3 + 2, time.monotonic() + PATIENCE  # two forward each GBC
+        wanted, limit = 20 * 3 + 3, time.monotonic() + PATIENCE  # two forward each GBC
         while len(air.frames) < wanted:
             assert time.monotonic() < limit, len(air.frames)
             air.run(0.1)
         for d in (b, c):
             got = [e for e in d.seen() if e["source"] == a.ready["address"]]
             assert sorted(e["payload"] for e in got) == [f"{k:04x}" for k in range(20)], got
-        heard = next(e for e in a.seen() if e["port"] == 7)
-        assert list(heard) == ["at", "event", "source", "port", "info", "tc", "payload"], heard
-        has({"source": b.ready["address"], "info": 1, "tc": 3, "payload": "abcd"}, heard)
+        plain, heard = (e for e in a.seen() if e["port"] == 7)
+        keys = ["at", "event", "source", "port", "info", "tc", "payload"]
+        assert (list(plain), list(heard)) == (keys, [*keys[:-1], "media", "payload"]), heard
+        has({"source": b.ready["address"], "info": 1, "tc": 3, "payload": "abcd"}, plain)
+        has({"source": b.ready["address"], "media": "4d5a00ff", "payload": "ef"}, heard)
+        single = [f for f in air.frames if frames.kind_of(f) == "shb"]
+        assert [f[50:54].hex() for f in single] == ["00000000", "4d5a00ff"], single
         if shutil.which("tshark"):
             write_pcap(air.frames, f"{room}/air.pcap")
             assert dissect(f"{room}/air.pcap") == len(air.frames)
