@@ -648,6 +648,35 @@ static const char TO_AREA[] =
     "\"shape\":\"circle\",\"alat\":449,\"alon\":0,\"a\":200,\"b\":0,\"angle\":0,"
     "\"payload\":\"6869\"}";
 
+/* A line that receives the frame of this length. */
+static void write_receive(char *line, size_t room, size_t n) {
+    size_t at = (size_t)snprintf(line, room, "{\"do\":\"receive\",\"frame\":\"");
+    for (size_t i = 0; i < n; i++, at += 2)
+        snprintf(line + at, room - at, "%02x", frame[i]);
+    snprintf(line + at, room - at, "\"}");
+}
+
+/* Media-dependent data of a line are sent, and those that came are in the answer, but zeros. */
+static void test_media_of_lines(void) {
+    static const char sent[] = "{\"at\":7,\"result\":\"sent\",\"frame\":\"";
+    struct geostation *a = station(A_ADDRESS, 0, 64), *b = station(B_ADDRESS, 900, 64);
+    char line[2 * ROOM + 40];
+    CHECK(answers(a, 7, "{\"do\":\"shb\",\"port\":2002,\"info\":0,\"tc\":0,\"media\":\"4D5a00Ff\","
+                  "\"payload\":\"6869\"}", sent, 1, 60));
+    CHECK(frame[16] == 0x1a && memcmp(frame + 50, "\x4d\x5a\x00\xff", 4) == 0);
+    write_receive(line, sizeof line, 60);
+    CHECK(answers(b, 8, line, "{\"at\":8,\"result\":\"accepted\",\"source\":\"1400020000000001\","
+                  "\"media\":\"4d5a00ff\"}", 0, 0));
+    CHECK(answers(a, 7, "{\"do\":\"shb\",\"port\":2002,\"info\":0,\"tc\":0,\"payload\":\"6869\"}", sent,
+                  1, 60) && memcmp(frame + 50, "\0\0\0\0", 4) == 0);
+    write_receive(line, sizeof line, 60);
+    CHECK(answers(b, 8, line, "{\"at\":8,\"result\":\"accepted\",\"source\":\"1400020000000001\"}", 0, 0));
+    CHECK(answers(a, 7, "{\"do\":\"shb\",\"port\":2002,\"info\":0,\"tc\":0,\"media\":\"4d5a00f\","
+                  "\"payload\":\"6869\"}", "{\"line\":5,\"error\":\"media\",\"reason\":\"", 1, 0));
+    geostation_free(a);
+    geostation_free(b);
+}
+
 /* Lines of JSON: their answers and frames are those of the calls. */
 static void test_lines(void) {
     static const char sent[] = "{\"id\":\"w\",\"at\":7,\"result\":\"sent\",\"frame\":\"";
@@ -666,10 +695,7 @@ static void test_lines(void) {
     CHECK(are_digits(answer + sizeof sent - 1, frame, n));
     CHECK(geostation_next_number(a) == 1);
 
-    snprintf(line, sizeof line, "{\"do\":\"receive\",\"frame\":\"");
-    for (size_t i = 0, at = strlen(line); i < n; i++, at += 2)
-        snprintf(line + at, sizeof line - at, "%02x", frame[i]);
-    strcat(line, "\"}");
+    write_receive(line, sizeof line, n);
     CHECK(answers(b, 8, line, came, 1, n) && are_digits(answer + sizeof came - 1, frame, n));
     CHECK(answers(b, 8, line, "{\"at\":8,\"result\":\"ignored\",\"why\":\"duplicate\"}", 0,
                   0));
@@ -1378,6 +1404,7 @@ int main(int argc, char **argv) {
     test_padding();
     test_counts();
     test_lines();
+    test_media_of_lines();
     test_rights();
     test_line_results();
     test_limited_lines();
