@@ -7,7 +7,7 @@ from threading import get_ident
 from typing import Iterator, List, NoReturn, Optional, Tuple, TypeVar, Union
 
 from .errors import BadArgument
-from .values import Area, Counts, Reception, Vector, place, whole
+from .values import NO_MEDIA, Area, Counts, Reception, Vector, place, whole
 
 FRAME_MAX = 1468
 """The longest frame, in bytes."""
@@ -19,8 +19,6 @@ PAYLOAD_MAX = 1394
 """The longest payload that can be sent, in bytes."""
 LAST_MOMENT = 1 << 62
 """The latest time that a call accepts, in ms."""
-NO_MEDIA = bytes(4)
-"""Media-dependent data of zeros."""
 
 Address = Union[int, str]
 Degrees = Optional[Tuple[float, float]]

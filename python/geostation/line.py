@@ -8,9 +8,10 @@ import subprocess
 from dataclasses import asdict
 from typing import Any, Dict, List, Optional, Sequence, Tuple, Union
 
-from .calls import FRAME_MAX, NO_MEDIA, PAYLOAD_MAX, SECURED_FRAME_MAX, Calls, octets
+from .calls import FRAME_MAX, PAYLOAD_MAX, SECURED_FRAME_MAX, Calls, octets
 from .errors import BadArgument, Refused, Status, refused_by
 from .values import (
+    NO_MEDIA,
     Area,
     Contention,
     ContentionCounts,

@@ -7,10 +7,11 @@ from dataclasses import fields
 from typing import Any, Callable, List, Optional, Tuple
 
 from . import library
-from .calls import ANSWER_MAX, FRAME_MAX, NO_MEDIA, SECURED_FRAME_MAX, Address, Calls, Degrees
+from .calls import ANSWER_MAX, FRAME_MAX, SECURED_FRAME_MAX, Address, Calls, Degrees
 from .calls import media_of, moment, octets
 from .errors import BadArgument, BadFrame, Fault, OverRate, Refused, Status
 from .values import (
+    NO_MEDIA,
     Area,
     Contention,
     ContentionCounts,

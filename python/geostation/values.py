@@ -9,6 +9,10 @@ from typing import Optional, Tuple
 from .errors import BadArgument
 
 
+NO_MEDIA = bytes(4)
+"""Media-dependent data of zeros."""
+
+
 class Kind(IntEnum):
     """The type of a packet."""
 
@@ -220,7 +224,7 @@ class Reception:
     While it is set, `relay` is `None`."""
     cancelled: bool = False
     """With contention: whether this frame has cancelled a held one."""
-    media: bytes = bytes(4)
+    media: bytes = NO_MEDIA
     """Media-dependent data of an SHB that was accepted, otherwise zeros (see `send_shb`)."""
 
 
