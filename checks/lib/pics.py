@@ -82,7 +82,7 @@ def constants():
     payload = constant("crates/its_headers/src/payload.rt", "LONGEST_PAYLOAD")
     life = constant("crates/its_loctable/src/renewal.rt", "ENTRY_LIFE") // 1000
     wait, jitter = constant(sending, "BEACON_WAIT"), constant(sending, "MAX_JITTER")
-    short = lifetime(constant(sending, "SHORT_LIFETIME"))
+    short = lifetime(constant("crates/its_station/src/requests.rt", "SHORT_LIFETIME"))
     version = constant("crates/its_headers/src/wire/basic.rt", "VERSION_1")
     road_side = number_in(f"{link}/parts.h", r"ROAD_SIDE_UNIT = (\d+)")
     metres = number_in(f"{link}/arguments.c", r"\.pai_metres = (\d+)")

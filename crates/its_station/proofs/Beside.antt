@@ -12,7 +12,7 @@ use Rattle.its_model.specs.Station.{shb_of, after_sending}
 use Rattle.its_station.specs.declared.refused.Refused.{Refused}
 use Rattle.its_station.specs.State.{StationState, IsPast, RepresentsStation, model_of}
 use Rattle.its_station.specs.Steps.{IsStepOf, refusal_of}
-use Rattle.its_station.specs.Beside.{step_by, send_shb_for_step, shb_refusal}
+use Rattle.its_station.specs.Beside.{default_options, step_by, send_shb_for_step, shb_refusal}
 use Rattle.its_station.proofs.Stations.{at_model, represents}
 
 -- a step that is refused, by the refusal that is owed
@@ -109,9 +109,9 @@ done_step says x st new after o done fields allowed told is =
           (is ports history past),
     ))
 
--- with the lifetime of 60 s a single-hop broadcast is the model's
+-- with the default options a single-hop broadcast is the model's
 pub usual_shb : (s : StationModel) (now : ℕ) (r : ShbRequest)
-    → send_shb_for_step s now 26 r ≡ own_step s now (SendShb r)
+    → send_shb_for_step s now default_options r ≡ own_step s now (SendShb r)
 unfolding own_step
 usual_shb s now r = by (shb_refusal s now r)
   where

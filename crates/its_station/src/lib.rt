@@ -104,7 +104,7 @@ pub use neighbours::Neighbours;
 pub use outcome::{Handed, Outcome, Why};
 pub use received::ReceivedFrame;
 pub use refused::{Refused, RefusedCode};
-pub use requests::{GbcRequest, OwnedGbcRequest, OwnedShbRequest, ShbRequest};
+pub use requests::{GbcRequest, OwnedGbcRequest, OwnedShbRequest, ShbOptions, ShbRequest};
 pub use run::{Ran, Reply};
 pub use sending::{AreaCast, MAX_PAYLOAD};
 pub use station::{LAST_MOMENT, Station};

@@ -1,6 +1,7 @@
 //! What an application asks a station to send.
 
 ghost use Rattle.std.specs.Prelude.{◌≡◌};
+ghost use Rattle.its_station.specs.Beside.{default_options};
 ghost use Rattle.its_station.specs.Requests.{gbc_request, shb_request, owned_gbc, owned_shb};
 
 use its_geometry::Area;
@@ -36,6 +37,31 @@ pub struct ShbRequest<'a> {
     pub class: TrafficClass,
     /// What is sent to the port, at most 1394 octets.
     pub payload: &'a [u8],
+}
+
+/// The lifetime of beacons and single-hop broadcasts: 6 times 10 s (profile).
+pub(crate) const SHORT_LIFETIME: u8 = 0x1a;
+
+/// What a single-hop broadcast has besides its request. The default: 60 s, and zeros.
+#[derive(Clone, Copy, Debug, PartialEq, Eq)]
+pub struct ShbOptions {
+    /// How long the packet lives.
+    pub lifetime: Lifetime,
+    /// The media-dependent data, for example channel busy ratios and power (EN 302 636-4-2).
+    /// Neighbours use it as measured values.
+    pub media: [u8; 4],
+}
+
+impl Default for ShbOptions {
+    /// A lifetime of 60 s, and zeros.
+    fn default() -> Self
+        ensures { result ≡ default_options }
+    {
+        ShbOptions {
+            lifetime: Lifetime::from_octet(SHORT_LIFETIME),
+            media: [0; 4],
+        }
+    }
 }
 
 /// A `GbcRequest` that owns its payload.

@@ -22,7 +22,7 @@ ghost use Rattle.its_station.specs.Requests.{gbc_request, shb_request, kind_cast
 ghost use Rattle.its_station.specs.Requests.{TellsSent, TellsTick};
 
 use crate::refused::Refused;
-use crate::requests::{GbcRequest, ShbRequest};
+use crate::requests::{GbcRequest, SHORT_LIFETIME, ShbOptions, ShbRequest};
 use crate::station::Station;
 use its_btp::{HEADER_LENGTH, join_into};
 use its_forwarding::{Choice, choose};
@@ -41,9 +41,6 @@ pub(crate) const MAX_JITTER: u16 = 750;
 
 /// From one packet of a station's own to its next beacon, in milliseconds (profile).
 const BEACON_WAIT: u64 = 3000;
-
-/// The lifetime of beacons and single-hop broadcasts: 6 times 10 s (profile).
-const SHORT_LIFETIME: u8 = 0x1a;
 
 /// The kinds of packet for an area.
 #[derive(Clone, Copy, Debug, PartialEq, Eq)]
@@ -106,20 +103,20 @@ impl<S: LocationStore> Station<S> {
             first (moment_refusal s now) (own_refusal s (SendShb (shb_request r.now))) ≡ None }
         ensures short_frame { IfOk result (λ frame. length frame.items ≤ 1468) }
     {
-        self.send_shb_for(now, r, Lifetime::from_octet(SHORT_LIFETIME))
+        self.send_shb_for(now, r, ShbOptions::default())
     }
 
-    /// A single-hop broadcast that lives as long as this says, in place of 60 s. It is refused as
-    /// one of `send_shb` is.
+    /// The frame of a single-hop broadcast with a lifetime and media-dependent data of its own. It
+    /// is refused as one of `send_shb` is.
     pub fn send_shb_for(
         &mut self,
         now: u64,
         r: &ShbRequest<'_>,
-        lifetime: Lifetime,
+        options: ShbOptions,
     ) -> Result<Vec<u8>, Refused>
         ensures step { (s : StationModel) → RepresentsStation self.old s →
             IsStepOf TellsSent result self.new
-            (send_shb_for_step s now lifetime (shb_request r.now)) }
+            (send_shb_for_step s now options (shb_request r.now)) }
         ensures unchanged { OnErr result (self.new ≡ self.old) }
         ensures memory { (s : StationModel) → RepresentsStation self.old s →
             result ≡ Err Refused.NoMemory → shb_refusal s now (shb_request r.now) ≡ None }
@@ -129,7 +126,7 @@ impl<S: LocationStore> Station<S> {
         if r.payload.len() > MAX_PAYLOAD {
             return Err(Refused::PayloadTooLong);
         }
-        let frame = self.shb_frame(r, lifetime)?;
+        let frame = self.shb_frame(r, options)?;
         self.mark_sent(now);
         Ok(frame)
     }
@@ -234,16 +231,16 @@ impl<S: LocationStore> Station<S> {
         write_frame(self.alloc, Mac::BROADCAST, self.mac(), &packet)
     }
 
-    fn shb_frame(&self, r: &ShbRequest<'_>, lifetime: Lifetime) -> Result<Vec<u8>, NoMemory>
+    fn shb_frame(&self, r: &ShbRequest<'_>, options: ShbOptions) -> Result<Vec<u8>, NoMemory>
         requires { length r.now.payload.now ≤ 1394 }
         ensures octets { (ports : List ℕ) (history : List Reception) → IfOk result (λ w.
-            EncodesFrame (shb_for (model_of self.now ports history) lifetime (shb_request r.now))
+            EncodesFrame (shb_for (model_of self.now ports history) options (shb_request r.now))
             w.items) }
         ensures short_frame { IfOk result (λ frame. length frame.items ≤ 1468) }
     {
         let packet = Packet::Shb(SingleHopBroadcast {
-            header: self.short_header(lifetime, r.class),
-            media: [0; 4],
+            header: self.short_header(options.lifetime, r.class),
+            media: options.media,
             payload: payload_of(self.alloc, r.port, r.info, r.payload)?,
         });
         write_frame(self.alloc, Mac::BROADCAST, self.mac(), &packet)

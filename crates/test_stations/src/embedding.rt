@@ -3,6 +3,7 @@
 mod counts;
 mod known;
 mod mobile;
+mod options;
 mod roadside;
 
 use its_faults::{Fault, FaultKind, FrameFault};

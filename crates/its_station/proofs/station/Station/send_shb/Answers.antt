@@ -10,6 +10,6 @@ pub returns-clause-step : goal.returns-clause-step
 returns-clause-step g c = λ s rep.
     let r = shb_request c.args.r.now in
     subst (λ (x : Step). IsStepOf TellsSent c.send_shb_for.result c.send_shb_for.new.self x)
-    (ap (λ lifetime. send_shb_for_step s c.args.now lifetime r) c.from_octet.ensures
+    (ap (λ options. send_shb_for_step s c.args.now options r) c.default.ensures
     ∙ usual_shb s c.args.now r)
     (c.send_shb_for.ensures.step s rep)

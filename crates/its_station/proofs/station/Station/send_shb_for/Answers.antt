@@ -16,7 +16,7 @@ returns-in_err-check_moment-clause-step g c =
     let r = shb_request c.args.r.now in
     moment_first TellsSent c.args.self.now c.args.now _ c.from_residual.result
     (λ m. record {
-      answer = model.Answer.Sent (shb_for m c.args.lifetime r);
+      answer = model.Answer.Sent (shb_for m c.args.options r);
       station = after_sending m c.args.now;
     }) r c.from_residual.ensures.1 c.in_err-check_moment.ensures.refusal
 
@@ -26,7 +26,7 @@ returns-then-r-gt-MAX_PAYLOAD-clause-step g c =
     refused_step TellsSent c.args.self.now refused.PayloadTooLong
     (λ m. shb_refusal m c.args.now r)
     (λ m. record {
-      answer = model.Answer.Sent (shb_for m c.args.lifetime r);
+      answer = model.Answer.Sent (shb_for m c.args.options r);
       station = after_sending m c.args.now;
     })
     (λ ports history. λ i. first (c.in_ok-check_moment.ensures.refusal ports history i)
@@ -39,14 +39,14 @@ returns-clause-step g c =
     done_step TellsSent c.in_ok-frame.frame c.args.self.now c.mark_sent.new.self _
     (λ m. shb_refusal m c.args.now r)
     (λ m. record {
-      answer = model.Answer.Sent (shb_for m c.args.lifetime r);
+      answer = model.Answer.Sent (shb_for m c.args.options r);
       station = after_sending m c.args.now;
     }) c.mark_sent.ensures
     (λ ports history. λ i. first (c.in_ok-check_moment.ensures.refusal ports history i)
     (cond (sym (le-ltb 1394 (length c.args.r.now.payload.now) c.if-r-gt-MAX_PAYLOAD.false) i)
     (Some model.Refusal.PayloadTooLong) None))
     (λ ports history past. record {
-      sent = shb_for (model_of c.args.self.now ports history) c.args.lifetime r;
+      sent = shb_for (model_of c.args.self.now ports history) c.args.options r;
       is = refl;
       frame =
           c.in_ok-frame.ensures.octets ports history;
