@@ -251,7 +251,7 @@ none_counted : (R : Holds) (u : UnitModel) (now : ℕ) (call : UnitCall) (b : Bu
     (step_within u.station now call) (frame_of call) h.frame.octets h.senders))) b.held
     → All R b.held
 none_counted R u now (UnitCall.Own call) b is all = all
-none_counted R u now (UnitCall.SendShbFor lifetime request) b is all = all
+none_counted R u now (UnitCall.SendShbFor options request) b is all = all
 none_counted R u now (UnitCall.MoveAt timestamp place accurate speed heading) b is all = all
 none_counted R u now (UnitCall.Receive call) b is all = absurd (false≢true is)
 none_counted R u now (UnitCall.ReceiveVerified call) b is all = absurd (false≢true is)

@@ -13,6 +13,7 @@ use Rattle.its_model.specs.Station.{own_refusal, first, payload_refusal, after_s
 use Rattle.its_model.specs.Station.{moment_refusal}
 use Rattle.its_model.specs.Isolation.{TimedCall, station_run}
 use Rattle.its_station.specs.Beside.{send_shb_for_step, shb_for, step_by}
+use Rattle.its_station.specs.declared.requests.ShbOptions.{ShbOptions}
 use Rattle.its_station.specs.Receiving.{VerifiedCall}
 use Rattle.its_governor.specs.declared.bucket.Bucket.{Bucket}
 use Rattle.its_governor.specs.declared.governor.Governor.{Governor}
@@ -165,7 +166,7 @@ same_step s now (UnitCall.Own own) c is =
     ap (λ (x : Call). station_step s now x) (same_Some (model.Call.Own own) c is)
 same_step s now (UnitCall.MoveAt timestamp place accurate speed heading) c is =
     absurd (none-some c is)
-same_step s now (UnitCall.SendShbFor lifetime request) c is = absurd (none-some c is)
+same_step s now (UnitCall.SendShbFor options request) c is = absurd (none-some c is)
 same_step s now (UnitCall.Receive call) c is =
     ap (λ (x : Call). station_step s now x) (same_Some call c is)
 same_step s now (UnitCall.ReceiveVerified (VerifiedCall.Came v)) c is =
@@ -336,14 +337,15 @@ own_in_time s now own t e =
     (own_step_by s now own (first o (own_refusal s own))).answer ≡ model.Answer.Sent t)
     (λ r h. false≢true (ap is_sent h)) e
 
-shb_in_time : (s : StationModel) (now lifetime : ℕ) (r : ShbRequest) (t : Transmission)
-    → (send_shb_for_step s now lifetime r).answer ≡ model.Answer.Sent t
+shb_in_time : (s : StationModel) (now : ℕ) (options : ShbOptions) (r : ShbRequest)
+    (t : Transmission)
+    → (send_shb_for_step s now options r).answer ≡ model.Answer.Sent t
     → (leb s.clock now && leb now (2 ^ 62)) ≡ true
 unfolding is_sent
-shb_in_time s now lifetime r t e =
+shb_in_time s now options r t e =
     in_time s now
     (λ (o : Option Refusal). (step_by s (first o (payload_refusal r.message)) (record {
-      answer = model.Answer.Sent (shb_for s lifetime r);
+      answer = model.Answer.Sent (shb_for s options r);
       station = after_sending s now;
     })).answer ≡ model.Answer.Sent t)
     (λ r h. false≢true (ap is_sent h)) e
@@ -352,8 +354,8 @@ sent_in_time : (s : StationModel) (now : ℕ) (call : UnitCall) (t : Transmissio
     → is_request call ≡ true → (step_within s now call).answer ≡ model.Answer.Sent t
     → (leb s.clock now && leb now (2 ^ 62)) ≡ true
 sent_in_time s now (UnitCall.Own own) t is e = own_in_time s now own t e
-sent_in_time s now (UnitCall.SendShbFor lifetime request) t is e =
-    shb_in_time s now lifetime request t e
+sent_in_time s now (UnitCall.SendShbFor options request) t is e =
+    shb_in_time s now options request t e
 sent_in_time s now (UnitCall.MoveAt timestamp place accurate speed heading) t is e =
     absurd (false≢true is)
 sent_in_time s now (UnitCall.Receive call) t is e = absurd (false≢true is)

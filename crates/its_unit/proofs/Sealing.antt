@@ -17,7 +17,9 @@ use Rattle.its_headers.specs.Encoding.{Encodes, common_header, extended_header}
 use Rattle.its_headers.specs.Inner.{inner_octets}
 use Rattle.its_headers.proofs.Encodings.{one_encoding}
 use Rattle.its_linkframe.specs.Secured.{basic_on_air}
-use Rattle.its_station.specs.Beside.{send_shb_for_step, shb_for, shb_refusal, stands_at, step_by}
+use Rattle.its_station.specs.Beside.{default_options, send_shb_for_step, shb_for, shb_refusal}
+use Rattle.its_station.specs.Beside.{stands_at, step_by}
+use Rattle.its_station.specs.declared.requests.ShbOptions.{ShbOptions}
 use Rattle.its_unit.specs.Unit.{UnitCall, step_within}
 use Rattle.its_unit.specs.Signed.{IsPlainPart, is_own}
 use Rattle.its_unit.specs.SignedLaws.{AsksToSend}
@@ -98,10 +100,10 @@ handed_in at area sent m h =
     let b = both (is_among sent.port at.ports) (area_holds area at.vector.place) o.0 in
     record { opened = is_open at.ports sent m b.0 o.1; same = o.1; inside = b.1 }
 
-shb_own : (s : StationModel) (r : ShbRequest) (lifetime : ℕ) (call : UnitCall)
+shb_own : (s : StationModel) (r : ShbRequest) (options : ShbOptions) (call : UnitCall)
     → ((m : Message) (at : StationModel) → r.message ≡ m → AsksToSend call m at.vector.place)
-    → IsOwnFrame s call (shb_for s lifetime r)
-shb_own s r lifetime call asks = record {
+    → IsOwnFrame s call (shb_for s options r)
+shb_own s r options call asks = record {
   named = refl;
   request = λ at m h. (let o = open_handed (is_among r.message.port at.ports) r.message m h in
       (is_open at.ports r.message m o.0 o.1, asks m at o.1));
@@ -126,7 +128,7 @@ performed_own s now (model.OwnCall.Tick jitter) t e = by (leb (s.beacon_from + j
     by false e = cc
 performed_own s now (model.OwnCall.SendShb r) t e =
     subst (IsOwnFrame s (UnitCall.Own (model.OwnCall.SendShb r))) (same_sent (shb_of s r) t e)
-    (shb_own s r 26 (UnitCall.Own (model.OwnCall.SendShb r)) (λ m at same. same))
+    (shb_own s r default_options (UnitCall.Own (model.OwnCall.SendShb r)) (λ m at same. same))
 performed_own s now (model.OwnCall.SendGbc r) t e =
     subst (IsOwnFrame s (UnitCall.Own (model.OwnCall.SendGbc r))) (same_sent (gbc_of s now r) t e)
     (record {
@@ -153,21 +155,22 @@ own_made s now call t e = by (first (moment_refusal s now) (own_refusal s call))
     by (Some r) e = cc
     by None e = performed_own s now call t e
 
-shb_made : (s : StationModel) (now lifetime : ℕ) (r : ShbRequest) (t : Transmission)
-    → (send_shb_for_step s now lifetime r).answer ≡ model.Answer.Sent t
-    → IsOwnFrame s (UnitCall.SendShbFor lifetime r) t
-shb_made s now lifetime r t e = by (shb_refusal s now r) e
+shb_made : (s : StationModel) (now : ℕ) (options : ShbOptions) (r : ShbRequest)
+    (t : Transmission)
+    → (send_shb_for_step s now options r).answer ≡ model.Answer.Sent t
+    → IsOwnFrame s (UnitCall.SendShbFor options r) t
+shb_made s now options r t e = by (shb_refusal s now r) e
   where
     by : (o : Option Refusal)
         → (step_by s o (record {
-          answer = model.Answer.Sent (shb_for s lifetime r);
+          answer = model.Answer.Sent (shb_for s options r);
           station = after_sending s now;
         })).answer ≡ model.Answer.Sent t
-        → IsOwnFrame s (UnitCall.SendShbFor lifetime r) t
+        → IsOwnFrame s (UnitCall.SendShbFor options r) t
     by (Some refusal) e = cc
-    by None e = subst (IsOwnFrame s (UnitCall.SendShbFor lifetime r))
-        (same_sent (shb_for s lifetime r) t e)
-        (shb_own s r lifetime (UnitCall.SendShbFor lifetime r) (λ m at same. same))
+    by None e = subst (IsOwnFrame s (UnitCall.SendShbFor options r))
+        (same_sent (shb_for s options r) t e)
+        (shb_own s r options (UnitCall.SendShbFor options r) (λ m at same. same))
 
 -- a frame that a station makes by a call of its own
 pub sent_own : (s : StationModel) (now : ℕ) (call : UnitCall) (t : Transmission)
@@ -185,7 +188,7 @@ sent_own s now (UnitCall.MoveAt timestamp place accurate speed heading) t own e 
         → IsOwnFrame s (UnitCall.MoveAt timestamp place accurate speed heading) t
     by (Some r) e = cc
     by None e = cc
-sent_own s now (UnitCall.SendShbFor lifetime request) t own e =
-    shb_made s now lifetime request t e
+sent_own s now (UnitCall.SendShbFor options request) t own e =
+    shb_made s now options request t e
 sent_own s now (UnitCall.Receive call) t own e = absurd (false≢true own)
 sent_own s now (UnitCall.ReceiveVerified call) t own e = absurd (false≢true own)

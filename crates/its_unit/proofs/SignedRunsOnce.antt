@@ -138,9 +138,9 @@ asked_keeps s now (UnitCall.MoveAt timestamp place accurate speed heading) own =
       answer = model.Answer.Moved;
       station = stands_at s now timestamp place accurate speed heading;
     }) (λ e. e) refl refl refl
-asked_keeps s now (UnitCall.SendShbFor lifetime request) own =
+asked_keeps s now (UnitCall.SendShbFor options request) own =
     beside_keeps s now (shb_refusal s now request) (record {
-      answer = model.Answer.Sent (shb_for s lifetime request);
+      answer = model.Answer.Sent (shb_for s options request);
       station = after_sending s now;
     }) (λ e. first_none (moment_refusal s now) _ e) refl refl refl
 asked_keeps s now (UnitCall.Receive call) own = absurd (false≢true own)

@@ -100,9 +100,9 @@ within_address a s now (UnitCall.MoveAt timestamp place accurate speed heading) 
       answer = model.Answer.Moved;
       station = stands_at s now timestamp place accurate speed heading;
     }) h (record { station = h.station; vector = h.station })
-within_address a s now (UnitCall.SendShbFor lifetime request) h =
+within_address a s now (UnitCall.SendShbFor options request) h =
     beside_address a s (shb_refusal s now request) (record {
-      answer = model.Answer.Sent (shb_for s lifetime request);
+      answer = model.Answer.Sent (shb_for s options request);
       station = after_sending s now;
     }) h (record { station = h.station; vector = h.vector })
 within_address a s now (UnitCall.Receive (model.Call.Own call)) h = own_address a s now call h
@@ -278,9 +278,9 @@ own_accepts_none s now (UnitCall.MoveAt timestamp place accurate speed heading) 
       answer = model.Answer.Moved;
       station = stands_at s now timestamp place accurate speed heading;
     }) (λ x. x) e
-own_accepts_none s now (UnitCall.SendShbFor lifetime request) own e =
+own_accepts_none s now (UnitCall.SendShbFor options request) own e =
     beside_none s (shb_refusal s now request) (record {
-      answer = model.Answer.Sent (shb_for s lifetime request);
+      answer = model.Answer.Sent (shb_for s options request);
       station = after_sending s now;
     }) (λ x. x) e
 own_accepts_none s now (UnitCall.Receive call) own e = absurd (false≢true own)

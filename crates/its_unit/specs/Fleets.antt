@@ -71,7 +71,7 @@ unit_kind = record {
 
 -- What happens to a unit:
 -- - `Calls`: an own call of the model. A move with a time stamp of its own is no such call, nor is
---   a single-hop broadcast with a lifetime of its own
+--   a single-hop broadcast with options of its own
 -- - `Deliver`: a frame arrives that a unit sent, by the number that the fleet gave to it
 -- - `DeliverVerified`: the same frame arrives as a verified secured frame with this message
 -- - `Release`: the unit may send a frame that waits

@@ -81,13 +81,13 @@ pub record IsStationRun (u : UnitModel) : Type 0 where
       → IsPartOf (unit_step now next.now next.call).answer
       (step_within now.station next.now next.call).answer
 
--- The call is one of the model: no move with a time stamp of its own, no single-hop broadcast with a
--- lifetime of its own, and no faulty secured frame. A secured frame with its plain part is the packet
+-- The call is one of the model: no move with a time stamp of its own, no single-hop broadcast with
+-- options of its own, and no faulty secured frame. A secured frame with its plain part is the packet
 -- that they are.
 abbrev pub model_call : UnitCall → Option Call
 model_call (UnitCall.Own call) = Some (model.Call.Own call)
 model_call (UnitCall.MoveAt timestamp place accurate speed heading) = None
-model_call (UnitCall.SendShbFor lifetime request) = None
+model_call (UnitCall.SendShbFor options request) = None
 model_call (UnitCall.Receive call) = Some call
 model_call (UnitCall.ReceiveVerified (VerifiedCall.Came v)) = Some (model.Call.Receive v.frame)
 model_call (UnitCall.ReceiveVerified (VerifiedCall.Faulty fault)) = None

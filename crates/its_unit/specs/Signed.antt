@@ -99,7 +99,7 @@ IsSoundCall log plain (VerifiedCall.Faulty fault) = Unit {0}
 abbrev pub is_own : UnitCall → Bool
 is_own (UnitCall.Own call) = true
 is_own (UnitCall.MoveAt timestamp place accurate speed heading) = true
-is_own (UnitCall.SendShbFor lifetime request) = true
+is_own (UnitCall.SendShbFor options request) = true
 is_own (UnitCall.Receive call) = false
 is_own (UnitCall.ReceiveVerified call) = false
 

@@ -59,7 +59,7 @@ AsksToSend (UnitCall.Own (model.OwnCall.SendGbc request)) message here =
     AsksInside request message here
 AsksToSend (UnitCall.Own (model.OwnCall.SendGac request)) message here =
     AsksInside request message here
-AsksToSend (UnitCall.SendShbFor lifetime request) message here = request.message ≡ message
+AsksToSend (UnitCall.SendShbFor options request) message here = request.message ≡ message
 AsksToSend call message here = ⊥
 
 -- The unit whose address the packet bears sent it before, with this message, for an area that holds

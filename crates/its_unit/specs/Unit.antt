@@ -12,6 +12,7 @@ use Rattle.its_station.specs.State.{StationState, RepresentsStation}
 use Rattle.its_station.specs.Beside.{move_at_step, send_shb_for_step}
 use Rattle.its_station.specs.Receiving.{VerifiedCall, verified_step}
 use Rattle.its_station.specs.declared.counts.Counts.{Counts}
+use Rattle.its_station.specs.declared.requests.ShbOptions.{ShbOptions}
 use Rattle.its_governor.specs.declared.governor.Governor.{Governor}
 use Rattle.its_governor.specs.declared.receiver.Receiver.{Receiver}
 use Rattle.its_governor.specs.Governing.{frame_in, verified_frame, governed, is_repeated_in}
@@ -46,11 +47,11 @@ pub record RepresentsUnit (st : UnitState) (u : UnitModel) : Type 0 where
 
 -- A call of a unit: one of its own applications, a frame that came, or a secured frame that came with
 -- its plain part. The second is a move whose time stamp is that of the fix, the third a single-hop
--- broadcast with a lifetime of its own.
+-- broadcast with a lifetime and media-dependent data of its own.
 pub data UnitCall : Type 0 where
   Own : (call : OwnCall) → UnitCall
   MoveAt : (timestamp : ℕ) (place : Position) (accurate : Bool) (speed : ℤ) (heading : ℕ) → UnitCall
-  SendShbFor : (lifetime : ℕ) (request : ShbRequest) → UnitCall
+  SendShbFor : (options : ShbOptions) (request : ShbRequest) → UnitCall
   Receive : (call : Call) → UnitCall
   ReceiveVerified : (call : VerifiedCall) → UnitCall
 
@@ -59,7 +60,7 @@ abbrev pub step_within : StationModel → ℕ → UnitCall → Step
 step_within s now (UnitCall.Own call) = station_step s now (model.Call.Own call)
 step_within s now (UnitCall.MoveAt timestamp place accurate speed heading) =
     move_at_step s now timestamp place accurate speed heading
-step_within s now (UnitCall.SendShbFor lifetime request) = send_shb_for_step s now lifetime request
+step_within s now (UnitCall.SendShbFor options request) = send_shb_for_step s now options request
 step_within s now (UnitCall.Receive call) = station_step s now call
 step_within s now (UnitCall.ReceiveVerified call) = verified_step s now call
 
@@ -90,7 +91,7 @@ is_own_request call = false
 
 abbrev pub is_request : UnitCall → Bool
 is_request (UnitCall.Own call) = is_own_request call
-is_request (UnitCall.SendShbFor lifetime request) = true
+is_request (UnitCall.SendShbFor options request) = true
 is_request call = false
 
 -- What a unit answers: what passes of the station's answer; that the packet was delivered before, and

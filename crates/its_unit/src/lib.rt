@@ -48,7 +48,7 @@
 //!   the station within has made those very calls, but the requests that were over their rate; of each
 //!   answer a part passes: a message or a frame is withheld or it is the one of the answer. So a run of a
 //!   unit is a run of its station whose frames are late or lost. It is a run of the station of the model
-//!   (`IsModelRun`) if no move has a time stamp of its own, no single-hop broadcast a lifetime of its own,
+//!   (`IsModelRun`) if no move has a time stamp of its own, no single-hop broadcast options of its own,
 //!   and no secured frame is faulty.
 //! - **Calls and releases** (`Contends`, in `units_are_lawful`): in every list of both, the station within
 //!   is the one that its calls alone make, and a part of each answer passes. A frame that is released is
@@ -64,7 +64,7 @@
 //!   `World::run` hold of the stations within (`HoldsOfSchedules`). What a unit delivers was sent by a
 //!   unit of the fleet (`DeliversAsSent`). Each frame is an own packet or a faithful forwarding
 //!   (`FramesAreFaithful`), and none is sent twice (`SendsOnce`). A frame may arrive as a verified
-//!   secured frame. Moves with a time stamp of their own and broadcasts with a lifetime of their own
+//!   secured frame. Moves with a time stamp of their own and broadcasts with options of their own
 //!   are left out. The definitions are about each kind of unit that sends its station's frames late or
 //!   never (`IsLateOrLost`).
 //! - **Forgers** (`laws`: `signed_units_are_lawful`): any octets arrive at units whose frames all pass a

@@ -18,10 +18,9 @@ ghost use Rattle.its_unit.specs.Steps.{counted_request, unsent_of};
 
 use crate::unit::Unit;
 use crate::unsent::Unsent;
-use its_gnvalue::Lifetime;
 use its_headers::Kind;
 use its_loctable::LocationStore;
-use its_station::{AreaCast, GbcRequest, Refused, ShbRequest};
+use its_station::{AreaCast, GbcRequest, Refused, ShbOptions, ShbRequest};
 
 impl<S: LocationStore> Unit<S> {
     /// The frame of a beacon, if one is due, as `Station::tick` gives it. No limit applies to it.
@@ -72,16 +71,16 @@ impl<S: LocationStore> Unit<S> {
         self.note_request(now, Kind::Shb, said)
     }
 
-    /// A single-hop broadcast that lives as long as this says, as `Station::send_shb_for` gives it.
-    /// It isn't sent if own packets are over their rate.
+    /// The frame of a single-hop broadcast with a lifetime and media-dependent data of its own, as
+    /// `Station::send_shb_for` gives it. It isn't sent if own packets are over their rate.
     pub fn send_shb_for(
         &mut self,
         now: u64,
         r: &ShbRequest<'_>,
-        lifetime: Lifetime,
+        options: ShbOptions,
     ) -> Result<Vec<u8>, Unsent>
         ensures step { (u : UnitModel) → RepresentsUnit self.old u →
-            IsSendOf result self.new (unit_step u now (SendShbFor lifetime (shb_request r.now))) }
+            IsSendOf result self.new (unit_step u now (SendShbFor options (shb_request r.now))) }
         ensures counts { self.new.counts
             ≡ counted_request kinds.Shb result self.old.counts }
         ensures over_rate { result ≡ Err Unsent.OverRate →
@@ -101,7 +100,7 @@ impl<S: LocationStore> Unit<S> {
         if self.is_over_rate(now) {
             return Err(self.refuse_for_rate());
         }
-        let said = self.station.send_shb_for(now, r, lifetime);
+        let said = self.station.send_shb_for(now, r, options);
         self.note_request(now, Kind::Shb, said)
     }
 

@@ -2,28 +2,33 @@
 
 ghost use Rattle.std.specs.Prelude.{◌≡◌, ◌&&◌, Err, IfOk, OnErr, List, ℕ, is_some};
 ghost use Rattle.its_headers.specs.Encoding.{payload_of};
+ghost use Rattle.its_headers.specs.declared.kind.Kind.TheVariants as kinds;
 ghost use Rattle.its_model.specs.Packet.{Transmission};
 ghost use Rattle.its_model.specs.Station.{StationModel};
 ghost use Rattle.its_station.specs.Answers.{TellsAnswer};
 ghost use Rattle.its_station.specs.Counting.{counted_answer, own_kind};
 ghost use Rattle.its_station.specs.Receiving.{DeliversEndOf, SendsAtMost, TellsBy};
+ghost use Rattle.its_station.specs.Requests.{shb_request};
 ghost use Rattle.its_station.specs.Runs.{IsOwnInRange, own_of};
 ghost use Rattle.its_station.specs.State.{RepresentsStation};
-ghost use Rattle.its_unit.specs.Steps.{IsReactionOf, IsSameUnit, SaysPassed, WherePassed};
-ghost use Rattle.its_unit.specs.Steps.{AreKept, after_line, counted_received};
-ghost use Rattle.its_unit.specs.Unit.{RepresentsUnit, UnitModel, step_of_by, unlimited_step};
+ghost use Rattle.its_unit.specs.Steps.{IsReactionOf, IsSameUnit, IsSendOf, SaysPassed, WherePassed};
+ghost use Rattle.its_unit.specs.Steps.{AreKept, after_line, counted_received, counted_request};
+ghost use Rattle.its_unit.specs.Unit.{RepresentsUnit, UnitModel, step_by, step_of_by, unlimited_step};
 ghost use Rattle.its_unit.specs.Unit.{knows, unlimited_step_of};
-ghost use Rattle.its_unit.specs.Unit.UnitCall.{Own};
+ghost use Rattle.its_unit.specs.Unit.UnitCall.{Own, SendShbFor};
 ghost use Rattle.its_unit.specs.Waits.{AreSaid};
 
 use crate::contending::{Left, contend};
 use crate::limiting::Limiting;
 use crate::outcome::{Reaction, UnitOutcome};
 use crate::unit::Unit;
+use crate::unsent::Unsent;
 use its_gnvalue::NoMemory;
 use its_headers::Kind;
 use its_loctable::LocationStore;
-use its_station::{Answer, Counts, Outcome, OwnCall, ReceivedFrame, Refused, StationAnswer};
+use its_station::{
+    Answer, Counts, Outcome, OwnCall, ReceivedFrame, Refused, ShbOptions, ShbRequest, StationAnswer,
+};
 
 impl<S: LocationStore> Unit<S> {
     /// Makes a call of the applications as `Station::answer_own` does, and counts it. No limit applies
@@ -46,6 +51,56 @@ impl<S: LocationStore> Unit<S> {
             contention.clear();
         }
         answer
+    }
+
+    /// The frame of a single-hop broadcast with a lifetime and media-dependent data of its own, within
+    /// the limits (`send_shb_for`) or past them: then none applies to it, and it takes nothing from one.
+    pub fn send_shb_by(
+        &mut self,
+        limiting: Limiting,
+        now: u64,
+        r: &ShbRequest<'_>,
+        options: ShbOptions,
+    ) -> Result<Vec<u8>, Unsent>
+        ensures step { (u : UnitModel) → RepresentsUnit self.old u →
+            IsSendOf result self.new
+            (step_by limiting u now (SendShbFor options (shb_request r.now))) }
+        ensures counts { self.new.counts
+            ≡ counted_request kinds.Shb result self.old.counts }
+        ensures limits { AreKept limiting self.old.governor self.new.governor }
+        ensures contention { self.new.contention ≡ self.old.contention }
+        ensures unchanged { (e : Refused) → result ≡ Err (Unsent.Refused e) →
+            IsSameUnit self.old self.new }
+    {
+        match limiting {
+            Limiting::Within => self.send_shb_for(now, r, options),
+            Limiting::Past => self.send_shb_unlimited(now, r, options),
+        }
+    }
+
+    /// So past the limits.
+    fn send_shb_unlimited(
+        &mut self,
+        now: u64,
+        r: &ShbRequest<'_>,
+        options: ShbOptions,
+    ) -> Result<Vec<u8>, Unsent>
+        ensures step { (u : UnitModel) → RepresentsUnit self.old u →
+            IsSendOf result self.new
+            (unlimited_step u now (SendShbFor options (shb_request r.now))) }
+        ensures counts { self.new.counts
+            ≡ counted_request kinds.Shb result self.old.counts }
+        ensures limits { self.new.governor ≡ self.old.governor }
+        ensures contention { self.new.contention ≡ self.old.contention }
+        ensures unchanged { (e : Refused) → result ≡ Err (Unsent.Refused e) →
+            IsSameUnit self.old self.new }
+    {
+        let said = self.station.send_shb_for(now, r, options);
+        self.counts.note_send(Kind::Shb, &said);
+        match said {
+            Ok(frame) => Ok(frame),
+            Err(refused) => Err(Unsent::Refused(refused)),
+        }
     }
 
     /// Receives a frame that was read of these octets as `receive_frame` does, but no limit applies to

@@ -3,6 +3,8 @@
 #[cfg(test)]
 mod flood;
 #[cfg(test)]
+mod options;
+#[cfg(test)]
 mod storm;
 #[cfg(test)]
 mod unit;
