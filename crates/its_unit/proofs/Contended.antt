@@ -2,14 +2,12 @@
 use Rattle.std.proofs.Common.{◌≡◌, ◌≤◌, ℕ, ◌^◌, ◌&&◌, ◌||◌, leb, ltb, not, Bool, true, false, cond}
 use Rattle.std.proofs.Common.{List, Option, Some, None, refl, sym, ap, ◌∙◌, subst, is_some, arith}
 use Rattle.std.proofs.lemmas.Bool.{ltb-false, false≢true}
-use Rattle.std.proofs.lemmas.Bool.Decides.{nat_tests}
 use Rattle.std.proofs.lemmas.Option.{none-some, same_Some}
 use Rattle.std.specs.Prelude.{Vec}
 use Rattle.std.specs.declared.alloc.Global.{Global}
 use Rattle.its_model.specs.Packet.{Message, Transmission}
 use Rattle.its_model.specs.Calls as model
 use Rattle.its_model.specs.Calls.{Answer, Refusal}
-use Rattle.its_model.specs.Station as stations
 use Rattle.its_model.specs.Station.{StationModel, Verdict, moment_refusal, or_else, receive_step}
 use Rattle.its_model.specs.Station.{receive_step_by, station_step, verdict}
 use Rattle.its_station.specs.State.{RepresentsStation}
@@ -31,13 +29,14 @@ use Rattle.its_governor.specs.Governing.{accepted_by, after_call, after_passing,
 use Rattle.its_governor.specs.Governing.{is_repeated_in, room_in, source_room}
 use Rattle.its_governor.specs.Pressure.{has_share, is_pressed, may_share}
 use Rattle.its_governor.specs.Shares.{ShareState}
-use Rattle.its_unit.specs.Contending.{after_frame, at_once, cancels, due_of_frame, fate_in, left_of}
+use Rattle.its_unit.specs.Contending.{after_frame, applied, at_once, cancels, due_of_frame, fate_in, left_of}
 use Rattle.its_unit.specs.Releases.{octets_sent}
 use Rattle.its_gnvalue.specs.Values.{mid_of}
-use Rattle.its_unit.specs.Steps.{IsReactionOf, IsRefusedStep, TellsUnit}
+use Rattle.its_unit.specs.Steps.{AreKept, IsPassedBy, IsReactionOf, IsRefusedStep, TellsUnit}
 use Rattle.its_unit.specs.Unit.{RepresentsUnit, UnitAnswer, UnitModel, UnitState, answer_by, asked}
 use Rattle.its_unit.specs.Unit.{knows, receiver_of}
-use Rattle.its_unit.specs.Unit.{unit_step_of, unlimited_step_of}
+use Rattle.its_unit.specs.Unit.{step_of_by, unit_step_of, unlimited_step_of}
+use Rattle.its_unit.specs.declared.limiting.Limiting.{Limiting}
 use Rattle.its_unit.specs.Waits.{InTime}
 use Rattle.its_unit.specs.declared.outcome.Reaction.{Reaction}
 use Rattle.its_unit.specs.declared.outcome.UnitOutcome.{UnitOutcome}
@@ -199,9 +198,9 @@ waiting_same (Some b) g s now say p knew t a = refl
 
 -- ---- the step of a unit
 
-pub composed : (Encodes : Encoded) (say : Transmission → List ℕ) (u : UnitModel) (now : ℕ)
+composed : (Encodes : Encoded) (say : Transmission → List ℕ) (u : UnitModel) (now : ℕ)
     (t : Transmission) (left : Outcome) (result : Reaction) (r : Receiver) (new : UnitState)
-    → r ≡ asked u now t.pdu.vector.address
+    → r ≡ asked Limiting.Within u now t.pdu.vector.address
     → RepresentsStation new.station (station_step u.station now (model.Call.Receive t)).station
     → TellsBy Encodes left (left_of u.contention (Some u.governor)
     (station_step u.station now (model.Call.Receive t)).station now t
@@ -250,9 +249,9 @@ composed Encodes say u now t left result r new is rep leaves due cancelled waits
     )
 
 -- the same by the unit as contracts see it
-pub composed_from : (Encodes : Encoded) (say : Transmission → List ℕ) (u : UnitModel) (now : ℕ)
+composed_from : (Encodes : Encoded) (say : Transmission → List ℕ) (u : UnitModel) (now : ℕ)
     (t : Transmission) (left : Outcome) (result : Reaction) (r : Receiver) (old new : UnitState)
-    → RepresentsUnit old u → r ≡ asked u now t.pdu.vector.address
+    → RepresentsUnit old u → r ≡ asked Limiting.Within u now t.pdu.vector.address
     → RepresentsStation new.station (station_step u.station now (model.Call.Receive t)).station
     → TellsBy Encodes left (left_of old.contention (Some old.governor)
     (station_step u.station now (model.Call.Receive t)).station now t
@@ -305,7 +304,7 @@ knew_same None g s now say knew t a =
     none_waits g s now say false t a ∙ sym (none_waits g s now say knew t a)
 knew_same (Some b) g s now say knew t a = refl
 
-pub past_limits : (Encodes : Encoded) (say : Transmission → List ℕ) (u : UnitModel) (now : ℕ)
+past_limits : (Encodes : Encoded) (say : Transmission → List ℕ) (u : UnitModel) (now : ℕ)
     (t : Transmission) (left : Outcome) (result : Reaction) (knew : Bool) (old new : UnitState)
     → RepresentsUnit old u
     → knew ≡ is_some old.contention && knows u.station now t.pdu.vector.address
@@ -383,7 +382,7 @@ refused_by say u now t (Some refusal) new held same is =
       },
     )
 
-pub refused_frame : (say : Transmission → List ℕ) (u : UnitModel) (now : ℕ) (t : Transmission)
+refused_frame : (say : Transmission → List ℕ) (u : UnitModel) (now : ℕ) (t : Transmission)
     (e : Refused) (new : UnitState) → u.contention ≡ new.contention → u.governor ≡ new.governor
     → station.IsRefusedStep e new.station (station_step u.station now (model.Call.Receive t))
     → IsRefusedStep e new (unit_step_of say u now t)
@@ -411,9 +410,61 @@ refused_past_by say u now t (Some refusal) new held same is =
       },
     )
 
-pub refused_past : (say : Transmission → List ℕ) (u : UnitModel) (now : ℕ) (t : Transmission)
+refused_past : (say : Transmission → List ℕ) (u : UnitModel) (now : ℕ) (t : Transmission)
     (e : Refused) (new : UnitState) → u.contention ≡ new.contention → u.governor ≡ new.governor
     → station.IsRefusedStep e new.station (station_step u.station now (model.Call.Receive t))
     → IsRefusedStep e new (unlimited_step_of say u now t)
 refused_past say u now t e new held same is =
     refused_past_by say u now t (refusal_of e) new held same is
+
+-- ---- within the limits or past them
+
+pub reacts_by : (l : Limiting) (Encodes : Encoded) (say : Transmission → List ℕ) (u : UnitModel)
+    (now : ℕ) (t : Transmission) (left : Outcome) (result : Reaction) (r : Receiver)
+    (old new : UnitState) → RepresentsUnit old u → r ≡ asked l u now t.pdu.vector.address
+    → RepresentsStation new.station (station_step u.station now (model.Call.Receive t)).station
+    → TellsBy Encodes left (left_of old.contention (applied l old.governor)
+    (station_step u.station now (model.Call.Receive t)).station now t
+    (station_step u.station now (model.Call.Receive t)).answer)
+    → result.due ≡ due_of_frame old.contention (applied l old.governor)
+    (station_step u.station now (model.Call.Receive t)).station now t
+    (station_step u.station now (model.Call.Receive t)).answer
+    → result.cancelled ≡ cancels old.contention
+    (mid_of (station_step u.station now (model.Call.Receive t)).station.address) (say t) t.link_source
+    (station_step u.station now (model.Call.Receive t)).answer
+    → new.contention ≡ after_frame old.contention (applied l old.governor)
+    (station_step u.station now (model.Call.Receive t)).station now say r.knew_source t
+    (station_step u.station now (model.Call.Receive t)).answer
+    → IsPassedBy l Encodes old.governor r now t left result.outcome new.governor
+    → IsReactionOf (TellsBy Encodes) (Ok result) new (step_of_by l say u now t)
+reacts_by Limiting.Within Encodes say u now t left result r old new rep is stands leaves due cancelled
+    waits passes =
+    composed_from Encodes say u now t left result r old new rep is stands leaves due cancelled waits
+    passes.0 passes.1
+reacts_by Limiting.Past Encodes say u now t left result r old new rep is stands leaves due cancelled
+    waits passes =
+    let knew : r.knew_source
+    ≡ (is_some old.contention && knows u.station now t.pdu.vector.address) =
+    ap (λ (q : Receiver). q.knew_source) is ∙ ap (λ (o : Option (Buffer Waiting)).
+    is_some o && knows u.station now t.pdu.vector.address) rep.contention in
+    past_limits Encodes say u now t left result r.knew_source old new rep knew stands leaves passes.0
+    due cancelled waits passes.1
+
+pub refused_by_limits : (l : Limiting) (say : Transmission → List ℕ) (u : UnitModel) (now : ℕ)
+    (t : Transmission) (e : Refused) (new : UnitState) → u.contention ≡ new.contention
+    → u.governor ≡ new.governor
+    → station.IsRefusedStep e new.station (station_step u.station now (model.Call.Receive t))
+    → IsRefusedStep e new (step_of_by l say u now t)
+refused_by_limits Limiting.Within say u now t e new held same is =
+    refused_frame say u now t e new held same is
+refused_by_limits Limiting.Past say u now t e new held same is =
+    refused_past say u now t e new held same is
+
+pub kept_by : (l : Limiting) (old new : Governor) → new ≡ old → AreKept l old new
+kept_by Limiting.Within old new same = tt
+kept_by Limiting.Past old new same = same
+
+pub kept_from : (l : Limiting) (a b old new : Governor) → AreKept l a b → old ≡ a → new ≡ b
+    → AreKept l old new
+kept_from Limiting.Within a b old new kept first last = tt
+kept_from Limiting.Past a b old new kept first last = last ∙ kept ∙ sym first

@@ -8,26 +8,29 @@ use Rattle.its_model.specs.Calls as model
 use Rattle.its_model.specs.Calls.{Answer}
 use Rattle.its_station.specs.Counting.{counted_outcome, counted_accepted, counted_refusal, counted_sent}
 use Rattle.its_station.specs.Counting.{one_more}
+use Rattle.its_station.specs.Receiving.{Encoded, TellsBy}
 use Rattle.its_station.specs.Requests.{TellsSent}
 use Rattle.its_station.specs.Steps.{refusal_of}
 use Rattle.its_station.specs.declared.counts.Counts.{Counts}
 use Rattle.its_station.specs.declared.outcome.Outcome.{Outcome}
 use Rattle.its_station.specs.declared.refused.Refused.{Refused}
-use Rattle.std.specs.Prelude.{Option}
+use Rattle.std.specs.Prelude.{Option, Some}
 use Rattle.std.specs.Option.{option_map}
 use Rattle.its_gnvalue.specs.declared.fault.NoMemory.{NoMemory}
 use Rattle.its_station.specs.Answers.{StationAnswer}
 use Rattle.its_station.specs.declared.answer.Answer.TheVariants as answers
 use Rattle.its_contention.specs.Buffer.{Buffer, cleared}
 use Rattle.its_contention.specs.Waiting.{Waiting}
+use Rattle.its_governor.specs.Governing.{after_call, governed, is_repeated_in}
 use Rattle.its_governor.specs.declared.governor.Governor.{Governor}
+use Rattle.its_governor.specs.declared.receiver.Receiver.{Receiver}
 use Rattle.its_unit.specs.declared.limiting.Limiting.{Limiting}
 use Rattle.its_unit.specs.declared.outcome.UnitOutcome.{UnitOutcome}
 use Rattle.its_unit.specs.declared.outcome.UnitOutcome.TheVariants as outcomes
 use Rattle.its_unit.specs.declared.outcome.Reaction.{Reaction}
 use Rattle.its_unit.specs.declared.unsent.Unsent.{Unsent}
 use Rattle.its_unit.specs.declared.unsent.Unsent.TheVariants as unsent
-use Rattle.its_unit.specs.Unit.{UnitAnswer, UnitState, UnitStep, RepresentsUnit}
+use Rattle.its_unit.specs.Unit.{UnitAnswer, UnitState, UnitStep, RepresentsUnit, answer_by}
 
 -- the answer of the station passed, and it is this
 abbrev pub SaysPassed : {T : Type 0} → (T → Answer Transmission → Type 0) → T → UnitAnswer → Type 0
@@ -115,6 +118,17 @@ unsent_of (Err refused) = Err (unsent.Refused refused)
 abbrev pub AreKept : Limiting → Governor → Governor → Type 0
 AreKept Limiting.Within old new = Unit {0}
 AreKept Limiting.Past old new = new ≡ old
+
+-- what passes of the outcome of a frame within the limits, or past them: there all of it passes
+abbrev pub IsPassedBy : Limiting → Encoded → Governor → Receiver → ℕ → Transmission → Outcome
+    → UnitOutcome → Governor → Type 0
+IsPassedBy Limiting.Within Encodes old r now t outcome passed new =
+    ((a : Answer Transmission) → TellsBy Encodes outcome a → TellsUnit (TellsBy Encodes) passed
+    (answer_by (is_repeated_in old now (Some t) a) (governed old r now (Some t) a)))
+    × ((a : Answer Transmission) → TellsBy Encodes outcome a
+    → new ≡ after_call old r now false (Some t) a)
+IsPassedBy Limiting.Past Encodes old r now t outcome passed new =
+    (passed ≡ outcomes.Passed outcome) × (new ≡ old)
 
 -- the frames that wait after an answer: a restart drops them
 abbrev pub after_line : Result StationAnswer NoMemory → Option (Buffer Waiting)

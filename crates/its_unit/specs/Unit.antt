@@ -235,12 +235,16 @@ step_by Limiting.Past = unlimited_step
 
 -- ---- words of private functions
 
--- the receiver of a frame as a unit sees it, which looks the source up under pressure, and if it
--- contends
-abbrev pub asked : UnitModel → ℕ → ℕ → Receiver
-asked u now source =
+-- whether a unit looks the source of a frame up: if it contends, and within the limits under pressure
+abbrev pub looks_up : Limiting → UnitModel → ℕ → Bool
+looks_up Limiting.Within u now =
+    is_some u.contention || is_pressed u.governor.forward u.governor.shares now
+looks_up Limiting.Past u now = is_some u.contention
+
+-- the receiver of a frame as a unit sees it
+abbrev pub asked : Limiting → UnitModel → ℕ → ℕ → Receiver
+asked l u now source =
     record {
       address = u.station.address;
-      knew_source = (is_some u.contention || is_pressed u.governor.forward u.governor.shares now)
-          && knows u.station now source;
+      knew_source = looks_up l u now && knows u.station now source;
     }

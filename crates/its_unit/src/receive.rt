@@ -16,13 +16,13 @@ ghost use Rattle.its_station.specs.Receiving.{IsVerifiedCall, sealed_by, verifie
 ghost use Rattle.its_station.specs.Steps as station;
 ghost use Rattle.its_station.specs.Receiving.VerifiedCall.{Faulty};
 ghost use Rattle.its_governor.specs.Governing.{governed, after_call, is_repeated_in};
-ghost use Rattle.its_unit.specs.Unit.{UnitModel, RepresentsUnit, unit_step, unit_step_of};
-ghost use Rattle.its_unit.specs.Unit.{unlimited_step};
+ghost use Rattle.its_unit.specs.Unit.{UnitModel, RepresentsUnit, unit_step};
+ghost use Rattle.its_unit.specs.Unit.{unlimited_step, step_of_by};
 ghost use Rattle.its_unit.specs.Waits.{AreSaid};
 ghost use Rattle.its_unit.specs.Unit.UnitCall.{Receive, ReceiveVerified};
-ghost use Rattle.its_unit.specs.Unit.{answer_by, asked, knows};
+ghost use Rattle.its_unit.specs.Unit.{answer_by, asked, knows, looks_up};
 ghost use Rattle.its_unit.specs.Steps.{IsReactionOf, IsRefusedStep, TellsUnit, WherePassed, IsSameUnit};
-ghost use Rattle.its_unit.specs.Steps.{counted_received};
+ghost use Rattle.its_unit.specs.Steps.{AreKept, IsPassedBy, counted_received};
 
 use crate::contending::{Left, contend};
 use crate::limiting::Limiting;
@@ -55,7 +55,7 @@ impl<S: LocationStore> Unit<S> {
         ensures short_frame { IfOk result (λ r. WherePassed (SendsAtMost 1468) r.outcome) }
     {
         match read_frame(frame) {
-            Ok(view) => self.receive_frame(now, frame, &view),
+            Ok(view) => self.receive_frame(Limiting::Within, now, frame, &view),
             Err(fault) => Err(self.refuse_frame(now, fault)),
         }
     }
@@ -83,17 +83,21 @@ impl<S: LocationStore> Unit<S> {
         ensures short_frame { IfOk result (λ r. WherePassed (SendsAtMost 2310) r.outcome) }
     {
         match VerifiedFrame::read(frame, plain) {
-            Ok(verified) => self.receive_frame(now, frame, &verified),
+            Ok(verified) => self.receive_frame(Limiting::Within, now, frame, &verified),
             Err(fault) => Err(self.refuse_secured(now, fault)),
         }
     }
 
     /// Receives a frame that was read of these octets, as `receive` does with its octets, and
-    /// `receive_verified` with those of a secured frame and its plain part.
+    /// `receive_verified` with those of a secured frame and its plain part. Past the limits none
+    /// applies to the frame, and it takes nothing from one. It may wait or cancel frames that do, as
+    /// any.
     ///
     /// - `step`: `say` is how the octets of such frames are made of packets.
+    #[inline(always)]
     pub fn receive_frame<'a, F: ReceivedFrame<'a>>(
         &mut self,
+        limiting: Limiting,
         now: u64,
         octets: &[u8],
         frame: &F,
@@ -101,8 +105,9 @@ impl<S: LocationStore> Unit<S> {
         ensures step { (say : Transmission → List ℕ) → AreSaid (F.Encodes frame.now) say →
             octets.now ≡ say (F.frame frame.now) → (u : UnitModel) → RepresentsUnit self.old u →
             IsReactionOf (TellsBy (F.Encodes frame.now)) result self.new
-            (unit_step_of say u now (F.frame frame.now)) }
+            (step_of_by limiting say u now (F.frame frame.now)) }
         ensures counts { self.new.counts ≡ counted_received result self.old.counts }
+        ensures limits { AreKept limiting self.old.governor self.new.governor }
         ensures memory { (s : StationModel) → RepresentsStation self.old.station s →
             result ≡ Err Refused.NoMemory →
             (verdict s now (F.frame frame.now) ≡ stations.Verdict.Accept)
@@ -113,12 +118,12 @@ impl<S: LocationStore> Unit<S> {
         ensures short_frame { IfOk result (λ r.
             WherePassed (SendsAtMost (F.most frame.now)) r.outcome) }
     {
-        let receiver = self.receiver_of(now, frame);
+        let receiver = self.receiver_of(limiting, now, frame);
         let said = match self.station.receive_frame(now, frame) {
             Ok(outcome) => {
                 let left = contend(
                     &mut self.contention,
-                    Limiting::Within,
+                    limiting,
                     &self.governor,
                     &self.station,
                     now,
@@ -133,7 +138,7 @@ impl<S: LocationStore> Unit<S> {
                     cancelled,
                 } = left;
                 Ok(Reaction {
-                    outcome: govern(&mut self.governor, now, &receiver, frame, outcome),
+                    outcome: pass(limiting, &mut self.governor, now, &receiver, frame, outcome),
                     due,
                     cancelled,
                 })
@@ -145,17 +150,36 @@ impl<S: LocationStore> Unit<S> {
     }
 
     /// Returns the station as the receiver of a frame that it has not received yet. The source is
-    /// looked up under pressure, and if the unit contends.
-    fn receiver_of<'a, F: ReceivedFrame<'a>>(&self, now: u64, frame: &F) -> Receiver
+    /// looked up if the unit contends, and within the limits under pressure.
+    #[inline(always)]
+    fn receiver_of<'a, F: ReceivedFrame<'a>>(
+        &self,
+        limiting: Limiting,
+        now: u64,
+        frame: &F,
+    ) -> Receiver
         ensures { (u : UnitModel) → RepresentsUnit self.now u →
-            result ≡ asked u now (F.frame frame.now).pdu.vector.address }
+            result ≡ asked limiting u now (F.frame frame.now).pdu.vector.address }
     {
-        let asks = self.contention.is_some() || self.governor.is_pressed(now);
-        let knew_source = asks && self.knows(now, frame.vector().address());
+        let knew_source = self.looks_up(limiting, now) && self.knows(now, frame.vector().address());
         Receiver {
             address: self.station.address(),
             knew_source,
         }
+    }
+
+    /// Whether the source of a frame that comes decides anything: if the unit contends, and within the
+    /// limits under pressure.
+    #[inline(always)]
+    fn looks_up(&self, limiting: Limiting, now: u64) -> bool
+        ensures { (u : UnitModel) → RepresentsUnit self.now u →
+            result ≡ looks_up limiting u now }
+    {
+        self.contention.is_some()
+            || match limiting {
+                Limiting::Within => self.governor.is_pressed(now),
+                Limiting::Past => false,
+            }
     }
 
     /// Whether the station, at a time that it accepts, has a live entry of a source in its location
@@ -182,7 +206,7 @@ impl<S: LocationStore> Unit<S> {
         ensures memory { result ≢ Refused.NoMemory }
     {
         let refused = self.station.refuse_frame(now, fault);
-        self.note_received(&Err(refused));
+        self.note_refused(refused);
         refused
     }
 
@@ -200,13 +224,24 @@ impl<S: LocationStore> Unit<S> {
         ensures memory { result ≢ Refused.NoMemory }
     {
         let refused = self.station.refuse_secured(now, fault);
-        self.note_received(&Err(refused));
+        self.note_refused(refused);
         refused
+    }
+
+    /// Counts octets that came and are refused.
+    fn note_refused(&mut self, refused: Refused)
+        ensures { self.new ≡ record self.old {
+          counts = counted_received (Err refused) self.old.counts;
+        } }
+    {
+        self.counts.note_frame();
+        self.counts.note_refused(refused);
     }
 
     /// Counts the outcome of a frame. A packet that was delivered before is counted as one that is
     /// accepted, and neither delivered nor forwarded.
-    pub(crate) fn note_received(&mut self, said: &Result<Reaction<'_>, Refused>)
+    #[inline(always)]
+    fn note_received(&mut self, said: &Result<Reaction<'_>, Refused>)
         ensures station { self.new.station ≡ self.old.station }
         ensures contention { self.new.contention ≡ self.old.contention }
         ensures governor { self.new.governor ≡ self.old.governor }
@@ -223,7 +258,32 @@ impl<S: LocationStore> Unit<S> {
     }
 }
 
-/// Keeps what passes of the outcome of a frame.
+/// Keeps what passes of the outcome of a frame: past the limits all of it.
+#[inline(always)]
+fn pass<'a, F: ReceivedFrame<'a>>(
+    limiting: Limiting,
+    governor: &mut Governor,
+    now: u64,
+    receiver: &Receiver,
+    frame: &F,
+    outcome: Outcome<'a>,
+) -> UnitOutcome<'a>
+    ensures passed { IsPassedBy limiting (F.Encodes frame.now) governor.old receiver.now now
+        (F.frame frame.now) outcome.entry result governor.new }
+    ensures limits { AreKept limiting governor.old governor.new }
+    ensures payload { (w : List ℕ) → DeliversEndOf w outcome.entry →
+        WherePassed (DeliversEndOf w) result }
+    ensures short_frame { (most : ℕ) → SendsAtMost most outcome.entry →
+        WherePassed (SendsAtMost most) result }
+{
+    match limiting {
+        Limiting::Within => govern(governor, now, receiver, frame, outcome),
+        Limiting::Past => UnitOutcome::Passed(outcome),
+    }
+}
+
+/// Keeps what passes the limits of the outcome of a frame.
+#[inline(always)]
 fn govern<'a, F: ReceivedFrame<'a>>(
     governor: &mut Governor,
     now: u64,

@@ -1,33 +1,24 @@
 //! What a unit does past its limits: for what a line of JSON asks for.
 
-ghost use Rattle.std.specs.Prelude.{◌≡◌, ◌&&◌, Err, IfOk, OnErr, List, ℕ, is_some};
-ghost use Rattle.its_headers.specs.Encoding.{payload_of};
+ghost use Rattle.std.specs.Prelude.{◌≡◌, Err, IfOk, OnErr};
 ghost use Rattle.its_headers.specs.declared.kind.Kind.TheVariants as kinds;
-ghost use Rattle.its_model.specs.Packet.{Transmission};
-ghost use Rattle.its_model.specs.Station.{StationModel};
 ghost use Rattle.its_station.specs.Answers.{TellsAnswer};
 ghost use Rattle.its_station.specs.Counting.{counted_answer, own_kind};
-ghost use Rattle.its_station.specs.Receiving.{DeliversEndOf, SendsAtMost, TellsBy};
 ghost use Rattle.its_station.specs.Requests.{shb_request};
 ghost use Rattle.its_station.specs.Runs.{IsOwnInRange, own_of};
-ghost use Rattle.its_station.specs.State.{RepresentsStation};
-ghost use Rattle.its_unit.specs.Steps.{IsReactionOf, IsSameUnit, IsSendOf, SaysPassed, WherePassed};
-ghost use Rattle.its_unit.specs.Steps.{AreKept, after_line, counted_received, counted_request};
-ghost use Rattle.its_unit.specs.Unit.{RepresentsUnit, UnitModel, step_by, step_of_by, unlimited_step};
-ghost use Rattle.its_unit.specs.Unit.{knows, unlimited_step_of};
+ghost use Rattle.its_unit.specs.Steps.{AreKept, IsSameUnit, IsSendOf, SaysPassed};
+ghost use Rattle.its_unit.specs.Steps.{after_line, counted_received, counted_request};
+ghost use Rattle.its_unit.specs.Unit.{RepresentsUnit, UnitModel, step_by, unlimited_step};
 ghost use Rattle.its_unit.specs.Unit.UnitCall.{Own, SendShbFor};
-ghost use Rattle.its_unit.specs.Waits.{AreSaid};
 
-use crate::contending::{Left, contend};
 use crate::limiting::Limiting;
-use crate::outcome::{Reaction, UnitOutcome};
 use crate::unit::Unit;
 use crate::unsent::Unsent;
 use its_gnvalue::NoMemory;
 use its_headers::Kind;
 use its_loctable::LocationStore;
 use its_station::{
-    Answer, Counts, Outcome, OwnCall, ReceivedFrame, Refused, ShbOptions, ShbRequest, StationAnswer,
+    Answer, Counts, Outcome, OwnCall, Refused, ShbOptions, ShbRequest, StationAnswer,
 };
 
 impl<S: LocationStore> Unit<S> {
@@ -100,93 +91,6 @@ impl<S: LocationStore> Unit<S> {
         match said {
             Ok(frame) => Ok(frame),
             Err(refused) => Err(Unsent::Refused(refused)),
-        }
-    }
-
-    /// Receives a frame that was read of these octets as `receive_frame` does, but no limit applies to
-    /// it, and it takes nothing from one. It may wait or cancel frames that do, as any.
-    pub fn receive_unlimited<'a, F: ReceivedFrame<'a>>(
-        &mut self,
-        now: u64,
-        octets: &[u8],
-        frame: &F,
-    ) -> Result<Reaction<'a>, Refused>
-        ensures step { (say : Transmission → List ℕ) → AreSaid (F.Encodes frame.now) say →
-            octets.now ≡ say (F.frame frame.now) → (u : UnitModel) → RepresentsUnit self.old u →
-            IsReactionOf (TellsBy (F.Encodes frame.now)) result self.new
-            (unlimited_step_of say u now (F.frame frame.now)) }
-        ensures counts { self.new.counts ≡ counted_received result self.old.counts }
-        ensures limits { self.new.governor ≡ self.old.governor }
-        ensures unchanged { OnErr result (IsSameUnit self.old self.new) }
-        ensures payload { IfOk result (λ r.
-            WherePassed (DeliversEndOf (payload_of (F.frame frame.now).pdu.body)) r.outcome) }
-        ensures short_frame { IfOk result (λ r.
-            WherePassed (SendsAtMost (F.most frame.now)) r.outcome) }
-    {
-        let knew_source = self.knew(now, frame);
-        let said = match self.station.receive_frame(now, frame) {
-            Ok(outcome) => {
-                let left = contend(
-                    &mut self.contention,
-                    Limiting::Past,
-                    &self.governor,
-                    &self.station,
-                    now,
-                    octets,
-                    knew_source,
-                    frame,
-                    outcome,
-                );
-                let Left {
-                    outcome,
-                    due,
-                    cancelled,
-                } = left;
-                Ok(Reaction {
-                    outcome: UnitOutcome::Passed(outcome),
-                    due,
-                    cancelled,
-                })
-            }
-            Err(refused) => Err(refused),
-        };
-        self.note_received(&said);
-        said
-    }
-
-    /// Whether the station knows the source of a frame, which is asked only if the unit contends.
-    fn knew<'a, F: ReceivedFrame<'a>>(&self, now: u64, frame: &F) -> bool
-        ensures { (s : StationModel) → RepresentsStation self.now.station s →
-            result ≡ is_some self.now.contention
-            && knows s now (F.frame frame.now).pdu.vector.address }
-    {
-        self.contention.is_some() && self.knows(now, frame.vector().address())
-    }
-
-    /// Receives a frame that was read of these octets, within the limits (`receive_frame`) or past them
-    /// (`receive_unlimited`).
-    pub fn receive_frame_by<'a, F: ReceivedFrame<'a>>(
-        &mut self,
-        limiting: Limiting,
-        now: u64,
-        octets: &[u8],
-        frame: &F,
-    ) -> Result<Reaction<'a>, Refused>
-        ensures step { (say : Transmission → List ℕ) → AreSaid (F.Encodes frame.now) say →
-            octets.now ≡ say (F.frame frame.now) → (u : UnitModel) → RepresentsUnit self.old u →
-            IsReactionOf (TellsBy (F.Encodes frame.now)) result self.new
-            (step_of_by limiting say u now (F.frame frame.now)) }
-        ensures counts { self.new.counts ≡ counted_received result self.old.counts }
-        ensures limits { AreKept limiting self.old.governor self.new.governor }
-        ensures unchanged { OnErr result (IsSameUnit self.old self.new) }
-        ensures payload { IfOk result (λ r.
-            WherePassed (DeliversEndOf (payload_of (F.frame frame.now).pdu.body)) r.outcome) }
-        ensures short_frame { IfOk result (λ r.
-            WherePassed (SendsAtMost (F.most frame.now)) r.outcome) }
-    {
-        match limiting {
-            Limiting::Within => self.receive_frame(now, octets, frame),
-            Limiting::Past => self.receive_unlimited(now, octets, frame),
         }
     }
 

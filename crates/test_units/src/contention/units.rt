@@ -169,7 +169,7 @@ fn past_the_limits_no_bucket_is_judged(rt: HostRuntime) -> Result<(), Fail> {
     for number in 0..2 {
         let octets = copy_of(number, 1, 10);
         let frame = read_frame(&octets).ok().ok_or("no frame")?;
-        let said = unit.receive_frame_by(Limiting::Past, 1001, &octets, &frame);
+        let said = unit.receive_frame(Limiting::Past, 1001, &octets, &frame);
         assert!(rt; only_delivers(said));
     }
     for number in 0..2 {

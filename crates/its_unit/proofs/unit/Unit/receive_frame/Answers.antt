@@ -8,11 +8,13 @@ use Rattle.its_station.specs.Steps.{IsRefusedStep}
 use Rattle.its_station.specs.Receiving.{DeliversEndOf, SendsAtMost, TellsBy}
 use Rattle.its_station.specs.declared.refused.Refused.{Refused}
 use Rattle.its_gnvalue.specs.Values.{mid_of}
+use Rattle.its_governor.specs.declared.governor.Governor.{Governor}
 use Rattle.its_unit.specs.Contending.{cancels}
 use Rattle.its_unit.specs.declared.outcome.Reaction.{Reaction}
-use Rattle.its_unit.specs.Steps.{IsReactionOf, WherePassed}
-use Rattle.its_unit.specs.Unit.{RepresentsUnit, UnitState, unit_step_of}
-use Rattle.its_unit.proofs.Contended.{accepted_in_time, composed_from, refused_frame}
+use Rattle.its_unit.specs.Steps.{IsPassedBy, IsReactionOf, WherePassed}
+use Rattle.its_unit.specs.Unit.{RepresentsUnit, UnitState, step_of_by}
+use Rattle.its_unit.proofs.Contended.{accepted_in_time, kept_by, kept_from, reacts_by}
+use Rattle.its_unit.proofs.Contended.{refused_by_limits}
 use Rattle.its_unit.proofs.unit.Unit.receive_frame.Goals as goal
 use Rattle.its_unit.proofs.unit.Unit.receive_frame.Goals.{in-Ok, in-Err}
 
@@ -22,7 +24,7 @@ returns-clause-payload g c =
     elim c.match-receive_frame.branch [
       | in-Ok b ↦ subst (λ (x : Result Reaction Refused).
           IfOk x (λ r. WherePassed (DeliversEndOf w) r.outcome))
-          (sym b.said-is) (b.govern.ensures.payload w
+          (sym b.said-is) (b.pass.ensures.payload w
           (b.contend-left.ensures.payload w b.in-Ok.ensures.payload))
       | in-Err b ↦ subst (λ (x : Result Reaction Refused).
           IfOk x (λ r. WherePassed (DeliversEndOf w) r.outcome))
@@ -35,7 +37,7 @@ returns-clause-short_frame g c =
     elim c.match-receive_frame.branch [
       | in-Ok b ↦ subst (λ (x : Result Reaction Refused).
           IfOk x (λ r. WherePassed (SendsAtMost most) r.outcome))
-          (sym b.said-is) (b.govern.ensures.short_frame most
+          (sym b.said-is) (b.pass.ensures.short_frame most
           (b.contend-left.ensures.short_frame most b.in-Ok.ensures.short_frame))
       | in-Err b ↦ subst (λ (x : Result Reaction Refused).
           IfOk x (λ r. WherePassed (SendsAtMost most) r.outcome))
@@ -63,16 +65,16 @@ returns-clause-step g c = λ say said octets u rep.
           let told = b.in-Ok.ensures.step u.station held.station in
           let stands : new.station ≡ c.receive_frame.new.self = search rules in
           let waits : new.contention ≡ b.contend-left.new.waiting = search rules in
-          let limits : new.governor ≡ b.govern.new.governor = search rules in
+          let limits : new.governor ≡ b.pass.new.governor = search rules in
           let left = b.contend-left.result in
           let reaction : Reaction = record {
-            outcome = b.govern.result;
+            outcome = b.pass.result;
             due = left.due;
             cancelled = left.cancelled;
           } in
           subst (λ (r : Result Reaction Refused).
-          IsReactionOf (TellsBy encodes) r new (unit_step_of say u now t)) (sym b.said-is)
-          (composed_from encodes say u now t left.outcome reaction
+          IsReactionOf (TellsBy encodes) r new (step_of_by c.args.limiting say u now t)) (sym b.said-is)
+          (reacts_by c.args.limiting encodes say u now t left.outcome reaction
           c.receiver_of-receiver.result old new held
           (c.receiver_of-receiver.ensures u rep)
           (subst (λ (s : StationState). RepresentsStation s step.station) (sym stands) told.1)
@@ -83,16 +85,26 @@ returns-clause-step g c = λ say said octets u rep.
           (b.contend-left.ensures.cancelled step.station step.answer told.1 in_time told.0))
           (waits ∙ b.contend-left.ensures.waiting step.station step.answer say told.1 in_time told.0
           said octets)
-          b.govern.ensures.told
-          (λ a tells. limits ∙ b.govern.ensures.state a tells))
+          (subst (λ (g : Governor). IsPassedBy c.args.limiting encodes old.governor
+          c.receiver_of-receiver.result now t left.outcome b.pass.result g) (sym limits)
+          b.pass.ensures.passed))
       | in-Err b ↦
           let stands : new.station ≡ c.receive_frame.new.self = search rules in
           let waits : new.contention ≡ old.contention = search rules in
           let limits : new.governor ≡ old.governor = search rules in
           subst (λ (r : Result Reaction Refused).
-          IsReactionOf (TellsBy encodes) r new (unit_step_of say u now t)) (sym b.said-is)
-          (refused_frame say u now t b.in-Err.refused new (held.contention ∙ sym waits)
+          IsReactionOf (TellsBy encodes) r new (step_of_by c.args.limiting say u now t)) (sym b.said-is)
+          (refused_by_limits c.args.limiting say u now t b.in-Err.refused new (held.contention ∙ sym waits)
           (held.governor ∙ sym limits)
           (subst (λ (s : StationState). IsRefusedStep b.in-Err.refused s step) (sym stands)
           (b.in-Err.ensures.step u.station held.station)))
+    ]
+
+pub returns-clause-limits : goal.returns-clause-limits
+returns-clause-limits g c =
+    let new = c.note_received.new.self in
+    elim c.match-receive_frame.branch [
+      | in-Ok b ↦ kept_from c.args.limiting c.self.inside.governor b.pass.new.governor
+          c.args.self.now.governor new.governor b.pass.ensures.limits (search rules) (search rules)
+      | in-Err b ↦ kept_by c.args.limiting c.args.self.now.governor new.governor (search rules)
     ]
