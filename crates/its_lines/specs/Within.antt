@@ -1,6 +1,9 @@
 -- What is answered to a line within the limits of a unit, where only some calls are allowed.
-use Rattle.std.specs.Prelude.{◌≡◌, ◌≢◌, ℕ, Bool, false, Option, Some, None, Result, Ok, Err, IsSome, Vec}
+use Rattle.std.specs.Prelude.{◌≡◌, ◌≢◌, ◌∷◌, [], List, ℕ, Bool, false, Option, Some, None, Result}
+use Rattle.std.specs.Prelude.{Ok, Err, IsSome, Vec}
 use Rattle.std.specs.declared.alloc.Global.{Global}
+use Rattle.its_headers.specs.Fields.{media_in}
+use Rattle.its_headers.specs.Seen.{Seen}
 use Rattle.its_headers.specs.declared.kind.Kind.{Kind}
 use Rattle.its_linkframe.specs.Frames.{EncodesFrame}
 use Rattle.its_model.specs.Calls as model
@@ -40,6 +43,7 @@ use Rattle.its_lines.specs.declared.request.Id.{Id}
 use Rattle.its_lines.specs.declared.request.LineFault.TheVariants as faults
 use Rattle.its_lines.specs.declared.request.Request.{Request}
 use Rattle.its_lines.specs.declared.request.Request.TheVariants as asks
+use Rattle.its_lines.specs.declared.response.AcceptedPacket.{AcceptedPacket}
 use Rattle.its_lines.specs.declared.response.Known.{Known}
 use Rattle.its_lines.specs.declared.response.Response.{Response}
 use Rattle.its_lines.specs.declared.response.Response.TheVariants as responses
@@ -106,12 +110,25 @@ abbrev pub IsMadeOfFrame : Encoded → MadeOfFrame → UnitState → UnitStep �
 IsMadeOfFrame Encodes f new step =
     IsMadeBy (TellsHeard Encodes) f.made new step × TellsReaction f.made f.due f.cancelled step
 
+-- the media-dependent data of a single-hop broadcast, or zeros
+abbrev pub media_or_zeros : Option (List ℕ) → List ℕ
+media_or_zeros None = 0 ∷ 0 ∷ 0 ∷ 0 ∷ []
+media_or_zeros (Some media) = media
+
+-- what the answer to a frame says of its packet
+abbrev pub accepted_packet : Seen → AcceptedPacket
+accepted_packet p = record {
+  source = p.pdu.vector.address;
+  media = media_or_zeros (media_in p.pdu.body);
+}
+
 -- the answer to a line that asked for a call
-abbrev pub response_of : Option Id → ℕ → Option ℕ → Option ℕ → Bool → Made → Response
-response_of id at source due cancelled (mades.Passed reply) =
-    responses.Reply id at source due cancelled reply
-response_of id at source due cancelled mades.Repeated = responses.Repeated id at
-response_of id at source due cancelled mades.OverRate = responses.OverRate id at
+abbrev pub response_of : Option Id → ℕ → Option AcceptedPacket → Option ℕ → Bool → Made
+    → Response
+response_of id at packet due cancelled (mades.Passed reply) =
+    responses.Reply id at packet due cancelled reply
+response_of id at packet due cancelled mades.Repeated = responses.Repeated id at
+response_of id at packet due cancelled mades.OverRate = responses.OverRate id at
 
 -- the answer to a line that asked for a release
 abbrev pub response_of_release : Option Id → ℕ → Result (Option (Vec ℕ Global)) Refused → Response
@@ -122,7 +139,7 @@ response_of_release id at (Err refused) =
 
 -- the `id` of an answer
 abbrev pub id_in : Response → Option Id
-id_in (responses.Reply id at source due cancelled reply) = id
+id_in (responses.Reply id at packet due cancelled reply) = id
 id_in (responses.Released id at frame) = id
 id_in (responses.Repeated id at) = id
 id_in (responses.OverRate id at) = id
@@ -154,8 +171,8 @@ Makes l u asked old made due cancelled new = ⊥
 abbrev pub AnswersMade : Limiting → UnitModel → Option Id → ℕ → Request → UnitState → Option Response
     → UnitState → Type 0
 AnswersMade l u id at asked old told new =
-    (source : Option ℕ) × (due : Option ℕ) × (cancelled : Bool) × (made : Made)
-    × (told ≡ Some (response_of id at source due cancelled made))
+    (packet : Option AcceptedPacket) × (due : Option ℕ) × (cancelled : Bool) × (made : Made)
+    × (told ≡ Some (response_of id at packet due cancelled made))
     × Makes l u asked old made due cancelled new
 
 -- what is answered to line n that asks for this, and the unit afterwards, which only a call and a release

@@ -46,6 +46,6 @@ pub use frame_octets::FrameOctets;
 pub use lines::LONGEST_LINE;
 pub use printing::{id_length, print_response};
 pub use request::{Id, LineFault, Query, QueryKey};
-pub use response::{Known, Response, SealFault};
+pub use response::{AcceptedPacket, Known, Response, SealFault};
 pub use serving::{LineAnswer, Unanswered, answer_input_line, answer_line, answer_line_within};
 pub use word::LineWord;

@@ -23,12 +23,13 @@ ghost use Rattle.its_unit.specs.Unit.{RepresentsUnit, UnitModel, UnitState, Unit
 ghost use Rattle.its_unit.specs.Unit.{unit_step};
 ghost use Rattle.its_unit.specs.Unit.UnitCall.{Own, Receive, ReceiveVerified};
 ghost use Rattle.its_lines.specs.Within.{IsMadeBy, IsMadeOf, IsMadeOfFrame, IsMadeOfOutcome};
-ghost use Rattle.its_lines.specs.Within.{counted_frame, counted_made, response_of};
+ghost use Rattle.its_lines.specs.Within.{accepted_packet, counted_frame, counted_made, response_of};
 ghost use Rattle.its_lines.specs.Within.{response_of_release};
 
 use crate::request::{Id, VerifiedOctets};
-use crate::response::Response;
-use its_gnvalue::{GnAddress, NoMemory};
+use crate::response::{AcceptedPacket, Response};
+use its_gnvalue::NoMemory;
+use its_headers::{Head, PacketView};
 use its_linkframe::{VerifiedFrame, read_frame};
 use its_loctable::SortedTable;
 use its_station::{Answer, AreaCast, OwnCall, Refused, StationAnswer};
@@ -51,12 +52,24 @@ pub(crate) enum Made {
 pub(crate) struct MadeOfFrame {
     /// The answer.
     pub(crate) made: Made,
-    /// The source of the packet, if it was accepted.
-    pub(crate) source: Option<GnAddress>,
+    /// What is said of the packet, if it was accepted.
+    pub(crate) packet: Option<AcceptedPacket>,
     /// When the frame is due in which the packet goes on, if it waits.
     pub(crate) due: Option<u64>,
     /// Whether the frame cancelled one that waited.
     pub(crate) cancelled: bool,
+}
+
+impl AcceptedPacket {
+    /// What the answer to a frame says of its packet.
+    fn of<H: Head>(packet: &PacketView<'_, H>) -> AcceptedPacket
+        ensures { result ≡ accepted_packet packet.now }
+    {
+        AcceptedPacket {
+            source: packet.vector().address(),
+            media: packet.media().unwrap_or([0; 4]),
+        }
+    }
 }
 
 impl Response {
@@ -66,7 +79,7 @@ impl Response {
     {
         let frame = MadeOfFrame {
             made,
-            source: None,
+            packet: None,
             due: None,
             cancelled: false,
         };
@@ -76,11 +89,11 @@ impl Response {
     /// Returns the answer to a line that asked for a frame to be received.
     pub(crate) fn of_frame(id: Option<Id>, at: u64, frame: MadeOfFrame) -> Response
         ensures { result
-            ≡ response_of id at frame.source frame.due frame.cancelled frame.made }
+            ≡ response_of id at frame.packet frame.due frame.cancelled frame.made }
     {
         let MadeOfFrame {
             made,
-            source,
+            packet,
             due,
             cancelled,
         } = frame;
@@ -88,7 +101,7 @@ impl Response {
             Made::Passed(reply) => Response::Reply {
                 id,
                 at,
-                source,
+                packet,
                 due,
                 cancelled,
                 reply,
@@ -248,8 +261,8 @@ pub(crate) fn make_receive(
         unit.note_no_memory();
         return Err(NoMemory);
     }
-    let (said, source) = receive_plain(unit, limiting, at, frame);
-    made_of_received(alloc, said, source, &mut room)
+    let (said, packet) = receive_plain(unit, limiting, at, frame);
+    made_of_received(alloc, said, packet, &mut room)
 }
 
 /// Receives a secured frame with its plain part at a time, as `make_receive` does with a frame.
@@ -277,18 +290,18 @@ pub(crate) fn make_receive_verified(
         unit.note_no_memory();
         return Err(NoMemory);
     }
-    let (said, source) = receive_verified(unit, limiting, at, frame, plain);
-    made_of_received(alloc, said, source, &mut room)
+    let (said, packet) = receive_verified(unit, limiting, at, frame, plain);
+    made_of_received(alloc, said, packet, &mut room)
 }
 
-/// Receives a frame as `Unit::receive` does, within the limits or past them. Also returns the source
-/// of the packet, if the octets are a frame.
+/// Receives a frame as `Unit::receive` does, within the limits or past them. Also returns what an
+/// answer says of the packet, if the octets are a frame.
 fn receive_plain<'a>(
     unit: &mut Unit<SortedTable>,
     limiting: Limiting,
     at: u64,
     frame: &'a [u8],
-) -> (Result<Reaction<'a>, Refused>, Option<GnAddress>)
+) -> (Result<Reaction<'a>, Refused>, Option<AcceptedPacket>)
     ensures step { (call : ModelCall) × IsFrameCall frame.now call
         × ((u : UnitModel) → RepresentsUnit unit.old u →
         IsReactionOf (TellsBy EncodesFrame) result.0 unit.new
@@ -300,23 +313,23 @@ fn receive_plain<'a>(
 {
     match read_frame(frame) {
         Ok(view) => {
-            let source = view.packet.vector().address();
-            let said = unit.receive_frame_by(limiting, at, frame, &view);
-            (said, Some(source))
+            let packet = AcceptedPacket::of(&view.packet);
+            let said = unit.receive_frame(limiting, at, frame, &view);
+            (said, Some(packet))
         }
         Err(fault) => (Err(unit.refuse_frame(at, fault)), None),
     }
 }
 
 /// Receives a secured frame with its plain part as `Unit::receive_verified` does, within the limits or
-/// past them. Also returns the source of the packet, if the octets are one.
+/// past them. Also returns what an answer says of the packet, if the octets are one.
 fn receive_verified<'a>(
     unit: &mut Unit<SortedTable>,
     limiting: Limiting,
     at: u64,
     frame: &[u8],
     plain: &'a [u8],
-) -> (Result<Reaction<'a>, Refused>, Option<GnAddress>)
+) -> (Result<Reaction<'a>, Refused>, Option<AcceptedPacket>)
     ensures step { (call : VerifiedCall) × IsVerifiedCall frame.now plain.now call
         × ((u : UnitModel) → RepresentsUnit unit.old u →
         IsReactionOf (TellsBy (sealed_by call)) result.0 unit.new
@@ -328,20 +341,20 @@ fn receive_verified<'a>(
 {
     match VerifiedFrame::read(frame, plain) {
         Ok(verified) => {
-            let source = verified.packet().vector().address();
-            let said = unit.receive_frame_by(limiting, at, frame, &verified);
-            (said, Some(source))
+            let packet = AcceptedPacket::of(verified.packet());
+            let said = unit.receive_frame(limiting, at, frame, &verified);
+            (said, Some(packet))
         }
         Err(fault) => (Err(unit.refuse_secured(at, fault)), None),
     }
 }
 
-/// Returns the answer to a frame that was received, whose packet has this source. A payload that is
+/// Returns the answer to a frame that was received, which says this of its packet. A payload that is
 /// delivered takes `room`, an empty buffer in which it fits.
 fn made_of_received(
     alloc: Global,
     said: Result<Reaction<'_>, Refused>,
-    source: Option<GnAddress>,
+    packet: Option<AcceptedPacket>,
     room: &mut Vec<u8>,
 ) -> Result<MadeOfFrame, NoMemory>
     requires empty { room.old.items ≡ [] }
@@ -353,7 +366,7 @@ fn made_of_received(
     ensures memory { OnErr result (said.entry ≡ Err Refused.NoMemory) }
 {
     match said {
-        Ok(reaction) => made_of_reaction(alloc, reaction, source, room),
+        Ok(reaction) => made_of_reaction(alloc, reaction, packet, room),
         Err(refused) => refused_frame(refused),
     }
 }
@@ -362,7 +375,7 @@ fn made_of_received(
 fn made_of_reaction(
     alloc: Global,
     reaction: Reaction<'_>,
-    source: Option<GnAddress>,
+    packet: Option<AcceptedPacket>,
     room: &mut Vec<u8>,
 ) -> Result<MadeOfFrame, NoMemory>
     requires empty { room.old.items ≡ [] }
@@ -379,10 +392,10 @@ fn made_of_reaction(
         cancelled,
     } = reaction;
     let made = made_of_outcome(alloc, outcome, room)?;
-    let source = source.filter(|_| is_accepted(&made));
+    let packet = packet.filter(|_| is_accepted(&made));
     Ok(MadeOfFrame {
         made,
-        source,
+        packet,
         due,
         cancelled,
     })
@@ -417,7 +430,7 @@ fn refused_frame(refused: Refused) -> Result<MadeOfFrame, NoMemory>
     ensures { MatchResult result
         (λ f. (f ≡ record {
           made = Made.Passed (Answer.Refused refused);
-          source = None;
+          packet = None;
           due = None;
           cancelled = false;
         }) × IsSome (refusal_of refused))
@@ -425,7 +438,7 @@ fn refused_frame(refused: Refused) -> Result<MadeOfFrame, NoMemory>
 {
     Ok(MadeOfFrame {
         made: refusal(refused)?,
-        source: None,
+        packet: None,
         due: None,
         cancelled: false,
     })

@@ -6,7 +6,7 @@ ghost use Rattle.its_words.specs.JsonLines.{IsLine};
 
 use crate::reason::{LineReason, SealReason};
 use crate::request::{Id, LineFault};
-use crate::response::{Known, Response, SealFault};
+use crate::response::{AcceptedPacket, Known, Response, SealFault};
 use its_contention::ContentionCounts;
 use its_gnvalue::{GnAddress, LongPv};
 use its_linkframe::{FrameCode, FrameFault};
@@ -29,13 +29,13 @@ pub fn print_response<'l>(
         Response::Reply {
             id,
             at,
-            source,
+            packet,
             due,
             cancelled,
             reply,
         } => {
             let head = LineHead::new(id, Some(*at), answer_word(reply));
-            let keys = ReplyLine::new(head, source, reply);
+            let keys = ReplyLine::new(head, packet, reply);
             line.of(&keys.with_reaction(*due, *cancelled))
         }
         Response::Released { id, at, frame } => line.of(&FrameOctetsLine {
@@ -136,6 +136,8 @@ struct ReplyLine<'a> {
     #[serde(skip_serializing_if = "Option::is_none")]
     source: Option<Digits<8>>,
     #[serde(skip_serializing_if = "Option::is_none")]
+    media: Option<Digits<4>>,
+    #[serde(skip_serializing_if = "Option::is_none")]
     why: Option<&'static str>,
     #[serde(skip_serializing_if = "Option::is_none")]
     code: Option<Printed<RefusedCode>>,
@@ -163,12 +165,13 @@ impl<'a> ReplyLine<'a> {
 
     fn new(
         head: LineHead<'a>,
-        source: &Option<GnAddress>,
+        packet: &Option<AcceptedPacket>,
         reply: &'a StationAnswer,
     ) -> ReplyLine<'a> {
         let line = ReplyLine {
             head,
-            source: source.as_ref().map(digits_of),
+            source: packet.as_ref().map(source_digits),
+            media: packet.as_ref().and_then(media_digits),
             why: None,
             code: None,
             delivered: None,
@@ -204,6 +207,19 @@ impl<'a> ReplyLine<'a> {
 
 fn octets_of(frame: &Vec<u8>) -> Octets<'_> {
     Octets(frame.as_slice())
+}
+
+fn source_digits(packet: &AcceptedPacket) -> Digits<8> {
+    digits_of(&packet.source)
+}
+
+/// The media-dependent data of a packet, unless it is zeros.
+fn media_digits(packet: &AcceptedPacket) -> Option<Digits<4>> {
+    if packet.media == [0; 4] {
+        None
+    } else {
+        Some(Digits(packet.media))
+    }
 }
 
 fn digits_of(address: &GnAddress) -> Digits<8> {

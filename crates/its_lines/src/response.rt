@@ -17,8 +17,8 @@ pub enum Response {
         id: Option<Id>,
         /// The time of the call, in milliseconds.
         at: u64,
-        /// The source of a packet that was accepted.
-        source: Option<GnAddress>,
+        /// What is said of a packet that was accepted.
+        packet: Option<AcceptedPacket>,
         /// The time in milliseconds at which the frame is due in which the packet goes on, if it waits.
         due: Option<u64>,
         /// Whether a duplicate cancelled a frame that waited.
@@ -76,6 +76,15 @@ pub enum Response {
         /// Why it can't be read.
         fault: LineFault,
     },
+}
+
+/// What the answer to a frame says of its packet, if that was accepted.
+#[derive(Clone, Copy, Debug, PartialEq, Eq)]
+pub struct AcceptedPacket {
+    /// The address of the packet's source.
+    pub source: GnAddress,
+    /// The media-dependent data of a single-hop broadcast. Zeros for the other kinds.
+    pub media: [u8; 4],
 }
 
 /// The answer to a query.

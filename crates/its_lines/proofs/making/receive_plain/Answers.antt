@@ -13,16 +13,16 @@ returns-in-Ok-clause-step c =
       Receive t,
       c.in-Ok.ensures.found,
       λ u rep. subst (λ (s : UnitStep). IsReactionOf (TellsBy EncodesFrame)
-          c.receive_frame_by-said.result c.receive_frame_by-said.new.self s)
+          c.receive_frame-said.result c.receive_frame-said.new.self s)
           (frames_by c.args.limiting u c.args.at t)
-          (c.receive_frame_by-said.ensures.step frame_octets (λ t w encodes. encodes.octets)
+          (c.receive_frame-said.ensures.step frame_octets (λ t w encodes. encodes.octets)
           c.in-Ok.ensures.found.octets u rep),
     )
 
 pub returns-in-Ok-clause-payload : goal.returns-in-Ok-clause-payload
 returns-in-Ok-clause-payload c =
     passed_end (transmission_of c.in-Ok.view) c.args.frame.now c.in-Ok.ensures.found
-    c.receive_frame_by-said.result c.receive_frame_by-said.ensures.payload
+    c.receive_frame-said.result c.receive_frame-said.ensures.payload
 
 pub returns-in-Err-clause-step : goal.returns-in-Err-clause-step
 returns-in-Err-clause-step c = (

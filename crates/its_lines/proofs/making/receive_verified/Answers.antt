@@ -13,16 +13,16 @@ returns-in-Ok-clause-step c =
       Came v,
       c.in-Ok.ensures.found,
       λ u rep. subst (λ (s : UnitStep). IsReactionOf (TellsBy (sealed_by (Came v)))
-          c.receive_frame_by-said.result c.receive_frame_by-said.new.self s)
+          c.receive_frame-said.result c.receive_frame-said.new.self s)
           (verified_by c.args.limiting u c.args.at v)
-          (c.receive_frame_by-said.ensures.step (verified_octets (Came v))
+          (c.receive_frame-said.ensures.step (verified_octets (Came v))
           (λ t w encodes. encodes.octets) c.in-Ok.ensures.found.secured.octets u rep),
     )
 
 pub returns-in-Ok-clause-payload : goal.returns-in-Ok-clause-payload
 returns-in-Ok-clause-payload c =
     verified_passed_end c.in-Ok.verified c.args.frame.now c.args.plain.now c.in-Ok.ensures.found
-    c.receive_frame_by-said.result c.receive_frame_by-said.ensures.payload
+    c.receive_frame-said.result c.receive_frame-said.ensures.payload
 
 pub returns-in-Err-clause-step : goal.returns-in-Err-clause-step
 returns-in-Err-clause-step c = (
