@@ -10,12 +10,7 @@ use Rattle.its_c.specs.declared.layout.PacketArea.{PacketArea}
 use Rattle.its_c.specs.declared.layout.PacketMessage.{PacketMessage}
 use Rattle.its_c.specs.Arguments.{number_of_shape}
 use Rattle.its_c.specs.Lookups.{as_number, shown_vector, no_vector}
-use Rattle.its_c.specs.Told.{layer_of, kind_of, place_in, kind_number, shown_number}
-
--- the media-dependent data, or zeros
-abbrev pub shown_media : Option (List ℕ) → List ℕ
-shown_media None = 0 ∷ 0 ∷ 0 ∷ 0 ∷ []
-shown_media (Some media) = media
+use Rattle.its_c.specs.Told.{layer_of, kind_of, place_in, kind_number, shown_media, shown_number}
 
 -- the area, or zeros
 abbrev pub shown_area : Option GeoArea → PacketArea

@@ -1,5 +1,5 @@
 -- What a call tells C.
-use Rattle.std.specs.Prelude.{◌≡◌, ◌+◌, ◌-◌, ◌^◌, ℕ, ℤ, Bool, true, false, List, length, take, drop}
+use Rattle.std.specs.Prelude.{◌≡◌, ◌+◌, ◌-◌, ◌^◌, ◌∷◌, [], ℕ, ℤ, Bool, true, false, List, length, take, drop}
 use Rattle.std.specs.Prelude.{Vec, Option, Some, None}
 use Rattle.std.specs.Prelude.{Result, Ok, Err}
 use Rattle.std.specs.Option.{option_map}
@@ -13,7 +13,7 @@ use Rattle.its_faults.specs.declared.packet.FaultKind.TheVariants as kinds
 use Rattle.its_model.specs.Packet.{number_in}
 use Rattle.its_model.specs.Calls as model
 use Rattle.its_model.specs.Calls.{Call}
-use Rattle.its_headers.specs.Fields.{kind_of_body}
+use Rattle.its_headers.specs.Fields.{kind_of_body, media_in}
 use Rattle.its_headers.specs.Seen.{Seen}
 use Rattle.its_linkframe.specs.Secured.{seen_on_air}
 use Rattle.its_headers.specs.declared.kind.Kind.{Kind}
@@ -80,6 +80,7 @@ nothing_received =
       delivered = 0;
       port = 0;
       info = 0;
+      media = 0 ∷ 0 ∷ 0 ∷ 0 ∷ [];
       payload_start = 0;
       payload_length = 0;
       relay_length = 0;
@@ -108,8 +109,13 @@ abbrev pub shown_number : Option ℕ → ℕ
 shown_number None = 0
 shown_number (Some number) = number
 
+-- the media-dependent data, or zeros
+abbrev pub shown_media : Option (List ℕ) → List ℕ
+shown_media None = 0 ∷ 0 ∷ 0 ∷ 0 ∷ []
+shown_media (Some media) = media
+
 -- what is told of each packet that isn't refused: the source, the kind, the sequence number, the
--- traffic class and the hops that are left
+-- traffic class, the hops that are left, and the media-dependent data
 abbrev pub reception_of : Seen → Reception
 reception_of p = record nothing_received {
   source = p.pdu.vector.address;
@@ -117,12 +123,14 @@ reception_of p = record nothing_received {
   number = shown_number (number_in p.pdu.body);
   traffic_class = p.pdu.class;
   hops_left = p.left;
+  media = shown_media (media_in p.pdu.body);
 }
 
--- a reception that tells no more than that, and why the frame is ignored
+-- a reception that tells no more than that, why the frame is ignored, and what came of held frames
 abbrev pub IsHeard : Reception → Type 0
 IsHeard r = r ≡ record nothing_received {
   ignored = r.ignored;
+  media = r.media;
   source = r.source;
   kind = r.kind;
   number = r.number;

@@ -16,6 +16,8 @@ pub struct Reception {
     pub port: u16,
     /// The destination port info.
     pub info: u16,
+    /// The media-dependent data of a single-hop broadcast, otherwise zeros.
+    pub media: [u8; 4],
     /// Where in the frame that came the payload begins.
     pub payload_start: usize,
     /// How many octets the payload has.
@@ -53,6 +55,7 @@ impl Reception {
         delivered: 0,
         port: 0,
         info: 0,
+        media: [0; 4],
         payload_start: 0,
         payload_length: 0,
         relay_length: 0,

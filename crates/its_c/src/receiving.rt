@@ -13,17 +13,16 @@ ghost use Rattle.its_c.specs.Held.{IsSame};
 ghost use Rattle.its_c.specs.Life.{CallStep};
 ghost use Rattle.its_c.specs.Life.HandleCall.{Receive, ReceiveVerified};
 ghost use Rattle.its_c.specs.Open.{HoldsUnit};
-ghost use Rattle.its_c.specs.Told.{nothing_received, reception_of};
+ghost use Rattle.its_c.specs.Told.{nothing_received};
 
 use crate::handle::Geostation;
 use crate::layout::Reception;
-use crate::reading::kind_number;
 use crate::status::NO_ROOM;
-use crate::told::told_outcome;
-use its_headers::{Head, PacketView};
+use crate::told::{told_received, told_refused};
 use its_linkframe::{
     LONGEST_FRAME, LONGEST_SECURED_FRAME, Unpadded, VerifiedFrame, frame_length, read_unpadded,
 };
+use its_unit::Limiting;
 use std::alloc::Global;
 
 /// How many of the octets are a frame: its length if a beginning of them is a frame (there is one
@@ -68,16 +67,15 @@ pub extern "C" fn geostation_receive(
     match frame {
         Ok(view) => {
             let mut unit = s.held.take(alloc);
-            let said = unit.receive_frame(now, octets, &view);
+            let said = unit.receive_frame(Limiting::Within, now, octets, &view);
             s.held.put(unit);
-            let heard = reception_of(&view.packet);
-            told_outcome(said, heard, octets, reception, relay)
+            told_received(said, &view.packet, octets, reception, relay)
         }
         Err(fault) => {
             let mut unit = s.held.take(alloc);
             let refused = unit.refuse_frame(now, fault);
             s.held.put(unit);
-            told_outcome(Err(refused), Reception::NOTHING, octets, reception, relay)
+            told_refused(refused, reception)
         }
     }
 }
@@ -115,31 +113,15 @@ pub extern "C" fn geostation_receive_verified(
     match VerifiedFrame::read(frame, plain) {
         Ok(verified) => {
             let mut unit = s.held.take(alloc);
-            let said = unit.receive_frame(now, frame, &verified);
+            let said = unit.receive_frame(Limiting::Within, now, frame, &verified);
             s.held.put(unit);
-            let heard = reception_of(verified.packet());
-            told_outcome(said, heard, plain, reception, relay)
+            told_received(said, verified.packet(), plain, reception, relay)
         }
         Err(fault) => {
             let mut unit = s.held.take(alloc);
             let refused = unit.refuse_secured(now, fault);
             s.held.put(unit);
-            told_outcome(Err(refused), Reception::NOTHING, plain, reception, relay)
+            told_refused(refused, reception)
         }
-    }
-}
-
-/// What a reception says of each packet that isn't refused: one of a frame, or the verified one of a
-/// secured frame.
-fn reception_of<H: Head>(packet: &PacketView<'_, H>) -> Reception
-    ensures { result ≡ reception_of packet.now }
-{
-    Reception {
-        source: packet.vector().address().as_u64(),
-        kind: kind_number(packet.kind()),
-        number: packet.number().unwrap_or(0),
-        traffic_class: packet.class().octet(),
-        hops_left: packet.left(),
-        ..Reception::NOTHING
     }
 }

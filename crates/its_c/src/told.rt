@@ -3,14 +3,16 @@
 ghost use Rattle.std.specs.Prelude.{◌≡◌, ◌≢◌, ◌≤◌, pos, length, Ok, Err, IfOk, IfSome, IsOk, IsErr};
 ghost use Rattle.its_station.specs.Receiving.{DeliversEndOf, HandsOutEndOf, SendsAtMost};
 ghost use Rattle.its_unit.specs.Steps.{WherePassed};
-ghost use Rattle.its_c.specs.Status.{status_in, status_sent};
+ghost use Rattle.its_c.specs.Status.{status_in, status_of, status_sent};
 ghost use Rattle.its_c.specs.Told.{Holds, ShowsFrame, ShowsBeacon, ShowsHanded, ShowsReceived};
 ghost use Rattle.its_c.specs.Told.{IsHeard, IsBesides, ShowsUnit, number_of, refused_reception};
-ghost use Rattle.its_c.specs.Told.{with_reaction};
+ghost use Rattle.its_c.specs.Told.{nothing_received, reception_of, with_reaction};
 
 use crate::fault::FaultNumbers;
 use crate::layout::Reception;
+use crate::reading::kind_number;
 use crate::status::{OK, status_of, status_of_unsent};
+use its_headers::{Head, PacketView};
 use its_station::{Handed, Outcome, Refused, Why};
 use its_unit::{Reaction, UnitOutcome, Unsent};
 
@@ -96,56 +98,112 @@ pub(crate) fn told_release(
     }
 }
 
-/// The status of a call that takes a frame. If the frame isn't refused, its outcome is written
-/// into `reception`.
-pub(crate) fn told_outcome(
+/// The status of a call that receives a frame with this packet. If the frame isn't refused, its
+/// outcome is written into `reception`, of which each field is 0 before.
+#[inline(always)]
+pub(crate) fn told_received<H: Head>(
     said: Result<Reaction<'_>, Refused>,
-    heard: Reception,
+    packet: &PacketView<'_, H>,
     frame: &[u8],
     reception: &mut Reception,
     relay: &mut [u8],
 ) -> i32
-    requires heard { IsHeard heard }
+    requires nothing { reception.old ≡ nothing_received }
     requires end { IfOk said (λ r. WherePassed (DeliversEndOf frame.now) r.outcome) }
     requires short { IfOk said (λ r. WherePassed (SendsAtMost (length relay.old)) r.outcome) }
     ensures status { result ≡ status_in said.entry }
-    ensures shown { ShowsReceived frame.now heard reception.new relay.new said.entry }
+    ensures shown { ShowsReceived frame.now (reception_of packet.now) reception.new relay.new
+        said.entry }
     ensures memory { result ≡ pos 5 → said.entry ≡ Err Refused.NoMemory }
     ensures done { result ≡ pos 0 → IsOk said.entry }
 {
     match said {
         Ok(reaction) => {
-            let Reaction {
-                outcome,
-                due,
-                cancelled,
-            } = reaction;
-            *reception = with_reaction(heard, due, cancelled);
-            tell_outcome(outcome, frame, reception, relay);
+            tell_packet(packet, reception);
+            tell_reaction(reaction, frame, reception, relay);
             OK
         }
-        Err(refused) => {
-            *reception = refused_reception(refused);
-            status_of(refused)
-        }
+        Err(refused) => told_refused(refused, reception),
     }
 }
 
-/// The reception with the due time of a held frame, and whether one is cancelled.
-fn with_reaction(heard: Reception, due: Option<u64>, cancelled: bool) -> Reception
-    requires heard { IsHeard heard }
-    ensures value { result ≡ with_reaction heard due cancelled }
-    ensures heard { IsHeard result }
+/// The status of a call that receives a frame, which is refused. The fault of octets that are no
+/// frame is written into `reception`, of which each field is 0 before.
+pub(crate) fn told_refused(refused: Refused, reception: &mut Reception) -> i32
+    requires { reception.old ≡ nothing_received }
+    ensures status { result ≡ status_of refused }
+    ensures shown { reception.new ≡ refused_reception refused }
+    ensures memory { result ≡ pos 5 → refused ≡ Refused.NoMemory }
+    ensures refused { result ≢ pos 0 }
 {
-    Reception {
-        due: due.unwrap_or(0),
-        held: u32::from(due.is_some()),
-        cancelled: u32::from(cancelled),
-        ..heard
+    match refused {
+        Refused::Frame(fault) => tell_fault(FaultNumbers::of(fault), reception),
+        Refused::Secured(fault) => tell_fault(FaultNumbers::of_secured(fault), reception),
+        _ => {}
     }
+    status_of(refused)
+}
+
+/// Writes what is wrong with octets that are no frame.
+fn tell_fault(numbers: FaultNumbers, reception: &mut Reception)
+    ensures { reception.new ≡ record reception.old {
+      fault = numbers.layer;
+      fault_kind = numbers.kind;
+      fault_at = numbers.at;
+    } }
+{
+    reception.fault = numbers.layer;
+    reception.fault_kind = numbers.kind;
+    reception.fault_at = numbers.at;
+}
+
+/// Writes what is said of each packet that isn't refused.
+#[inline(always)]
+fn tell_packet<H: Head>(packet: &PacketView<'_, H>, reception: &mut Reception)
+    requires { reception.old ≡ nothing_received }
+    ensures told { reception.new ≡ reception_of packet.now }
+    ensures heard { IsHeard reception.new }
+{
+    reception.media = packet.media().unwrap_or([0; 4]);
+    reception.source = packet.vector().address().as_u64();
+    reception.kind = kind_number(packet.kind());
+    reception.number = packet.number().unwrap_or(0);
+    reception.traffic_class = packet.class().octet();
+    reception.hops_left = packet.left();
+}
+
+/// Writes the reaction to a frame that isn't refused: its outcome, the due time of a held frame, and
+/// whether one is cancelled.
+#[inline(always)]
+fn tell_reaction(reaction: Reaction<'_>, frame: &[u8], reception: &mut Reception, relay: &mut [u8])
+    requires heard { IsHeard reception.old }
+    requires end { WherePassed (DeliversEndOf frame.now) reaction.outcome }
+    requires short { WherePassed (SendsAtMost (length relay.old)) reaction.outcome }
+    ensures shown { ShowsReceived frame.now reception.old reception.new relay.new
+        (Ok reaction.entry) }
+{
+    let Reaction {
+        outcome,
+        due,
+        cancelled,
+    } = reaction;
+    tell_held(due, cancelled, reception);
+    tell_outcome(outcome, frame, reception, relay);
+}
+
+/// Writes the due time of a held frame, and whether one is cancelled.
+fn tell_held(due: Option<u64>, cancelled: bool, reception: &mut Reception)
+    requires { IsHeard reception.old }
+    ensures told { reception.new ≡ with_reaction reception.old due cancelled }
+    ensures heard { IsHeard reception.new }
+{
+    reception.due = due.unwrap_or(0);
+    reception.held = u32::from(due.is_some());
+    reception.cancelled = u32::from(cancelled);
 }
 
 /// Writes the outcome of a frame that isn't refused.
+#[inline(always)]
 fn tell_outcome(outcome: UnitOutcome<'_>, frame: &[u8], reception: &mut Reception, relay: &mut [u8])
     requires heard { IsHeard reception.old }
     requires end { WherePassed (DeliversEndOf frame.now) outcome }
@@ -178,23 +236,6 @@ fn tell_handed(handed: Option<Handed<'_>>, frame: &[u8], reception: &mut Recepti
         reception.info = handed.info;
         reception.payload_length = handed.payload.len();
         reception.payload_start = frame.len() - handed.payload.len();
-    }
-}
-
-/// The reception of a frame that is refused: the fault of octets that are no frame.
-fn refused_reception(refused: Refused) -> Reception
-    ensures { result ≡ refused_reception refused }
-{
-    let numbers = match refused {
-        Refused::Frame(fault) => FaultNumbers::of(fault),
-        Refused::Secured(fault) => FaultNumbers::of_secured(fault),
-        _ => return Reception::NOTHING,
-    };
-    Reception {
-        fault: numbers.layer,
-        fault_kind: numbers.kind,
-        fault_at: numbers.at,
-        ..Reception::NOTHING
     }
 }
 

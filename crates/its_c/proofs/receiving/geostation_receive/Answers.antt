@@ -1,12 +1,10 @@
-use Rattle.std.proofs.Common.{rules, subst, Err}
+use Rattle.std.proofs.Common.{rules, Err}
 use Rattle.its_linkframe.specs.Frames.{frame_octets, transmission_of}
 use Rattle.its_model.specs.Calls.Call.{Receive as IsReceived, Junk}
 use Rattle.its_station.specs.Receiving.{Tells}
 use Rattle.its_unit.specs.Unit.{unit_step, Receive}
 use Rattle.its_unit.specs.Steps.{counted_received}
 use Rattle.its_unit.proofs.Passing.{passed_end}
-use Rattle.its_c.specs.Told.{ShowsReceived}
-use Rattle.its_c.specs.declared.layout.Reception.{Reception}
 use Rattle.its_c.proofs.Opens.{counts_held, held_unit, reacts_open, same_open}
 use Rattle.its_c.proofs.receiving.geostation_receive.Goals as goal
 
@@ -23,8 +21,8 @@ invariant_of-s c =
           c.args.s.now.represents;
     }
 
-pub told_outcome-requires-clause-end : goal.told_outcome-requires-clause-end
-told_outcome-requires-clause-end c =
+pub told_received-requires-clause-end : goal.told_received-requires-clause-end
+told_received-requires-clause-end c =
     passed_end (transmission_of c.in-Ok.view) c.read_unpadded-frame.result.octets.now
     (rw c.in-Ok.is at c.read_unpadded-frame.ensures.found) c.receive_frame-said.result
     c.receive_frame-said.ensures.payload
@@ -52,9 +50,7 @@ returns-in-Ok-clause-step c =
                     (λ t w encodes. encodes.octets)
                     (rw c.in-Ok.is at c.read_unpadded-frame.ensures.found).octets u rep;
                 code = search rules;
-                shown = subst (λ (r : Reception). ShowsReceived w r c.told_outcome.new.reception
-                    c.told_outcome.new.relay said) c.reception_of-heard.ensures
-                    c.told_outcome.ensures.shown;
+                shown = c.told_received.ensures.shown;
                 counts = counts_held counted_received said c.args.s.now.held.unit
                     c.put.new.self.unit c.deref_mut.result.now c.receive_frame-said.new.self
                     (search rules) (search rules) c.receive_frame-said.ensures.counts;
@@ -72,7 +68,7 @@ returns-in-Ok-clause-memory c = λ is. (
   (rw c.in-Ok.is at c.read_unpadded-frame.ensures.found),
   λ u holds.
       let rep = held_unit c.args.s.now.held.unit c.deref_mut.result.now u (search rules) holds in
-      c.receive_frame-said.ensures.memory u.station rep.station (c.told_outcome.ensures.memory
+      c.receive_frame-said.ensures.memory u.station rep.station (c.told_received.ensures.memory
       (search rules)),
 )
 
@@ -104,7 +100,7 @@ returns-in-Err-clause-step c =
                 held = search rules;
                 done = c.refuse_frame-refused.ensures.step u rep;
                 code = search rules;
-                shown = c.told_outcome-in-Err.ensures.shown;
+                shown = c.told_refused.ensures.shown;
                 counts = counts_held counted_received (Err refused) c.args.s.now.held.unit
                     c.put-in-Err.new.self.unit c.deref_mut-in-Err.result.now
                     c.refuse_frame-refused.new.self (search rules) (search rules)

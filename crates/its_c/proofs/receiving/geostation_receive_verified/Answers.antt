@@ -1,4 +1,4 @@
-use Rattle.std.proofs.Common.{refl, rules, subst, sym, ap, ◌∙◌, Err}
+use Rattle.std.proofs.Common.{rules, subst, ap, Err}
 use Rattle.its_model.specs.Calls.Call.{Receive as IsReceived}
 use Rattle.its_station.specs.Receiving.{EncodesSealed, TellsBy}
 use Rattle.its_station.specs.Receiving.VerifiedCall.{Came, Faulty}
@@ -6,7 +6,7 @@ use Rattle.its_unit.specs.Contending.{verified_octets}
 use Rattle.its_unit.specs.Unit.{unit_step, ReceiveVerified}
 use Rattle.its_unit.specs.Steps.{counted_received}
 use Rattle.its_unit.proofs.Passing.{verified_passed_end}
-use Rattle.its_c.specs.Told.{IsHeard, ShowsReceived, reception_of}
+use Rattle.its_c.specs.Told.{ShowsReceived, reception_of}
 use Rattle.its_c.specs.declared.layout.Reception.{Reception}
 use Rattle.its_c.proofs.Opens.{counts_held, held_unit, reacts_open, same_open}
 use Rattle.its_c.proofs.receiving.geostation_receive_verified.Goals as goal
@@ -25,12 +25,8 @@ invariant_of-s c =
           c.args.s.now.represents;
     }
 
-pub told_outcome-requires-clause-heard : goal.told_outcome-requires-clause-heard
-told_outcome-requires-clause-heard c =
-    subst (λ (r : Reception). IsHeard r) (sym c.reception_of-heard.ensures) refl
-
-pub told_outcome-requires-clause-end : goal.told_outcome-requires-clause-end
-told_outcome-requires-clause-end c =
+pub told_received-requires-clause-end : goal.told_received-requires-clause-end
+told_received-requires-clause-end c =
     verified_passed_end c.in-Ok.verified c.args.frame.now c.args.plain.now c.in-Ok.ensures.found
     c.receive_frame-said.result c.receive_frame-said.ensures.payload
 
@@ -55,9 +51,8 @@ returns-in-Ok-clause-step c =
                     (λ t w encodes. encodes.octets) c.in-Ok.ensures.found.secured.octets u rep;
                 code = search rules;
                 shown = subst (λ (r : Reception). ShowsReceived c.args.plain.now r
-                    c.told_outcome.new.reception c.told_outcome.new.relay said)
-                    (c.reception_of-heard.ensures ∙ ap reception_of c.packet.ensures)
-                    c.told_outcome.ensures.shown;
+                    c.told_received.new.reception c.told_received.new.relay said)
+                    (ap reception_of c.packet.ensures) c.told_received.ensures.shown;
                 counts = counts_held counted_received said c.args.s.now.held.unit
                     c.put.new.self.unit c.deref_mut.result.now c.receive_frame-said.new.self
                     (search rules) (search rules) c.receive_frame-said.ensures.counts;
@@ -73,7 +68,7 @@ returns-in-Ok-clause-memory c = λ is. (
   c.in-Ok.ensures.found,
   λ u holds.
       let rep = held_unit c.args.s.now.held.unit c.deref_mut.result.now u (search rules) holds in
-      c.receive_frame-said.ensures.memory u.station rep.station (c.told_outcome.ensures.memory
+      c.receive_frame-said.ensures.memory u.station rep.station (c.told_received.ensures.memory
       (search rules)),
 )
 
@@ -104,7 +99,7 @@ returns-in-Err-clause-step c =
                 held = search rules;
                 done = c.refuse_secured-refused.ensures.step u rep;
                 code = search rules;
-                shown = c.told_outcome-in-Err.ensures.shown;
+                shown = c.told_refused.ensures.shown;
                 counts = counts_held counted_received (Err refused) c.args.s.now.held.unit
                     c.put-in-Err.new.self.unit c.deref_mut-in-Err.result.now
                     c.refuse_secured-refused.new.self (search rules) (search rules)
