@@ -40,7 +40,7 @@ use Rattle.its_unit.proofs.Puts.{kept_in_time, released_is, wait_least}
 -- ---- the station within
 
 -- a release leaves it
-released_station : (u : UnitModel) (now : ℕ) (o : Option Refusal)
+pub released_station : (u : UnitModel) (now : ℕ) (o : Option Refusal)
     → (release_by u now o).unit.station ≡ u.station
 released_station u now (Some refusal) = refl
 released_station u now None = by u.contention

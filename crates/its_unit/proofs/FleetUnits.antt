@@ -32,7 +32,7 @@ part_frame (UnitAnswer.Passed answer) whole part = inr (ap world.frame_of part)
 part_frame UnitAnswer.Repeated whole part = inl refl
 part_frame UnitAnswer.OverRate whole part = inl refl
 
-among_numbered : (n : ℕ) (x y : Option Transmission) → (x ≡ None) ⊎ (x ≡ y)
+pub among_numbered : (n : ℕ) (x y : Option Transmission) → (x ≡ None) ⊎ (x ≡ y)
     → AreAmong (with_one_more [] (numbered n x)) (with_one_more [] (numbered n y))
 among_numbered n x y (inl e) =
     subst (λ (z : Option Transmission).
@@ -43,7 +43,7 @@ among_numbered n x y (inr e) =
     AreAmong (with_one_more [] (numbered n x)) (with_one_more [] (numbered n z))) e (λ f is. is)
 
 -- the station after a call, by whether it is withheld
-station_by : (u : UnitModel) (c : UnitCallAt) (b : Bool) → is_withheld u c ≡ b
+pub station_by : (u : UnitModel) (c : UnitCallAt) (b : Bool) → is_withheld u c ≡ b
     → (unit_step u c.now c.call).unit.station ≡ station_after u.station (cond b [] (c ∷ []))
 station_by u c b e =
     (station_runs u).station (c ∷ [])

@@ -11,6 +11,9 @@ pub mod Fleets
 pub mod FleetUnits
 pub mod FleetMessages
 pub mod FleetOnce
+pub mod Holding
+pub mod HoldingUnits
+pub mod HoldingOnce
 pub mod Sealing
 pub mod SignedSteps
 pub mod Signed

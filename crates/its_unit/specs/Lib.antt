@@ -6,6 +6,7 @@ pub mod Waits
 pub mod Runs
 pub mod Fleets
 pub mod FleetLaws
+pub mod Holding
 pub mod Signed
 pub mod SignedLaws
 pub mod SignedOnce

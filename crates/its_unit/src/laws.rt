@@ -1,6 +1,6 @@
 //! The laws of units. Each is the contract of a function that does nothing.
 
-ghost use Rattle.std.specs.Prelude.{List};
+ghost use Rattle.std.specs.Prelude.{List, map};
 ghost use Rattle.its_model.specs.World.{Config};
 ghost use Rattle.its_governor.specs.declared.rate.Limits.{Limits as GivenLimits};
 ghost use Rattle.its_governor.specs.Governing.{IsNewGovernor};
@@ -10,6 +10,8 @@ ghost use Rattle.its_unit.specs.Fleets.{unit_kind};
 ghost use Rattle.its_unit.specs.FleetLaws.{AreNewUnits, FleetIsWorld, FleetHoldsOfSchedules};
 ghost use Rattle.its_unit.specs.FleetLaws.{UnitsRun, SendsOnce, DeliversAsSent};
 ghost use Rattle.its_unit.specs.FleetLaws.{FramesAreFaithful};
+ghost use Rattle.its_unit.specs.Holding.{AreNewContending, ContendersSendOnce, UnitsAct};
+ghost use Rattle.its_unit.specs.Holding.{UnitsHoldFrames, holding, holding_kind};
 ghost use Rattle.its_unit.specs.SignedLaws.{AreNamed, DeliversAsSealed, ForwardsAsSealed};
 ghost use Rattle.its_unit.specs.SignedLaws.{SignedUnitsRun, FloodsAreBounded, ForgersChangeNothing};
 ghost use Rattle.its_unit.specs.SignedOnce.{HaveHeardNothing, AcceptsOnce};
@@ -55,6 +57,42 @@ pub fn fleets_are_worlds()
         AreNewUnits unit_kind configs units → DeliversAsSent unit_kind units }
     ensures faithful { (configs : List Config) (units : List UnitModel) →
         AreNewUnits unit_kind configs units → FramesAreFaithful unit_kind configs units }
+{
+    // A law, for the proof alone.
+    every_schedule();
+}
+
+/// The laws of a fleet whose units may contend, any number of them, each by its own rule: they exchange
+/// the frames that they send, at once and by releases, in every order, with losses.
+///
+/// - `world`: the stations within do what the stations of a world do, on the events that
+///   `world_events` names. A release is no event of them. A frame that waited is the world's frame with
+///   its number, and comes late. One that is cancelled or dropped is delivered to nobody.
+/// - `schedules`: all that holds after every schedule holds of that world.
+/// - `units`: each unit is a unit after the calls and releases that the fleet makes of it, so all laws of
+///   calls and releases hold of it.
+/// - `waiting`: what waits in a unit are the frames that the fleet counts as waiting, octet for octet, and
+///   what a release returns is the frame that the fleet counts as sent.
+/// - `once`: no frame that a station made is sent twice, so no more are sent than without contention.
+/// - `delivered`: a message for an area that a unit delivers was sent by a unit of the fleet, to
+///   that port, for an area that holds the receiver's position.
+/// - `faithful`: each frame that a unit sends is its own packet, or one that a unit sent before,
+///   with one hop fewer.
+pub fn contending_fleets_are_worlds()
+    ensures world { (configs : List Config) (units : List UnitModel) →
+        AreNewContending configs units →
+        FleetIsWorld holding_kind configs (map holding units) }
+    ensures schedules { (configs : List Config) (units : List UnitModel) →
+        FleetHoldsOfSchedules holding_kind configs (map holding units) }
+    ensures units { (units : List UnitModel) → UnitsAct units }
+    ensures waiting { (configs : List Config) (units : List UnitModel) →
+        AreNewContending configs units → UnitsHoldFrames units }
+    ensures once { (units : List UnitModel) → ContendersSendOnce units }
+    ensures delivered { (configs : List Config) (units : List UnitModel) →
+        AreNewContending configs units → DeliversAsSent holding_kind (map holding units) }
+    ensures faithful { (configs : List Config) (units : List UnitModel) →
+        AreNewContending configs units →
+        FramesAreFaithful holding_kind configs (map holding units) }
 {
     // A law, for the proof alone.
     every_schedule();

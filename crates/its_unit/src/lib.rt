@@ -56,8 +56,8 @@
 //!   from its due time to 1000 ms after it. Each frame that begins to wait is released, cancelled or
 //!   dropped, or waits in the end, and is counted so. One is cancelled only if copies of it came from as
 //!   many other stations as the rule asks for, since it was put. The rate of all forwarded frames bounds
-//!   those that go at once and those that are released together. The other limits, the deliveries and
-//!   the fleets below are about lists without releases.
+//!   those that go at once and those that are released together. The other limits and the deliveries
+//!   are about lists without releases.
 //! - **Fleets** (`laws`: `fleets_are_worlds`): units that exchange the frames that they send, in every
 //!   order and with losses, are a world. Its events are named (`world_events`): a request over its
 //!   rate is no event, and a frame that no unit sends is delivered to nobody. So all laws of
@@ -67,6 +67,12 @@
 //!   secured frame. Moves with a time stamp of their own and broadcasts with options of their own
 //!   are left out. The definitions are about each kind of unit that sends its station's frames late or
 //!   never (`IsLateOrLost`).
+//! - **Fleets that contend** (`laws`: `contending_fleets_are_worlds`): units of which any number contend,
+//!   and which exchange the frames that they send at once and by releases, are a world too. A frame that
+//!   waits is one that comes late; one that is cancelled or dropped comes to nobody. What a release
+//!   returns is, octet for octet, the frame of the world with its number (`HoldsItsFrames`). None is sent
+//!   twice, and no more are sent than the stations made (`SendsEachOnce`). Each unit is a unit after its
+//!   calls and releases (`UnitsAct`). The other laws of fleets hold as they stand.
 //! - **Forgers** (`laws`: `signed_units_are_lawful`): any octets arrive at units whose frames all pass a
 //!   sound security entity. What a unit delivers was sent so by the unit that its packet names
 //!   (`DeliversAsSealed`), what it forwards was sealed so (`ForwardsAsSealed`), it accepts no packet
