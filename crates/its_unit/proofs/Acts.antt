@@ -27,7 +27,10 @@ use Rattle.its_unit.specs.Contending.{Released, after_accepting, after_due_frame
 use Rattle.its_unit.specs.Contending.{after_own_answer, contended, governed_release, has_room_for_due}
 use Rattle.its_unit.specs.Contending.{release_first, released_or, waiting_of}
 use Rattle.its_unit.specs.Releases.{release_by, release_of}
-use Rattle.its_unit.specs.Runs.{Contends, ForwardsAreCounted, IsStationRun, ReleasedIsWhatWouldBeSent}
+use Rattle.its_unit.specs.Acts.{DeliveriesAreKept, RatesAreKept}
+use Rattle.its_unit.specs.Lawful.{Contends}
+use Rattle.its_unit.specs.Outcomes.{CopiesComeFromOthers, ForwardsAreSettled}
+use Rattle.its_unit.specs.Runs.{ForwardsAreCounted, IsStationRun, ReleasedIsWhatWouldBeSent}
 use Rattle.its_unit.specs.Runs.{ReleasesAreWithin}
 use Rattle.its_unit.specs.Runs.{UnitAct, UnitCallAt, WasPut, after_act, is_withheld, made_in}
 use Rattle.its_unit.specs.Runs.{made_in_act, station_after, unit_acts}
@@ -378,8 +381,9 @@ released_as_put u rule acts now frame fits is found =
 -- ---- the laws
 
 pub contends : (limits : Limits) (u : UnitModel) → ((v : UnitModel) → IsStationRun v)
-    → ReleasesAreWithin limits u → Contends limits u
-contends limits u runs within = record {
+    → ReleasesAreWithin limits u → RatesAreKept limits u → DeliveriesAreKept limits u
+    → ForwardsAreSettled u → CopiesComeFromOthers u → Contends limits u
+contends limits u runs within rates deliveries settled copies = record {
   cancelled_by_the_same_frame = cancelled u;
   stations_are_as_before = record {
     station = λ acts. acts_station acts u;
@@ -388,4 +392,8 @@ contends limits u runs within = record {
   released_is_what_would_be_sent = released_as_put u;
   forwards_are_counted = counted u;
   releases_are_within = within;
+  rates_are_kept = rates;
+  deliveries_are_kept = deliveries;
+  forwards_are_settled = settled;
+  copies_come_from_others = copies;
 }

@@ -4,6 +4,9 @@ pub mod Lengths
 pub mod Cancels
 pub mod Acts
 pub mod Runs
+pub mod ActLimits
+pub mod Outcomes
+pub mod Lawful
 pub mod Passing
 pub mod Contended
 pub mod FleetFrames

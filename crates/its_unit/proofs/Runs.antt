@@ -19,9 +19,8 @@ use Rattle.its_governor.specs.declared.bucket.Bucket.{Bucket}
 use Rattle.its_governor.specs.declared.governor.Governor.{Governor}
 use Rattle.its_governor.specs.declared.receiver.Receiver.{Receiver}
 use Rattle.its_governor.specs.declared.rate.Limits.{Limits}
-use Rattle.its_governor.specs.declared.rate.Rate.{Rate}
-use Rattle.its_governor.specs.Bucket.{full, drawn, drawn_at, has_room, MayPass, IsBounded}
-use Rattle.its_governor.specs.Sources.{Forwarded, times_from}
+use Rattle.its_governor.specs.Bucket.{full, drawn, drawn_at, has_room, MayPass}
+use Rattle.its_governor.specs.Sources.{Forwarded}
 use Rattle.its_governor.specs.Governing.{governed, is_repeated_in, after_call, kept}
 use Rattle.its_governor.specs.Governing.{after_judging, after_delivery, after_forwarding, passed_of}
 use Rattle.its_governor.specs.Governing.{draw_from, room_in, is_echo, has_room_for, IsNewGovernor}
@@ -29,11 +28,9 @@ use Rattle.its_governor.specs.Governing.{source_room}
 use Rattle.its_governor.specs.Pressure.{has_share_of}
 use Rattle.its_governor.specs.Deliveries.{GovernedCall, after_governed}
 use Rattle.its_governor.specs.Forwarding as limits
-use Rattle.its_governor.specs.Forwarding.{forward_if, forwarded_by, forwarded, times, RemembersSources}
+use Rattle.its_governor.specs.Forwarding.{forward_if, forwarded_by, forwarded, times}
 use Rattle.its_governor.proofs.Bounds.{bounded}
-use Rattle.its_governor.proofs.Deliveries.{owed, apart}
-use Rattle.its_governor.proofs.Forwarding.{Passed, forwards_bounded, passed_in, sources_stay}
-use Rattle.its_governor.proofs.Pressure.{withheld, shares_kept, new_take_nothing}
+use Rattle.its_governor.proofs.Forwarding.{Passed, passed_in}
 use Rattle.its_model.specs.Contention.{Fate, first_due, kept_at}
 use Rattle.its_contention.specs.Buffer.{Buffer, after_drop, after_late}
 use Rattle.its_contention.specs.Waiting.{Waiting}
@@ -41,18 +38,17 @@ use Rattle.its_unit.specs.Contending.{Released, after_due_frame, at_once, fate_i
 use Rattle.its_unit.specs.Contending.{has_room_for_due, left_in, receiver_for, release_first}
 use Rattle.its_unit.specs.Contending.{released_or}
 use Rattle.its_unit.specs.Releases.{release_by, release_of}
-use Rattle.its_unit.proofs.Acts.{contends}
 use Rattle.its_unit.specs.Unit.{UnitModel, UnitCall, UnitAnswer, UnitStep, answer_by, frame_of}
 use Rattle.its_unit.specs.Unit.{is_request, passed_step, receiver_of, refused_step, step_within}
 use Rattle.its_unit.specs.Unit.{unit_step}
 use Rattle.its_unit.specs.Runs.{UnitCallAt, unit_run, is_withheld, made, station_after, IsPart}
 use Rattle.its_unit.specs.Runs.{IsPartOf, IsStationRun, IsModelRun, AreModelCalls, model_call}
 use Rattle.its_unit.specs.Runs.{forwarded_in, frames_forwarded, request_if, requests_sent}
-use Rattle.its_unit.specs.Runs.{AreWithin, IsLawful, ReleasesAreWithin, UnitAct, after_act}
+use Rattle.its_unit.specs.Runs.{ReleasesAreWithin, UnitAct, after_act}
 use Rattle.its_unit.specs.Runs.{gone_in_act, released_at, times_gone}
 
 -- a step, by whether the call is withheld
-abbrev step_by_rate : UnitModel → UnitCallAt → Bool → UnitStep
+abbrev pub step_by_rate : UnitModel → UnitCallAt → Bool → UnitStep
 step_by_rate u c p =
     cond p (refused_step u) (passed_step u c.now c.call (step_within u.station c.now c.call))
 
@@ -102,7 +98,7 @@ part_of g r now f (model.Answer.Ignored why) = refl
 part_of g r now f (model.Answer.Refused refusal) = refl
 
 -- what contention leaves of an answer
-abbrev left_answer : UnitModel → UnitCallAt → Answer Transmission
+abbrev pub left_answer : UnitModel → UnitCallAt → Answer Transmission
 left_answer u c =
     left_in u.contention (Some u.governor) (step_within u.station c.now c.call).station c.now
     (frame_of c.call) (step_within u.station c.now c.call).answer
@@ -185,25 +181,25 @@ same_run s (c ∷ calls) (t ∷ timed) are =
     ap (λ (x : Step). station_after x.station calls) step
     ∙ same_run (station_step s t.moment t.call).station calls timed are.2
 
-model_runs : (u : UnitModel) → IsModelRun u
+pub model_runs : (u : UnitModel) → IsModelRun u
 model_runs u calls timed are =
     same_station u calls ∙ same_run u.station (made u calls) timed are
 
 -- ---- what is forwarded, as the limits see it
 
-abbrev governed_by_rate : UnitModel → UnitCallAt → Bool → GovernedCall
+abbrev pub governed_by_rate : UnitModel → UnitCallAt → Bool → GovernedCall
 governed_by_rate u c p =
     cond p GovernedCall.OverRate
     (GovernedCall.Answered (receiver_of u.station c.now (frame_of c.call)) c.now (is_request c.call) (frame_of c.call)
     (left_answer u c))
 
-abbrev governed_calls : UnitModel → List UnitCallAt → List GovernedCall
+abbrev pub governed_calls : UnitModel → List UnitCallAt → List GovernedCall
 governed_calls u [] = []
 governed_calls u (c ∷ calls) =
     governed_by_rate u c (is_withheld u c)
     ∷ governed_calls (unit_step u c.now c.call).unit calls
 
-governed_next : (u : UnitModel) (c : UnitCallAt) (p : Bool)
+pub governed_next : (u : UnitModel) (c : UnitCallAt) (p : Bool)
     → (step_by_rate u c p).unit.governor ≡ after_governed u.governor (governed_by_rate u c p)
 governed_next u c true = refl
 governed_next u c false = refl
@@ -254,14 +250,14 @@ forwarded_of g r now (Some t) model.Answer.Quiet = refl
 forwarded_of g r now (Some t) (model.Answer.Ignored why) = refl
 forwarded_of g r now (Some t) (model.Answer.Refused refusal) = refl
 
-forwarded_next : (u : UnitModel) (c : UnitCallAt) (p : Bool)
+pub forwarded_next : (u : UnitModel) (c : UnitCallAt) (p : Bool)
     → forwarded_in (frame_of c.call) (step_by_rate u c p).answer c.now
     ≡ limits.forwarded_in u.governor (governed_by_rate u c p)
 forwarded_next u c true = withheld_sends_on (frame_of c.call) c.now
 forwarded_next u c false =
     forwarded_of u.governor (receiver_of u.station c.now (frame_of c.call)) c.now (frame_of c.call) (left_answer u c)
 
-same_forwarded : (u : UnitModel) (calls : List UnitCallAt)
+pub same_forwarded : (u : UnitModel) (calls : List UnitCallAt)
     → forwarded u.governor (governed_calls u calls) ≡ frames_forwarded u calls
 same_forwarded u [] = refl
 same_forwarded u (c ∷ calls) =
@@ -370,12 +366,12 @@ had_room true false room a b e = absurd (false≢true b)
 had_room false in_range room a b e = absurd (false≢true a)
 
 -- what the bucket of own packets lets pass in a call, and what it is then
-record SentWith (b : Bucket) (sent : List ℕ) (new : Option Bucket) : Type 0 where
-  pass : (rest : List ℕ) → ((after : Bucket) → new ≡ Some after → MayPass after rest)
+pub record SentWith (b : Bucket) (sent : List ℕ) (new : Option Bucket) : Type 0 where
+  pub pass : (rest : List ℕ) → ((after : Bucket) → new ≡ Some after → MayPass after rest)
       → MayPass b (sent ++ rest)
-  some : (after : Bucket) × (new ≡ Some after) × (after.rate ≡ b.rate)
+  pub some : (after : Bucket) × (new ≡ Some after) × (after.rate ≡ b.rate)
 
-sent_none : (b : Bucket) (new : Option Bucket) → new ≡ Some b → SentWith b [] new
+pub sent_none : (b : Bucket) (new : Option Bucket) → new ≡ Some b → SentWith b [] new
 sent_none b new is = record { pass = λ rest h. h b is; some = (b, is, refl) }
 
 sent_one : (b : Bucket) (now : ℕ) (new : Option Bucket) → has_room b now ≡ true
@@ -446,7 +442,7 @@ left_sent (Some b) g s now (Some f) model.Answer.Quiet t e = e
 left_sent (Some b) g s now (Some f) (model.Answer.Ignored why) t e = e
 left_sent (Some b) g s now (Some f) (model.Answer.Refused refusal) t e = e
 
-sent_next : (b : Bucket) (u : UnitModel) (c : UnitCallAt) (p : Bool) → is_withheld u c ≡ p
+pub sent_next : (b : Bucket) (u : UnitModel) (c : UnitCallAt) (p : Bool) → is_withheld u c ≡ p
     → u.governor.own ≡ Some b
     → SentWith b (request_if (is_request c.call) (step_by_rate u c p).answer c.now)
     (step_by_rate u c p).unit.governor.own
@@ -463,7 +459,7 @@ sent_next b u c false e is =
     (left_sent u.contention u.governor (step_within u.station c.now c.call).station c.now
     (frame_of c.call) (step_within u.station c.now c.call).answer t sent)) e)
 
-all_sent : (b : Bucket) (u : UnitModel) (calls : List UnitCallAt) → u.governor.own ≡ Some b
+pub all_sent : (b : Bucket) (u : UnitModel) (calls : List UnitCallAt) → u.governor.own ≡ Some b
     → MayPass b (requests_sent u calls)
 all_sent b u [] is = tt
 all_sent b u (c ∷ calls) is =
@@ -561,49 +557,8 @@ all_gone (a ∷ acts) b u is =
     pass_both (times (gone_in_act u a)) (times_gone (after_act u a) acts) b passed.pass
     (all_gone acts (drawn_at b (times (gone_in_act u a))) (after_act u a) passed.is)
 
-releases_within : (limits : Limits) (u : UnitModel) → IsNewGovernor limits u.governor
+pub releases_within : (limits : Limits) (u : UnitModel) → IsNewGovernor limits u.governor
     → ReleasesAreWithin limits u
 releases_within limits u new rate is acts =
     bounded (full rate) (times_gone u acts)
     (all_gone acts (full rate) u (new.forward ∙ ap (option_map full) is))
-
--- ---- all laws of a unit
-
-within : (limits : Limits) (u : UnitModel) → IsNewGovernor limits u.governor → AreWithin limits u
-within limits u new = record {
-  forwards = λ rate is calls.
-      subst (λ (fs : List Forwarded). IsBounded rate (times fs)) (same_forwarded u calls)
-      (forwards_bounded limits u.governor rate new is (governed_calls u calls));
-  sources = λ rate is fits calls source. of_each rate is limits.forward refl fits calls source;
-  own = λ rate is calls.
-      bounded (full rate) (requests_sent u calls)
-      (all_sent (full rate) u calls (new.own ∙ ap (option_map full) is));
-}
-  where
-    of_each : (rate : Rate) → limits.source ≡ Some rate → (o : Option Rate) → limits.forward ≡ o
-        → RemembersSources o rate → (calls : List UnitCallAt) (source : ℕ)
-        → IsBounded rate (times_from source (frames_forwarded u calls))
-    of_each rate is None none fits calls source = absurd fits
-    of_each rate is (Some forward) some fits calls source =
-        subst (λ (fs : List Forwarded). IsBounded rate (times_from source fs))
-        (same_forwarded u calls)
-        (sources_stay limits u.governor forward rate new some is fits (governed_calls u calls) source)
-
-pub lawful : (limits : Limits) (u : UnitModel) → IsNewGovernor limits u.governor
-    → IsLawful limits u
-lawful limits u new = record {
-  station = station_runs u;
-  model = model_runs u;
-  within = within limits u new;
-  deliveries = record {
-    owed = owed limits u.governor new;
-    apart = apart limits u.governor new;
-  };
-  fair = record {
-    reasons = λ calls r now t. withheld (unit_run u calls).governor r now t;
-    kept = shares_kept u.governor;
-    untaken = λ forward source common own.
-        new_take_nothing limits u.governor forward source new common own;
-  };
-  contention = contends limits u station_runs (releases_within limits u new);
-}

@@ -24,7 +24,7 @@ use Rattle.its_unit.specs.SignedLaws.{AreNamed, signed_after}
 use Rattle.its_unit.specs.SignedLaws.{WasSentBySource, DeliversAsSealed, IsSealedForwarding}
 use Rattle.its_unit.specs.SignedLaws.{IsOwnSealed, ForwardsAsSealed, SignedUnitsRun}
 use Rattle.its_unit.specs.SignedLaws.{FloodsAreBounded, ForgersChangeNothing}
-use Rattle.its_unit.proofs.Runs.{lawful}
+use Rattle.its_unit.proofs.Lawful.{lawful}
 use Rattle.its_unit.proofs.FleetUnits.{get_other, get_same, map_runs}
 use Rattle.its_unit.proofs.Sealing.{same_packet, sent_own}
 use Rattle.its_unit.proofs.SignedSteps.{HasAddress, unit_address, handed_out, sent_on, sent_whole}

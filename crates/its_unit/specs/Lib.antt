@@ -4,6 +4,9 @@ pub mod Steps
 pub mod Releases
 pub mod Waits
 pub mod Runs
+pub mod Acts
+pub mod Outcomes
+pub mod Lawful
 pub mod Fleets
 pub mod FleetLaws
 pub mod Holding

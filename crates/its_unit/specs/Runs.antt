@@ -328,20 +328,3 @@ CancelledByTheSameFrame u =
     (rule : ContentionRule) (acts : List UnitAct) (call : UnitCallAt) → IsRule rule
     → u.contention ≡ Some (empty rule)
     → All (IsCancelledByCopies rule u acts call) (cancelled_in (unit_acts u acts) call)
-
--- What is promised of a unit that contends, beside what is promised of each unit.
-pub record Contends (limits : Limits) (u : UnitModel) : Type 0 where
-  pub stations_are_as_before : StationsAreAsBefore u
-  pub released_is_what_would_be_sent : ReleasedIsWhatWouldBeSent u
-  pub forwards_are_counted : ForwardsAreCounted u
-  pub cancelled_by_the_same_frame : CancelledByTheSameFrame u
-  pub releases_are_within : ReleasesAreWithin limits u
-
--- All that is promised of a unit with these limits.
-pub record IsLawful (limits : Limits) (u : UnitModel) : Type 0 where
-  pub station : IsStationRun u
-  pub model : IsModelRun u
-  pub within : AreWithin limits u
-  pub deliveries : AreDelivered limits u
-  pub fair : IsFair limits u
-  pub contention : Contends limits u

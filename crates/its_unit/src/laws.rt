@@ -5,7 +5,7 @@ ghost use Rattle.its_model.specs.World.{Config};
 ghost use Rattle.its_governor.specs.declared.rate.Limits.{Limits as GivenLimits};
 ghost use Rattle.its_governor.specs.Governing.{IsNewGovernor};
 ghost use Rattle.its_unit.specs.Unit.{UnitModel};
-ghost use Rattle.its_unit.specs.Runs.{IsLawful};
+ghost use Rattle.its_unit.specs.Lawful.{IsLawful};
 ghost use Rattle.its_unit.specs.Fleets.{unit_kind};
 ghost use Rattle.its_unit.specs.FleetLaws.{AreNewUnits, FleetIsWorld, FleetHoldsOfSchedules};
 ghost use Rattle.its_unit.specs.FleetLaws.{UnitsRun, SendsOnce, DeliversAsSent};
@@ -28,7 +28,8 @@ use its_model::laws::every_schedule;
 /// released is what the station answered when it accepted a packet, from its due time to 1000 ms after
 /// it. Each frame that begins to wait is released, cancelled or dropped, or waits in the end. One that is
 /// cancelled has copies of it from as many other stations as the rule asks for, since it was put. All
-/// frames that are forwarded, at once or by releases, are within their rate together.
+/// frames that are forwarded, at once or by releases, are within their rate together, and so are those
+/// of each source. Own packets and deliveries keep their limits.
 pub fn units_are_lawful()
     ensures { (limits : GivenLimits) (u : UnitModel) → IsNewGovernor limits u.governor →
         IsLawful limits u }

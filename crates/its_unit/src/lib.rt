@@ -56,8 +56,9 @@
 //!   from its due time to 1000 ms after it. Each frame that begins to wait is released, cancelled or
 //!   dropped, or waits in the end, and is counted so. One is cancelled only if copies of it came from as
 //!   many other stations as the rule asks for, since it was put. The rate of all forwarded frames bounds
-//!   those that go at once and those that are released together. The other limits and the deliveries
-//!   are about lists without releases.
+//!   those that go at once and those that are released together, and so do the rates of each source
+//!   (`RatesAreKept`). Own packets keep their rate. Messages are delivered as without releases
+//!   (`DeliveriesAreKept`): to the limits, a frame that is due is a packet that came.
 //! - **Fleets** (`laws`: `fleets_are_worlds`): units that exchange the frames that they send, in every
 //!   order and with losses, are a world. Its events are named (`world_events`): a request over its
 //!   rate is no event, and a frame that no unit sends is delivered to nobody. So all laws of
