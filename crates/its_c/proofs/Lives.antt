@@ -25,7 +25,8 @@ use Rattle.its_station.specs.declared.refused.Refused.TheVariants as refused
 use Rattle.its_unit.specs.Unit.{UnitModel, UnitState, UnitStep, UnitAnswer}
 use Rattle.its_unit.specs.Unit.{RepresentsUnit, unit_step}
 use Rattle.its_unit.specs.Releases.{IsReleaseOf, UnitRelease, counted_release, release_step}
-use Rattle.its_unit.specs.Runs.{IsLawful, UnitAct, UnitCallAt, after_act, unit_acts}
+use Rattle.its_unit.specs.Lawful.{IsLawful}
+use Rattle.its_unit.specs.Runs.{UnitAct, UnitCallAt, after_act, unit_acts}
 use Rattle.its_unit.specs.Steps.{IsReactionOf, IsStepOf, IsSendOf, IsRefusedStep}
 use Rattle.its_unit.specs.declared.outcome.Reaction.{Reaction}
 use Rattle.its_unit.specs.declared.unsent.Unsent.{Unsent}

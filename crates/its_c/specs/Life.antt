@@ -29,7 +29,8 @@ use Rattle.its_station.specs.declared.sending.AreaCast.{AreaCast}
 use Rattle.its_unit.specs.Unit.{UnitCall, UnitModel, UnitState, UnitStep, unit_step}
 use Rattle.its_unit.specs.Releases.{IsReleaseOf, UnitRelease, counted_release, longest_in}
 use Rattle.its_unit.specs.Releases.{release_step}
-use Rattle.its_unit.specs.Runs.{IsLawful, UnitAct, UnitCallAt, unit_acts}
+use Rattle.its_unit.specs.Lawful.{IsLawful}
+use Rattle.its_unit.specs.Runs.{UnitAct, UnitCallAt, unit_acts}
 use Rattle.its_unit.specs.Steps.{IsReactionOf, IsStepOf, IsSendOf, SaysPassed, counted_request}
 use Rattle.its_unit.specs.Steps.{counted_received}
 use Rattle.its_unit.specs.declared.outcome.Reaction.{Reaction}
