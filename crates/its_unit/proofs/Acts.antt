@@ -83,12 +83,12 @@ acts_station (a ∷ acts) u =
 -- ---- what an act does to the frames that wait
 
 -- Some calls on the frames that wait lead from one buffer to the other, and all that they put has this.
-abbrev Became : (Waiting → ℕ → Type 0) → Buffer Waiting → Buffer Waiting → Type 0
+abbrev pub Became : (Waiting → ℕ → Type 0) → Buffer Waiting → Buffer Waiting → Type 0
 Became P b new =
     (calls : List (BufferCall Waiting)) × (new ≡ after_calls b calls) × PutsOnly P calls
 
 -- and so of a unit that contends
-abbrev BecameIn : (Waiting → ℕ → Type 0) → Buffer Waiting → Option (Buffer Waiting) → Type 0
+abbrev pub BecameIn : (Waiting → ℕ → Type 0) → Buffer Waiting → Option (Buffer Waiting) → Type 0
 BecameIn P b new = (after : Buffer Waiting) × (new ≡ Some after) × Became P b after
 
 stays : (P : Waiting → ℕ → Type 0) (b : Buffer Waiting) → Became P b b
@@ -243,7 +243,7 @@ released_by P u now b None is =
     )
 
 -- what an act puts
-abbrev PutIn : (Waiting → ℕ → Type 0) → ContentionRule → UnitModel → UnitAct → Type 0
+abbrev pub PutIn : (Waiting → ℕ → Type 0) → ContentionRule → UnitModel → UnitAct → Type 0
 PutIn P rule u (UnitAct.Releases now) = Unit {0}
 PutIn P rule u (UnitAct.Calls c) =
     (t : Transmission) (handed : Option Message) (relay : Transmission) → frame_of c.call ≡ Some t
@@ -253,7 +253,7 @@ PutIn P rule u (UnitAct.Calls c) =
     (receiver_of u.station c.now (frame_of c.call)).knew_source t)
     (due_of rule (step_within u.station c.now c.call).station c.now t)
 
-acted : (P : Waiting → ℕ → Type 0) (u : UnitModel) (a : UnitAct) (b : Buffer Waiting)
+pub acted : (P : Waiting → ℕ → Type 0) (u : UnitModel) (a : UnitAct) (b : Buffer Waiting)
     → u.contention ≡ Some b → PutIn P b.rule u a → BecameIn P b (after_act u a).contention
 acted P u (UnitAct.Releases now) b is put =
     released_by P u now b (moment_refusal u.station now) is
@@ -326,7 +326,7 @@ released_first (suc most) address now P b g w all is =
         released_is (next_due b.held) b.held P now w all (found ∙ is)
     by (Some frame) false rest found next is = next is
 
-released_of : (o : Option Refusal) (u : UnitModel) (now : ℕ) (P : Waiting → ℕ → Type 0)
+pub released_of : (o : Option Refusal) (u : UnitModel) (now : ℕ) (P : Waiting → ℕ → Type 0)
     (b : Buffer Waiting) (w : Waiting) → u.contention ≡ Some b → AllHeld P b.held
     → (release_by u now o).frame ≡ Some w
     → IsDue (λ frame due. P frame due × (now ≤ due + late_after)) now w

@@ -365,7 +365,7 @@ holding_late_or_lost = record {
 
 -- ---- the units of a fleet
 
-acts_on : (u : UnitModel) (first next : List UnitAct)
+pub acts_on : (u : UnitModel) (first next : List UnitAct)
     → unit_acts u (first ++ next) ≡ unit_acts (unit_acts u first) next
 acts_on u [] next = refl
 acts_on u (a ∷ first) next = acts_on (after_act u a) first next

@@ -22,4 +22,6 @@ pub mod SignedSteps
 pub mod Signed
 pub mod SignedOnce
 pub mod SignedRunsOnce
+pub mod SignedReleases
 mod RowsOfForging
+mod RowsOfHolding

@@ -9,23 +9,28 @@ use Rattle.its_gnvalue.specs.Values.{mid_of}
 use Rattle.its_model.specs.History.{is_among}
 use Rattle.its_model.specs.Packet.{Message, Pdu, Transmission}
 use Rattle.its_model.specs.Calls as model
-use Rattle.its_model.specs.Station.{handing}
+use Rattle.its_model.specs.Station.{after_hearing, handing, moment_refusal}
+use Rattle.its_model.proofs.Fits.{IsSentOn}
 use Rattle.its_model.specs.World as world
 use Rattle.its_linkframe.specs.Secured.{Verified}
 use Rattle.its_station.specs.Receiving.{VerifiedCall, IsVerifiedCall}
 use Rattle.its_unit.specs.Unit.{UnitModel, UnitCall, UnitAnswer, unit_step}
-use Rattle.its_unit.specs.Runs.{unit_run}
+use Rattle.its_unit.specs.Releases.{release_step}
+use Rattle.its_unit.specs.Runs.{UnitAct, unit_acts}
 use Rattle.its_unit.specs.FleetLaws.{IsIn}
 use Rattle.its_unit.specs.Signed.{SignedWhat, SignedEvent, SignedLine, SignedModel, new_signed}
-use Rattle.its_unit.specs.Signed.{call_in, after_signed, at_signed, signed_step, signed_run}
+use Rattle.its_unit.specs.Signed.{call_in, after_signed, at_signed, happened_signed, released_signed}
+use Rattle.its_unit.specs.Signed.{signed_step, signed_run}
 use Rattle.its_unit.specs.Signed.{WasSealed, is_own, IsSoundCall, IsSoundEvent, AreSound}
-use Rattle.its_unit.specs.Signed.{signed_call, signed_calls}
+use Rattle.its_unit.specs.Signed.{signed_act, signed_acts}
 use Rattle.its_unit.specs.SignedLaws.{AreNamed, signed_after}
 use Rattle.its_unit.specs.SignedLaws.{WasSentBySource, DeliversAsSealed, IsSealedForwarding}
 use Rattle.its_unit.specs.SignedLaws.{IsOwnSealed, ForwardsAsSealed, SignedUnitsRun}
 use Rattle.its_unit.specs.SignedLaws.{FloodsAreBounded, ForgersChangeNothing}
 use Rattle.its_unit.proofs.Lawful.{lawful}
-use Rattle.its_unit.proofs.FleetUnits.{get_other, get_same, map_runs}
+use Rattle.its_unit.proofs.Acts.{released_station}
+use Rattle.its_unit.proofs.FleetUnits.{get_other, get_same}
+use Rattle.its_unit.proofs.HoldingUnits.{acts_on}
 use Rattle.its_unit.proofs.Sealing.{same_packet, sent_own}
 use Rattle.its_unit.proofs.SignedSteps.{HasAddress, unit_address, handed_out, sent_on, sent_whole}
 use Rattle.its_unit.proofs.SignedSteps.{own_sent, received_sent, faulty_none, faulty_stays}
@@ -33,13 +38,13 @@ use Rattle.its_unit.proofs.SignedSteps.{own_sent, received_sent, faulty_none, fa
 -- ---- each line is a call of a unit
 
 -- the first of these units at this place has the address that the unit has now
-record IsStill (units : List UnitModel) (j : ℕ) (u : UnitModel) : Type 0 where
-  first : UnitModel
-  there : slice_get units j ≡ Some first
-  address : HasAddress first.station.address u.station
+pub record IsStill (units : List UnitModel) (j : ℕ) (u : UnitModel) : Type 0 where
+  pub first : UnitModel
+  pub there : slice_get units j ≡ Some first
+  pub address : HasAddress first.station.address u.station
 
 -- a line of the log is a call of a unit, and if its applications asked for it, an own call
-record IsLine (units : List UnitModel) (line : SignedLine) : Type 0 where
+pub record IsLine (units : List UnitModel) (line : SignedLine) : Type 0 where
   unit : UnitModel
   call : UnitCall
   still : IsStill units line.event.unit unit
@@ -48,11 +53,11 @@ record IsLine (units : List UnitModel) (line : SignedLine) : Type 0 where
   own : (asked : UnitCall) (message : List ℕ) → line.event.what ≡ SignedWhat.Asks asked message
       → IsTrue (is_own asked)
 
-record IsSoundRun (units : List UnitModel) (f : SignedModel) : Type 0 where
-  each : (j : ℕ) (u : UnitModel) → slice_get f.units j ≡ Some u → IsStill units j u
-  lines : (line : SignedLine) → IsIn f.log line → IsLine units line
+pub record IsSoundRun (units : List UnitModel) (f : SignedModel) : Type 0 where
+  pub each : (j : ℕ) (u : UnitModel) → slice_get f.units j ≡ Some u → IsStill units j u
+  pub lines : (line : SignedLine) → IsIn f.log line → IsLine units line
 
-new_sound : (units : List UnitModel) → AreNamed units → IsSoundRun units (new_signed units)
+pub new_sound : (units : List UnitModel) → AreNamed units → IsSoundRun units (new_signed units)
 new_sound units named = record {
   each = λ j u at. record {
     first = u;
@@ -116,14 +121,41 @@ called_sound units f e u (Some call) at is sound h =
     new_or_old line zero get = subst (IsLine units) (same_Some _ line get) new_line
     new_or_old line (suc k) get = h.lines line (k, get)
 
-unit_sound : (units : List UnitModel) (f : SignedModel) (e : SignedEvent) (o : Option UnitModel)
+-- a release changes no station
+released_sound : (units : List UnitModel) (f : SignedModel) (e : SignedEvent) (u : UnitModel)
+    → slice_get f.units e.unit ≡ Some u → IsSoundRun units f
+    → IsSoundRun units (released_signed f e u)
+released_sound units f e u at h =
+    let still = h.each e.unit u at in
+    record {
+      each = λ j x get. set_still units f.units e.unit j u (release_step u e.now).unit x at h.each
+          (record {
+            first = still.first;
+            there = still.there;
+            address = subst (HasAddress still.first.station.address)
+                (sym (released_station u e.now (moment_refusal u.station e.now))) still.address;
+          }) get;
+      lines = h.lines;
+    }
+
+happened_sound : (units : List UnitModel) (f : SignedModel) (e : SignedEvent) (u : UnitModel)
+    (what : SignedWhat) → slice_get f.units e.unit ≡ Some u → e.what ≡ what
+    → IsSoundEvent f.log e.what → IsSoundRun units f
+    → IsSoundRun units (happened_signed f e u what)
+happened_sound units f e u (SignedWhat.Asks call message) at is sound h =
+    called_sound units f e u (Some call) at (ap call_in is) sound h
+happened_sound units f e u (SignedWhat.Unread octets) at is sound h = h
+happened_sound units f e u (SignedWhat.Arrives octets plain call) at is sound h =
+    called_sound units f e u (Some (UnitCall.ReceiveVerified call)) at (ap call_in is) sound h
+happened_sound units f e u SignedWhat.Releases at is sound h = released_sound units f e u at h
+
+pub unit_sound : (units : List UnitModel) (f : SignedModel) (e : SignedEvent) (o : Option UnitModel)
     → slice_get f.units e.unit ≡ o → IsSoundEvent f.log e.what → IsSoundRun units f
     → IsSoundRun units (at_signed f e o)
 unit_sound units f e None at sound h = h
-unit_sound units f e (Some u) at sound h =
-    called_sound units f e u (call_in e.what) at refl sound h
+unit_sound units f e (Some u) at sound h = happened_sound units f e u e.what at refl sound h
 
-run_sound : (units : List UnitModel) (events : List SignedEvent) (f : SignedModel)
+pub run_sound : (units : List UnitModel) (events : List SignedEvent) (f : SignedModel)
     → AreSound f events → IsSoundRun units f → IsSoundRun units (signed_run f events)
 run_sound units [] f are h = h
 run_sound units (e ∷ events) f are h =
@@ -173,18 +205,18 @@ sealed_by_source units f plain v m at run octets came sealed handed =
     )
 
 -- the event brings a frame that the entity read
-record IsArrival (log : List SignedLine) (what : SignedWhat) (v : VerifiedCall) : Type 0 where
-  octets : List ℕ
-  plain : List ℕ
-  is : what ≡ SignedWhat.Arrives octets plain v
-  read : IsVerifiedCall octets plain v
-  sound : IsSoundCall log plain v
+pub record IsArrival (log : List SignedLine) (what : SignedWhat) (v : VerifiedCall) : Type 0 where
+  pub octets : List ℕ
+  pub plain : List ℕ
+  pub is : what ≡ SignedWhat.Arrives octets plain v
+  pub read : IsVerifiedCall octets plain v
+  pub sound : IsSoundCall log plain v
 
 verified_same : (c v : VerifiedCall) → UnitCall.ReceiveVerified c ≡ UnitCall.ReceiveVerified v
     → c ≡ v
 verified_same c v e = cc
 
-arrival : (log : List SignedLine) (what : SignedWhat) (v : VerifiedCall)
+pub arrival : (log : List SignedLine) (what : SignedWhat) (v : VerifiedCall)
     → call_in what ≡ Some (UnitCall.ReceiveVerified v) → IsSoundEvent log what
     → IsArrival log what v
 arrival log (SignedWhat.Asks call message) v called sound =
@@ -192,12 +224,14 @@ arrival log (SignedWhat.Asks call message) v called sound =
     (same_Some call (UnitCall.ReceiveVerified v) called) sound))
 arrival log (SignedWhat.Unread octets) v called sound =
     absurd (none-some (UnitCall.ReceiveVerified v) called)
+arrival log SignedWhat.Releases v called sound =
+    absurd (none-some (UnitCall.ReceiveVerified v) called)
 arrival log (SignedWhat.Arrives octets plain c) v called sound =
     subst (λ (x : VerifiedCall). IsArrival log (SignedWhat.Arrives octets plain c) x)
     (verified_same c v (same_Some (UnitCall.ReceiveVerified c) (UnitCall.ReceiveVerified v) called))
     (record { octets = octets; plain = plain; is = refl; read = sound.0; sound = sound.1 })
 
-after_events : (units : List UnitModel) (events : List SignedEvent) → AreNamed units
+pub after_events : (units : List UnitModel) (events : List SignedEvent) → AreNamed units
     → AreSound (new_signed units) events → IsSoundRun units (signed_after units events)
 after_events units events named are =
     run_sound units events (new_signed units) are (new_sound units named)
@@ -213,6 +247,30 @@ delivers_as_sealed units named events e v message relayed next =
 
 -- ---- what goes on is what was sealed
 
+-- a frame that is sent on for a frame that came
+abbrev pub sealed_on : (log : List SignedLine) (u : UnitModel) (now : ℕ) (what : SignedWhat)
+    (v : Verified) (t : Transmission) → IsArrival log what (VerifiedCall.Came v)
+    → IsSentOn (after_hearing u.station now v.frame) v.frame (Some t)
+    → IsSealedForwarding log u what t
+sealed_on log u now what v t a sent =
+    let same = same_packet a.sound.frame v.frame a.plain a.sound.part a.read.packet in
+    let with_packet : Pdu → Transmission = λ p. record {
+      pdu = p;
+      hops_left = v.frame.hops_left - 1;
+      link_source = mid_of u.station.address;
+      link_target = sent.1;
+    } in
+    record {
+      octets = a.octets;
+      plain = a.plain;
+      came = v;
+      sealed = a.sound;
+      is = a.is;
+      hops = sent.0;
+      target = sent.1;
+      same = sent.2 ∙ ap with_packet same;
+    }
+
 -- a frame that goes on for a frame that came
 forwarded : (log : List SignedLine) (u : UnitModel) (now : ℕ) (what : SignedWhat) (v : VerifiedCall)
     (handed : Option Message) (t : Transmission) → IsArrival log what v
@@ -222,27 +280,8 @@ forwarded : (log : List SignedLine) (u : UnitModel) (now : ℕ) (what : SignedWh
 forwarded log u now what (VerifiedCall.Faulty fault) handed t a passed =
     absurd (faulty_none u now fault handed t passed)
 forwarded log u now what (VerifiedCall.Came v) handed t a passed =
-    let sent = sent_on u now (UnitCall.ReceiveVerified (VerifiedCall.Came v)) v.frame t handed refl
-    passed in
-    let same = same_packet a.sound.frame v.frame a.plain a.sound.part a.read.packet in
-    record {
-      octets = a.octets;
-      plain = a.plain;
-      came = v;
-      sealed = a.sound;
-      is = a.is;
-      hops = sent.0;
-      target = sent.1;
-      same = sent.2 ∙ ap (λ (p : Pdu). with_packet p sent.1) same;
-    }
-  where
-    with_packet : Pdu → ℕ → Transmission
-    with_packet p target = record {
-      pdu = p;
-      hops_left = v.frame.hops_left - 1;
-      link_source = mid_of u.station.address;
-      link_target = target;
-    }
+    sealed_on log u now what v t a
+    (sent_on u now (UnitCall.ReceiveVerified (VerifiedCall.Came v)) v.frame t handed refl passed)
 
 forwards_by : (log : List SignedLine) (e : SignedEvent) (u : UnitModel) (what : SignedWhat)
     (call : UnitCall) (answer : model.Answer Transmission) (t : Transmission)
@@ -260,6 +299,8 @@ forwards_by log e u (SignedWhat.Asks asked message) call answer t sound called p
     )
 forwards_by log e u (SignedWhat.Unread octets) call answer t sound called passed gives =
     absurd (none-some call called)
+forwards_by log e u SignedWhat.Releases call answer t sound called passed gives =
+    absurd (none-some call called)
 forwards_by log e u (SignedWhat.Arrives octets plain v) call answer t sound called passed gives =
     let is = same_Some (UnitCall.ReceiveVerified v) call called in
     let answered = ap (λ (c : UnitCall). (unit_step u e.now c).answer) is ∙ passed in
@@ -273,57 +314,74 @@ forwards_as_sealed units events e call answer t next gives =
     forwards_by (signed_after units events).log e next.unit e.what call answer t next.sound
     next.called next.answered gives
 
--- ---- each unit is a unit after its calls
+-- ---- each unit is a unit after its calls and releases
 
-own_signed : (f : SignedModel) (e : SignedEvent) (u : UnitModel) (o : Option UnitCall)
+own_happened : (f : SignedModel) (e : SignedEvent) (u : UnitModel) (what : SignedWhat)
     → slice_get f.units e.unit ≡ Some u
-    → slice_get (after_signed f e u o).units e.unit ≡ Some (unit_run u (signed_call e o))
-own_signed f e u None at = at
-own_signed f e u (Some call) at = get_same f.units e.unit u (unit_step u e.now call).unit at
+    → slice_get (happened_signed f e u what).units e.unit ≡ Some (unit_acts u (signed_act e what))
+own_happened f e u (SignedWhat.Asks call message) at =
+    get_same f.units e.unit u (unit_step u e.now call).unit at
+own_happened f e u (SignedWhat.Unread octets) at = at
+own_happened f e u (SignedWhat.Arrives octets plain call) at =
+    get_same f.units e.unit u (unit_step u e.now (UnitCall.ReceiveVerified call)).unit at
+own_happened f e u SignedWhat.Releases at =
+    get_same f.units e.unit u (release_step u e.now).unit at
 
 own_event : (f : SignedModel) (e : SignedEvent) (o : Option UnitModel)
     → slice_get f.units e.unit ≡ o
     → slice_get (at_signed f e o).units e.unit
-    ≡ option_map (λ (u : UnitModel). unit_run u (signed_call e (call_in e.what))) o
+    ≡ option_map (λ (u : UnitModel). unit_acts u (signed_act e e.what)) o
 own_event f e None at = at
-own_event f e (Some u) at = own_signed f e u (call_in e.what) at
+own_event f e (Some u) at = own_happened f e u e.what at
 
-other_signed : (f : SignedModel) (e : SignedEvent) (u : UnitModel) (o : Option UnitCall) (j : ℕ)
-    → e.unit ≢ j → slice_get (after_signed f e u o).units j ≡ slice_get f.units j
-other_signed f e u None j differ = refl
-other_signed f e u (Some call) j differ =
+other_happened : (f : SignedModel) (e : SignedEvent) (u : UnitModel) (what : SignedWhat) (j : ℕ)
+    → e.unit ≢ j → slice_get (happened_signed f e u what).units j ≡ slice_get f.units j
+other_happened f e u (SignedWhat.Asks call message) j differ =
     get_other f.units e.unit j (unit_step u e.now call).unit differ
+other_happened f e u (SignedWhat.Unread octets) j differ = refl
+other_happened f e u (SignedWhat.Arrives octets plain call) j differ =
+    get_other f.units e.unit j (unit_step u e.now (UnitCall.ReceiveVerified call)).unit differ
+other_happened f e u SignedWhat.Releases j differ =
+    get_other f.units e.unit j (release_step u e.now).unit differ
 
 other_event : (f : SignedModel) (e : SignedEvent) (o : Option UnitModel) (j : ℕ) → e.unit ≢ j
     → slice_get (at_signed f e o).units j ≡ slice_get f.units j
 other_event f e None j differ = refl
-other_event f e (Some u) j differ = other_signed f e u (call_in e.what) j differ
+other_event f e (Some u) j differ = other_happened f e u e.what j differ
 
-no_calls : (o : Option UnitModel) → o ≡ option_map (λ (u : UnitModel). unit_run u []) o
-no_calls None = refl
-no_calls (Some u) = refl
+no_acts : (o : Option UnitModel) → o ≡ option_map (λ (u : UnitModel). unit_acts u []) o
+no_acts None = refl
+no_acts (Some u) = refl
+
+-- a unit that there is, after acts and others
+map_acts : (o : Option UnitModel) (first next : List UnitAct)
+    → option_map (λ (u : UnitModel). unit_acts u next)
+    (option_map (λ (u : UnitModel). unit_acts u first) o)
+    ≡ option_map (λ (u : UnitModel). unit_acts u (first ++ next)) o
+map_acts None first next = refl
+map_acts (Some u) first next = ap Some (sym (acts_on u first next))
 
 runs : (j : ℕ) (events : List SignedEvent) (f : SignedModel)
     → slice_get (signed_run f events).units j
-    ≡ option_map (λ (u : UnitModel). unit_run u (signed_calls j events)) (slice_get f.units j)
-runs j [] f = no_calls (slice_get f.units j)
+    ≡ option_map (λ (u : UnitModel). unit_acts u (signed_acts j events)) (slice_get f.units j)
+runs j [] f = no_acts (slice_get f.units j)
 runs j (e ∷ events) f = runs j events (signed_step f e) ∙ by (eqb e.unit j) refl
   where
     later : Option UnitModel → Option UnitModel
-    later o = option_map (λ (u : UnitModel). unit_run u (signed_calls j events)) o
+    later o = option_map (λ (u : UnitModel). unit_acts u (signed_acts j events)) o
 
     by : (b : Bool) → eqb e.unit j ≡ b
         → later (slice_get (signed_step f e).units j)
-        ≡ option_map (λ (u : UnitModel). unit_run u
-        (cond b (signed_call e (call_in e.what) ++ signed_calls j events) (signed_calls j events)))
+        ≡ option_map (λ (u : UnitModel). unit_acts u
+        (cond b (signed_act e e.what ++ signed_acts j events) (signed_acts j events)))
         (slice_get f.units j)
     by true is =
         let place = eqb-true e.unit j is in
         ap later (sym (ap (slice_get (signed_step f e).units) place)
         ∙ own_event f e (slice_get f.units e.unit) refl)
-        ∙ map_runs (slice_get f.units e.unit) (signed_call e (call_in e.what)) (signed_calls j events)
+        ∙ map_acts (slice_get f.units e.unit) (signed_act e e.what) (signed_acts j events)
         ∙ ap (λ (k : ℕ). option_map (λ (u : UnitModel).
-        unit_run u (signed_call e (call_in e.what) ++ signed_calls j events)) (slice_get f.units k))
+        unit_acts u (signed_act e e.what ++ signed_acts j events)) (slice_get f.units k))
         place
     by false is =
         ap later (other_event f e (slice_get f.units e.unit) j (eqb-false e.unit j is))
@@ -348,7 +406,7 @@ unread_between f (e ∷ before) after unit now octets =
 
 pub floods_bounded : (units : List UnitModel) → FloodsAreBounded units
 floods_bounded units events j u limits rate at new is =
-    (lawful limits u new).within.forwards rate is (signed_calls j events)
+    (lawful limits u new).contention.releases_are_within rate is (signed_acts j events)
 
 pub signed_units_run : (units : List UnitModel) → SignedUnitsRun units
 signed_units_run units events j = runs j events (new_signed units)

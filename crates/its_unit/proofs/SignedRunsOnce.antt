@@ -15,6 +15,7 @@ use Rattle.its_model.specs.Station.{beacon_of, first, is_repeated, moment_refusa
 use Rattle.its_model.specs.Station.{own_step, own_step_by, performed, receive_step}
 use Rattle.its_model.specs.Station.{receive_step_by, reception, station_step, verdict}
 use Rattle.its_model.proofs.Fits.{accepted_tests}
+use Rattle.its_model.proofs.Lists.{get_set}
 use Rattle.its_model.proofs.Steps.{done_in_time, in_time, refused_stays}
 use Rattle.its_linkframe.specs.Secured.{Verified}
 use Rattle.its_station.specs.Beside.{shb_for, shb_refusal}
@@ -24,11 +25,14 @@ use Rattle.its_unit.specs.Unit.{UnitModel, UnitCall, UnitAnswer, passed_step, re
 use Rattle.its_unit.specs.Unit.{step_within, unit_step}
 use Rattle.its_unit.specs.Runs.{is_withheld}
 use Rattle.its_unit.specs.Signed.{SignedWhat, SignedEvent, SignedLine, SignedModel, new_signed}
-use Rattle.its_unit.specs.Signed.{call_in, after_signed, at_signed, signed_step, signed_run}
+use Rattle.its_unit.specs.Signed.{call_in, after_signed, at_signed, happened_signed, released_signed}
+use Rattle.its_unit.specs.Signed.{signed_step, signed_run}
 use Rattle.its_unit.specs.Signed.{is_own, IsSoundEvent, AreSound}
 use Rattle.its_unit.specs.SignedOnce.{WasSealedNear, IsFresh, AreFresh, IsNewAmong, AreNew}
 use Rattle.its_unit.specs.SignedOnce.{HaveHeardNothing, AcceptsOnce, SendsFew, numbers_sent}
 use Rattle.its_unit.specs.SignedOnce.{number_in_span, number_of_sent}
+use Rattle.its_unit.specs.Releases.{release_step}
+use Rattle.its_unit.proofs.Acts.{released_station}
 use Rattle.its_unit.proofs.FleetUnits.{get_other, get_same}
 use Rattle.its_unit.proofs.Sealing.{same_packet}
 use Rattle.its_unit.proofs.SignedOnce.{AreSent, WasSentNear, sent_still, later_still, later_copy}
@@ -301,6 +305,8 @@ within_fresh window remember log now (SignedWhat.Asks asked message) call s life
     kept_fresh window remember log s (step_within s now call).station (asked_keeps s now call own) h
 within_fresh window remember log now (SignedWhat.Unread octets) call s life few is sound fresh h =
     absurd (none-some call is)
+within_fresh window remember log now SignedWhat.Releases call s life few is sound fresh h =
+    absurd (none-some call is)
 within_fresh window remember log now (SignedWhat.Arrives octets plain (VerifiedCall.Came v)) call s
     life few is sound fresh h =
     subst (λ (c : UnitCall). IsFreshStation window remember log (step_within s now c).station)
@@ -353,10 +359,20 @@ fewer_called k span source f e u None few = few
 fewer_called k span source f e u (Some call) few =
     fewer k span source (record { event = e; answer = (unit_step u e.now call).answer }) f.log few
 
+fewer_happened : (k span source : ℕ) (f : SignedModel) (e : SignedEvent) (u : UnitModel)
+    (what : SignedWhat) → SendsFew k span source (happened_signed f e u what).log
+    → SendsFew k span source f.log
+fewer_happened k span source f e u (SignedWhat.Asks call message) few =
+    fewer_called k span source f e u (Some call) few
+fewer_happened k span source f e u (SignedWhat.Unread octets) few = few
+fewer_happened k span source f e u (SignedWhat.Arrives octets plain call) few =
+    fewer_called k span source f e u (Some (UnitCall.ReceiveVerified call)) few
+fewer_happened k span source f e u SignedWhat.Releases few = few
+
 fewer_at : (k span source : ℕ) (f : SignedModel) (e : SignedEvent) (o : Option UnitModel)
     → SendsFew k span source (at_signed f e o).log → SendsFew k span source f.log
 fewer_at k span source f e None few = few
-fewer_at k span source f e (Some u) few = fewer_called k span source f e u (call_in e.what) few
+fewer_at k span source f e (Some u) few = fewer_happened k span source f e u e.what few
 
 fewer_before : (k span source : ℕ) (events : List SignedEvent) (f : SignedModel)
     → SendsFew k span source (signed_run f events).log → SendsFew k span source f.log
@@ -416,6 +432,39 @@ called_fresh window remember j f e u (Some call) life few at is sound fresh h = 
     each : IsFreshAt window remember j (after_signed f e u (Some call))
     each x get = by x (eqb e.unit j) refl get
 
+-- a release changes no station
+released_fresh : (window remember j : ℕ) (f : SignedModel) (e : SignedEvent) (u : UnitModel)
+    → slice_get f.units e.unit ≡ Some u → IsFreshAt window remember j f
+    → IsFreshAt window remember j (released_signed f e u)
+released_fresh window remember j f e u at h x get =
+    by (get_set f.units e.unit (release_step u e.now).unit j x get)
+  where
+    by : ((j ≡ e.unit) × ((release_step u e.now).unit ≡ x))
+        ⊎ ((j ≢ e.unit) × (slice_get f.units j ≡ Some x))
+        → IsFreshStation window remember f.log x.station
+    by (inl g) =
+        subst (λ (y : UnitModel). IsFreshStation window remember f.log y.station) g.1
+        (subst (IsFreshStation window remember f.log)
+        (sym (released_station u e.now (moment_refusal u.station e.now)))
+        (h u (ap (slice_get f.units) g.0 ∙ at)))
+    by (inr g) = h x g.1
+
+happened_fresh : (window remember j : ℕ) (f : SignedModel) (e : SignedEvent) (u : UnitModel)
+    (what : SignedWhat) → 2 * window < entry_life
+    → ((source : ℕ) → SendsFew remember (4 * window) source f.log)
+    → slice_get f.units e.unit ≡ Some u → e.what ≡ what → IsSoundEvent f.log e.what
+    → IsFresh window e.now f.log e.what → IsFreshAt window remember j f
+    → IsFreshAt window remember j (happened_signed f e u what)
+happened_fresh window remember j f e u (SignedWhat.Asks call message) life few at is sound fresh h =
+    called_fresh window remember j f e u (Some call) life few at (ap call_in is) sound fresh h
+happened_fresh window remember j f e u (SignedWhat.Unread octets) life few at is sound fresh h = h
+happened_fresh window remember j f e u (SignedWhat.Arrives octets plain call) life few at is sound
+    fresh h =
+    called_fresh window remember j f e u (Some (UnitCall.ReceiveVerified call)) life few at
+    (ap call_in is) sound fresh h
+happened_fresh window remember j f e u SignedWhat.Releases life few at is sound fresh h =
+    released_fresh window remember j f e u at h
+
 event_fresh : (window remember j : ℕ) (f : SignedModel) (e : SignedEvent) (o : Option UnitModel)
     → 2 * window < entry_life
     → ((source : ℕ) → SendsFew remember (4 * window) source f.log)
@@ -424,7 +473,7 @@ event_fresh : (window remember j : ℕ) (f : SignedModel) (e : SignedEvent) (o :
     → IsFreshAt window remember j (at_signed f e o)
 event_fresh window remember j f e None life few at sound fresh h = h
 event_fresh window remember j f e (Some u) life few at sound fresh h =
-    called_fresh window remember j f e u (call_in e.what) life few at refl sound fresh h
+    happened_fresh window remember j f e u e.what life few at refl sound fresh h
 
 run_fresh : (window remember j : ℕ) (events : List SignedEvent) (f : SignedModel)
     → 2 * window < entry_life

@@ -195,6 +195,14 @@ handed_out u now call t m sent within passed =
     let whole = handed_whole m sent (step_within u.station now call).answer part in
     (accepted_by u.station now t (Some m) whole.0 (sym within ∙ whole.1)).0
 
+-- a frame with which a station answers a packet is sent on
+pub answered_on : (s : StationModel) (now : ℕ) (t f : Transmission) (handed : Option Message)
+    → (receive_step s now t).answer ≡ model.Answer.Accepted handed (Some f)
+    → IsSentOn (after_hearing s now t) t (Some f)
+answered_on s now t f handed answered =
+    subst (IsSentOn (after_hearing s now t) t) (accepted_by s now t handed (Some f) answered).1
+    (relayed_is (after_hearing s now t) now t t.pdu.body)
+
 -- a frame in which a unit sends one on
 pub sent_on : (u : UnitModel) (now : ℕ) (call : UnitCall) (t f : Transmission)
     (handed : Option Message)
@@ -204,9 +212,7 @@ pub sent_on : (u : UnitModel) (now : ℕ) (call : UnitCall) (t f : Transmission)
 sent_on u now call t f handed within passed =
     let part = passed_part u now call (model.Answer.Accepted handed (Some f)) passed in
     let whole = sent_of handed f (step_within u.station now call).answer part in
-    subst (IsSentOn (after_hearing u.station now t) t)
-    (accepted_by u.station now t whole.0 (Some f) (sym within ∙ whole.1)).1
-    (relayed_is (after_hearing u.station now t) now t t.pdu.body)
+    answered_on u.station now t f whole.0 (sym within ∙ whole.1)
 
 -- ---- the frame of an answer
 

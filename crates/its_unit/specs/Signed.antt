@@ -8,7 +8,8 @@ use Rattle.its_headers.specs.Inner.{inner_octets}
 use Rattle.its_linkframe.specs.Secured.{basic_on_air}
 use Rattle.its_station.specs.Receiving.{VerifiedCall, IsVerifiedCall}
 use Rattle.its_unit.specs.Unit.{UnitModel, UnitCall, UnitAnswer, unit_step}
-use Rattle.its_unit.specs.Runs.{UnitCallAt}
+use Rattle.its_unit.specs.Releases.{release_step}
+use Rattle.its_unit.specs.Runs.{UnitAct}
 use Rattle.its_unit.specs.FleetLaws.{IsIn}
 
 -- What happens to a unit with a security entity:
@@ -17,10 +18,12 @@ use Rattle.its_unit.specs.FleetLaws.{IsIn}
 -- - `Unread`: octets arrive, for which the entity returns no plain part. They don't reach the unit
 -- - `Arrives`: octets arrive, for which the entity returns this plain part. Together they are this
 --   call
+-- - `Releases`: the unit may send a frame that waits
 pub data SignedWhat : Type 0 where
   Asks : (call : UnitCall) (message : List ℕ) → SignedWhat
   Unread : (octets : List ℕ) → SignedWhat
   Arrives : (octets plain : List ℕ) (call : VerifiedCall) → SignedWhat
+  Releases : SignedWhat
 
 -- what happens to which unit, and when
 pub record SignedEvent : Type 0 where
@@ -47,6 +50,7 @@ abbrev pub call_in : SignedWhat → Option UnitCall
 call_in (SignedWhat.Asks call message) = Some call
 call_in (SignedWhat.Unread octets) = None
 call_in (SignedWhat.Arrives octets plain call) = Some (UnitCall.ReceiveVerified call)
+call_in SignedWhat.Releases = None
 
 -- a call of a unit
 abbrev pub after_signed : SignedModel → SignedEvent → UnitModel → Option UnitCall → SignedModel
@@ -57,10 +61,23 @@ after_signed f e u (Some call) =
       log = record { event = e; answer = (unit_step u e.now call).answer } ∷ f.log;
     }
 
+-- a release, which is no call
+abbrev pub released_signed : SignedModel → SignedEvent → UnitModel → SignedModel
+released_signed f e u =
+    record { units = slice_set f.units e.unit (release_step u e.now).unit; log = f.log }
+
+-- what happens to a unit
+abbrev pub happened_signed : SignedModel → SignedEvent → UnitModel → SignedWhat → SignedModel
+happened_signed f e u (SignedWhat.Asks call message) = after_signed f e u (Some call)
+happened_signed f e u (SignedWhat.Unread octets) = f
+happened_signed f e u (SignedWhat.Arrives octets plain call) =
+    after_signed f e u (Some (UnitCall.ReceiveVerified call))
+happened_signed f e u SignedWhat.Releases = released_signed f e u
+
 -- an event at a unit, if there is such a one
 abbrev pub at_signed : SignedModel → SignedEvent → Option UnitModel → SignedModel
 at_signed f e None = f
-at_signed f e (Some u) = after_signed f e u (call_in e.what)
+at_signed f e (Some u) = happened_signed f e u e.what
 
 -- One event. If there is no such unit, nothing happens.
 abbrev pub signed_step : SignedModel → SignedEvent → SignedModel
@@ -110,21 +127,26 @@ IsSoundEvent log (SignedWhat.Asks call message) = IsTrue (is_own call)
 IsSoundEvent log (SignedWhat.Unread octets) = Unit {0}
 IsSoundEvent log (SignedWhat.Arrives octets plain call) =
     IsVerifiedCall octets plain call × IsSoundCall log plain call
+IsSoundEvent log SignedWhat.Releases = Unit {0}
 
 -- each of these events
 abbrev pub AreSound : SignedModel → List SignedEvent → Type 0
 AreSound f [] = Unit {0}
 AreSound f (e ∷ events) = IsSoundEvent f.log e.what × AreSound (signed_step f e) events
 
--- ---- the calls of one unit
+-- ---- the calls and releases of one unit
 
-abbrev pub signed_call : SignedEvent → Option UnitCall → List UnitCallAt
-signed_call e None = []
-signed_call e (Some call) = record { now = e.now; call = call } ∷ []
+abbrev pub signed_act : SignedEvent → SignedWhat → List UnitAct
+signed_act e (SignedWhat.Asks call message) =
+    UnitAct.Calls (record { now = e.now; call = call }) ∷ []
+signed_act e (SignedWhat.Unread octets) = []
+signed_act e (SignedWhat.Arrives octets plain call) =
+    UnitAct.Calls (record { now = e.now; call = UnitCall.ReceiveVerified call }) ∷ []
+signed_act e SignedWhat.Releases = UnitAct.Releases e.now ∷ []
 
--- the calls of unit j, in order
-abbrev pub signed_calls : ℕ → List SignedEvent → List UnitCallAt
-signed_calls j [] = []
-signed_calls j (e ∷ events) =
-    if e.unit == j then signed_call e (call_in e.what) ++ signed_calls j events
-    else signed_calls j events
+-- those of unit j, in order
+abbrev pub signed_acts : ℕ → List SignedEvent → List UnitAct
+signed_acts j [] = []
+signed_acts j (e ∷ events) =
+    if e.unit == j then signed_act e e.what ++ signed_acts j events
+    else signed_acts j events

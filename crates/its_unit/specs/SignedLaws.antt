@@ -9,19 +9,22 @@ use Rattle.its_model.specs.Packet.{Message, Transmission}
 use Rattle.its_model.specs.Calls as model
 use Rattle.its_model.specs.Calls.{GbcRequest}
 use Rattle.its_model.specs.World as world
-use Rattle.its_linkframe.specs.Secured.{Verified}
+use Rattle.its_linkframe.specs.Secured.{Verified, sealed, secured_octets}
+use Rattle.its_contention.specs.Buffer.{empty}
+use Rattle.its_contention.specs.Waiting.{Waiting}
+use Rattle.its_model.specs.Contention.{ContentionRule}
 use Rattle.its_faults.specs.declared.secured.SecuredFault.{SecuredFault}
 use Rattle.its_station.specs.Receiving.{VerifiedCall}
 use Rattle.its_governor.specs.declared.rate.Limits.{Limits}
 use Rattle.its_governor.specs.declared.rate.Rate.{Rate}
 use Rattle.its_governor.specs.Bucket.{IsBounded}
 use Rattle.its_governor.specs.Governing.{IsNewGovernor}
-use Rattle.its_governor.specs.Forwarding.{times}
 use Rattle.its_unit.specs.Unit.{UnitModel, UnitCall, UnitAnswer, unit_step}
-use Rattle.its_unit.specs.Runs.{unit_run, frames_forwarded}
+use Rattle.its_unit.specs.Releases.{release_step}
+use Rattle.its_unit.specs.Runs.{times_gone, unit_acts}
 use Rattle.its_unit.specs.FleetLaws.{IsIn}
 use Rattle.its_unit.specs.Signed.{SignedWhat, SignedEvent, SignedLine, SignedModel, new_signed}
-use Rattle.its_unit.specs.Signed.{signed_run, signed_calls, call_in, IsSoundEvent, AreSound}
+use Rattle.its_unit.specs.Signed.{signed_run, signed_acts, call_in, IsSoundEvent, AreSound}
 use Rattle.its_unit.specs.Signed.{WasSealed}
 
 -- each unit's own position vector bears its own address
@@ -125,21 +128,41 @@ ForwardsAsSealed units =
     → IsOwnSealed e.what (UnitAnswer.Passed answer) t
     ⊎ IsSealedForwarding (signed_after units events).log next.unit e.what t
 
+-- What waits in a unit is a frame that came to it, forwarded so, in the secured frame with its message.
+pub record IsSealedWaiting (events : List SignedEvent) (log : List SignedLine) (j : ℕ)
+    (u : UnitModel) (w : Waiting) : Type 0 where
+  pub event : SignedEvent
+  pub earlier : IsIn events event
+  pub there : event.unit ≡ j
+  pub frame : Transmission
+  pub forwarded : IsSealedForwarding log u event.what frame
+  pub octets : w.octets ≡ secured_octets (sealed frame forwarded.came.message)
+
+-- Each frame that a unit releases is such a one.
+abbrev pub ReleasesAsSealed : List UnitModel → Type 0
+ReleasesAsSealed units =
+    (events : List SignedEvent) (j now : ℕ) (first u : UnitModel) (rule : ContentionRule)
+    (w : Waiting) → AreSound (new_signed units) events
+    → slice_get units j ≡ Some first → first.contention ≡ Some (empty rule)
+    → slice_get (signed_after units events).units j ≡ Some u
+    → (release_step u now).frame ≡ Some w
+    → IsSealedWaiting events (signed_after units events).log j first w
+
 -- ---- what a forger changes
 
--- each unit is a unit after its own calls, so all laws of units hold of it (`IsLawful`)
+-- each unit is a unit after its own calls and releases, so all laws of units hold of it (`IsLawful`)
 abbrev pub SignedUnitsRun : List UnitModel → Type 0
 SignedUnitsRun units =
     (events : List SignedEvent) (j : ℕ)
     → slice_get (signed_after units events).units j
-    ≡ option_map (λ (u : UnitModel). unit_run u (signed_calls j events)) (slice_get units j)
+    ≡ option_map (λ (u : UnitModel). unit_acts u (signed_acts j events)) (slice_get units j)
 
--- whatever arrives, what a unit forwards is within its rate
+-- whatever arrives, what a unit forwards, at once and by releases, is within its rate
 abbrev pub FloodsAreBounded : List UnitModel → Type 0
 FloodsAreBounded units =
     (events : List SignedEvent) (j : ℕ) (u : UnitModel) (limits : Limits) (rate : Rate)
     → slice_get units j ≡ Some u → IsNewGovernor limits u.governor → limits.forward ≡ Some rate
-    → IsBounded rate (times (frames_forwarded u (signed_calls j events)))
+    → IsBounded rate (times_gone u (signed_acts j events))
 
 -- Octets that the entity doesn't read change nothing, whatever comes before and after them; and
 -- octets that are no packet with its plain part change no unit.

@@ -26,6 +26,7 @@ pub record WasSealedNear (window now : ℕ) (log : List SignedLine) (plain messa
 abbrev pub IsFresh : ℕ → ℕ → List SignedLine → SignedWhat → Type 0
 IsFresh window now log (SignedWhat.Asks call message) = Unit {0}
 IsFresh window now log (SignedWhat.Unread octets) = Unit {0}
+IsFresh window now log SignedWhat.Releases = Unit {0}
 IsFresh window now log (SignedWhat.Arrives octets plain (VerifiedCall.Came v)) =
     WasSealedNear window now log plain v.message
 IsFresh window now log (SignedWhat.Arrives octets plain (VerifiedCall.Faulty fault)) = Unit {0}

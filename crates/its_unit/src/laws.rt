@@ -14,6 +14,7 @@ ghost use Rattle.its_unit.specs.Holding.{AreNewContending, ContendersSendOnce, U
 ghost use Rattle.its_unit.specs.Holding.{UnitsHoldFrames, holding, holding_kind};
 ghost use Rattle.its_unit.specs.SignedLaws.{AreNamed, DeliversAsSealed, ForwardsAsSealed};
 ghost use Rattle.its_unit.specs.SignedLaws.{SignedUnitsRun, FloodsAreBounded, ForgersChangeNothing};
+ghost use Rattle.its_unit.specs.SignedLaws.{ReleasesAsSealed};
 ghost use Rattle.its_unit.specs.SignedOnce.{HaveHeardNothing, AcceptsOnce};
 
 use its_model::laws::every_schedule;
@@ -100,7 +101,7 @@ pub fn contending_fleets_are_worlds()
 }
 
 /// The laws of units whose frames all pass a security entity, against a forger: any octets arrive at
-/// any unit, at any time. The entities are sound: a plain part that one returns for a message was
+/// any unit, at any time. Any number of the units contend. The entities are sound: a plain part that one returns for a message was
 /// sealed as this message before, for a frame that a unit of these sent (`AreSound`). What an entity
 /// refuses is free. The Basic Header and the link addresses are not sealed: a forger sets them.
 ///
@@ -110,16 +111,18 @@ pub fn contending_fleets_are_worlds()
 /// - `forwarded`: each frame that a unit sends is its own packet, or one that came, with one hop
 ///   fewer, as the packet and the message that were sealed. Only the lifetime is that of the frame
 ///   that came.
-/// - `units`: each unit is a unit after its own calls, so all laws of units hold of it.
+/// - `released`: each frame that a unit releases is one that came, forwarded so.
+/// - `units`: each unit is a unit after its own calls and releases, so all laws of units hold of it.
 /// - `once`: if the entities refuse messages that were sealed over `window` ms before or after, and each
 ///   source sends in four windows at most as many packets for areas as a unit remembers, a unit accepts
 ///   no packet twice between two restarts.
-/// - `bounded`: whatever arrives, what a unit forwards is within its rate.
+/// - `bounded`: whatever arrives, what a unit forwards, at once and by releases, is within its rate.
 /// - `unchanged`: octets that the entity refuses change nothing, nor do octets that are no packet with
 ///   the plain part that it returns.
 pub fn signed_units_are_lawful()
     ensures delivered { (units : List UnitModel) → AreNamed units → DeliversAsSealed units }
     ensures forwarded { (units : List UnitModel) → ForwardsAsSealed units }
+    ensures released { (units : List UnitModel) → AreNamed units → ReleasesAsSealed units }
     ensures once { (units : List UnitModel) → HaveHeardNothing units → AcceptsOnce units }
     ensures units { (units : List UnitModel) → SignedUnitsRun units }
     ensures bounded { (units : List UnitModel) → FloodsAreBounded units }

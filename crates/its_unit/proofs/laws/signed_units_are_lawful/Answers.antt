@@ -1,5 +1,6 @@
 use Rattle.its_unit.proofs.Signed.{delivers_as_sealed, forwards_as_sealed, signed_units_run}
 use Rattle.its_unit.proofs.Signed.{floods_bounded, change_nothing}
+use Rattle.its_unit.proofs.SignedReleases.{releases_as_sealed}
 use Rattle.its_unit.proofs.SignedRunsOnce.{accepts_once}
 use Rattle.its_unit.proofs.laws.signed_units_are_lawful.Goals as goal
 
@@ -8,6 +9,9 @@ returns-clause-delivered c = delivers_as_sealed
 
 pub returns-clause-forwarded : goal.returns-clause-forwarded
 returns-clause-forwarded c = forwards_as_sealed
+
+pub returns-clause-released : goal.returns-clause-released
+returns-clause-released c = releases_as_sealed
 
 pub returns-clause-units : goal.returns-clause-units
 returns-clause-units c = signed_units_run
