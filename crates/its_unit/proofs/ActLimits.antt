@@ -487,7 +487,7 @@ rates_are_kept limits u new = record {
 pub no_request : (call : UnitCall) (t : Transmission) → frame_of call ≡ Some t → is_request call ≡ false
 no_request (UnitCall.Own call) t e = absurd (none-some t e)
 no_request (UnitCall.MoveAt timestamp place accurate speed heading) t e = refl
-no_request (UnitCall.SendShbFor lifetime request) t e = absurd (none-some t e)
+no_request (UnitCall.SendShbFor options request) t e = absurd (none-some t e)
 no_request (UnitCall.Receive call) t e = refl
 no_request (UnitCall.ReceiveVerified call) t e = refl
 

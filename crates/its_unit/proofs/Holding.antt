@@ -236,7 +236,7 @@ pub says : (call : UnitCall) (t : Transmission)
     ⊎ ((message : List ℕ) × (octets_in call t ≡ secured_octets (sealed t message)))
 says (UnitCall.Own call) t = inl refl
 says (UnitCall.MoveAt timestamp place accurate speed heading) t = inl refl
-says (UnitCall.SendShbFor lifetime request) t = inl refl
+says (UnitCall.SendShbFor options request) t = inl refl
 says (UnitCall.Receive call) t = inl refl
 says (UnitCall.ReceiveVerified (VerifiedCall.Came v)) t = inr (v.message, refl)
 says (UnitCall.ReceiveVerified (VerifiedCall.Faulty fault)) t = inl refl

@@ -104,7 +104,7 @@ own_brings_none : (call : UnitCall) (t : Transmission) → IsTrue (is_own call)
     → frame_of call ≡ Some t → ⊥
 own_brings_none (UnitCall.Own call) t own e = none-some t e
 own_brings_none (UnitCall.MoveAt timestamp place accurate speed heading) t own e = none-some t e
-own_brings_none (UnitCall.SendShbFor lifetime request) t own e = none-some t e
+own_brings_none (UnitCall.SendShbFor options request) t own e = none-some t e
 own_brings_none (UnitCall.Receive call) t own e = false≢true own
 own_brings_none (UnitCall.ReceiveVerified call) t own e = false≢true own
 
