@@ -1,31 +1,28 @@
 -- What units with sound entities release, whatever a forger does.
-use Rattle.std.proofs.Common.{◌≡◌, ◌≢◌, ◌⊎◌, ◌-◌, ℕ, zero, suc, List, [], ◌∷◌, Bool, true, false}
+use Rattle.std.proofs.Common.{◌≡◌, ◌≢◌, ◌⊎◌, ◌-◌, ℕ, suc, List, [], ◌∷◌}
 use Rattle.std.proofs.Common.{Option, Some, None, refl, sym, ap, subst, ◌∙◌, inl, inr}
-use Rattle.std.specs.Prelude.{IsTrue, slice_get, slice_set}
+use Rattle.std.specs.Prelude.{IsTrue, slice_get}
 use Rattle.std.proofs.lemmas.Bool.{false≢true}
 use Rattle.std.proofs.lemmas.List.Elements.{All-nil}
 use Rattle.std.proofs.lemmas.Option.{none-some, same_Some}
 use Rattle.its_gnvalue.specs.Values.{mid_of}
-use Rattle.its_linkframe.specs.Secured.{Verified}
-use Rattle.its_model.specs.Packet.{Message, Transmission}
-use Rattle.its_model.specs.Calls as model
-use Rattle.its_model.specs.Contention.{ContentionRule, HeldFrame, late_after}
+use Rattle.its_model.specs.Packet.{Transmission}
+use Rattle.its_model.specs.Contention.{ContentionRule, HeldFrame}
 use Rattle.its_model.specs.Station.{moment_refusal}
 use Rattle.its_model.proofs.Lists.{get_set}
 use Rattle.its_contention.specs.Buffer.{Buffer, empty}
-use Rattle.its_contention.specs.Counted.{BufferCall, after_calls}
 use Rattle.its_contention.specs.Waiting.{Waiting}
 use Rattle.its_station.specs.Receiving.{VerifiedCall}
 use Rattle.its_unit.specs.Releases.{release_step}
-use Rattle.its_unit.specs.Runs.{UnitAct, UnitCallAt, after_act}
-use Rattle.its_unit.specs.Unit.{UnitCall, UnitModel, frame_of, step_within, unit_step}
+use Rattle.its_unit.specs.Runs.{UnitAct, after_act}
+use Rattle.its_unit.specs.Unit.{UnitCall, UnitModel, frame_of, unit_step}
 use Rattle.its_unit.specs.FleetLaws.{IsIn}
 use Rattle.its_unit.specs.Signed.{SignedWhat, SignedEvent, SignedLine, SignedModel, WasSealed}
 use Rattle.its_unit.specs.Signed.{AreSound, IsSoundEvent, after_signed, at_signed, call_in}
 use Rattle.its_unit.specs.Signed.{happened_signed, is_own, new_signed, signed_run, signed_step}
 use Rattle.its_unit.specs.SignedLaws.{AreNamed, IsSealedForwarding, IsSealedWaiting}
 use Rattle.its_unit.specs.SignedLaws.{ReleasesAsSealed}
-use Rattle.its_unit.proofs.Acts.{BecameIn, PutIn, acted, released_of}
+use Rattle.its_unit.proofs.Acts.{PutIn, acted, released_of}
 use Rattle.its_unit.proofs.Puts.{AllHeld, calls_keep}
 use Rattle.its_unit.proofs.Signed.{IsSoundRun, arrival, new_sound, sealed_on, unit_sound}
 use Rattle.its_unit.proofs.SignedSteps.{answered_on}

@@ -101,9 +101,10 @@ pub fn contending_fleets_are_worlds()
 }
 
 /// The laws of units whose frames all pass a security entity, against a forger: any octets arrive at
-/// any unit, at any time. Any number of the units contend. The entities are sound: a plain part that one returns for a message was
-/// sealed as this message before, for a frame that a unit of these sent (`AreSound`). What an entity
-/// refuses is free. The Basic Header and the link addresses are not sealed: a forger sets them.
+/// any unit, at any time. Any number of the units contend. The entities are sound: a plain part that one
+/// returns for a message was sealed as this message before, for a frame that a unit of these sent
+/// (`AreSound`). What an entity refuses is free. The Basic Header and the link addresses are not sealed:
+/// a forger sets them.
 ///
 /// - `delivered`: a message that a unit delivers was sent by the unit whose address its packet bears,
 ///   to that port, which is open; and if the packet is for an area, that area holds the receiver's

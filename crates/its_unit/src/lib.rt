@@ -77,8 +77,9 @@
 //! - **Forgers** (`laws`: `signed_units_are_lawful`): any octets arrive at units whose frames all pass a
 //!   sound security entity. What a unit delivers was sent so by the unit that its packet names
 //!   (`DeliversAsSealed`), what it forwards, at once or by a release, was sealed so (`ForwardsAsSealed`,
-//!   `ReleasesAsSealed`), it accepts no packet twice if the entity refuses old messages (`AcceptsOnce`), it forwards within its rate
-//!   (`FloodsAreBounded`), and what the entity refuses changes nothing (`ForgersChangeNothing`).
+//!   `ReleasesAsSealed`), it accepts no packet twice if the entity refuses old messages (`AcceptsOnce`),
+//!   it forwards within its rate (`FloodsAreBounded`), and what the entity refuses changes nothing
+//!   (`ForgersChangeNothing`).
 //! - **Limits** (`AreWithin`): in each stretch of `t` milliseconds at most `burst + per_second * t / 1000`
 //!   frames are forwarded, and own packets sent; and of the frames of each source by its rate, if the
 //!   limits remember sources (`Limits::remembers_sources`).
