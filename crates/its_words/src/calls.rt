@@ -5,6 +5,6 @@ mod call;
 mod geocast;
 mod verb;
 
-pub use call::{read_call, read_keys};
+pub use call::{read_call, read_keys, read_single_hop};
 pub use geocast::{read_measures, read_shape};
 pub use verb::own_verb;

@@ -103,8 +103,14 @@ fn read_move<F: Fields>(fields: &F) -> Result<OwnCall, KeyFault>
 }
 
 /// Reads a single-hop broadcast: `port`, `info`, `tc`, `payload`, checked in this order.
+///
+/// The first key that is missing, of another kind or out of range is refused.
+///
+/// - `says` (`SaysShb`): the request is what the keys say.
+/// - `fault`, `bad` (`IsBadOf`): the key that is refused has no value that it takes. It is never
+///   that of the time.
 #[tactic(auto, using(crate::proofs::Bad::bad_of))]
-fn read_single_hop<F: Fields>(alloc: Global, fields: &F) -> Result<OwnedShbRequest, KeyFault>
+pub fn read_single_hop<F: Fields>(alloc: Global, fields: &F) -> Result<OwnedShbRequest, KeyFault>
     ensures says { IfOk result (λ r. SaysShb (F.values fields.now) (owned_shb r)) }
     ensures fault { IfErr result IsWhatFault }
     ensures bad { IfErr result (IsBadOf (F.values fields.now)) }
