@@ -3,3 +3,4 @@ pub mod Neighbours
 pub mod Read
 pub mod Own
 pub mod Secured
+pub mod Media

@@ -8,15 +8,15 @@ use Rattle.its_words.specs.declared.keys.fault.KeyFault.{KeyFault}
 use Rattle.its_words.specs.Reading.{IsBadOf as IsBadKeyOf, IsBadWord}
 use Rattle.its_station.specs.declared.call.Call.TheVariants as calls
 use Rattle.its_station.specs.declared.call.OwnCall.{OwnCall}
-use Rattle.its_lines.specs.Requests.{AsksCall, IsBadCallKeyOf, IsWord, SaysCall, values_in}
+use Rattle.its_lines.specs.Requests.{AsksCall, BringsMedia, IsBadCallKeyOf, IsWord, SaysCall, values_in}
 use Rattle.its_lines.specs.Words.{line_word}
 use Rattle.its_lines.specs.declared.word.LineWord.{LineWord}
 
 -- the call that is said is asked for
 pub asks_own : (members : Data) (call : OwnCall) → (¬ IsWord members (codes "receive"))
-    → (¬ IsWord members (codes "deliver")) → SaysCall members call
+    → (¬ IsWord members (codes "deliver")) → (¬ BringsMedia members) → SaysCall members call
     → AsksCall members (calls.Own call)
-asks_own members call receive deliver says = (receive, deliver, says)
+asks_own members call receive deliver media says = (receive, deliver, media, says)
 
 -- the bad key of a call that is read is the first one
 pub bad_call : (members : Data) (read : Result OwnCall KeyFault)

@@ -27,6 +27,7 @@ pub asks_of : (now : Option ℕ) (members : Data) (id : Option Id) (asked : Requ
 asks_of now members id asked_by.Nothing is asks = absurd asks
 asks_of now members id (asked_by.Call moment call) is asks = (is, asks)
 asks_of now members id (asked_by.Verified moment octets) is asks = (is, asks)
+asks_of now members id (asked_by.Shb moment shb) is asks = (is, asks)
 asks_of now members id (asked_by.Release moment) is asks = (is, asks)
 asks_of now members id (asked_by.Query at query) is asks = (is, asks)
 asks_of now members id (asked_by.Bad faults.NotJson) is asks = absurd asks
@@ -52,6 +53,8 @@ asks_whole now line members id asked_by.Nothing asks short some is = absurd asks
 asks_whole now line members id (asked_by.Call moment call) asks short some is =
     (short, some, members, is, asks)
 asks_whole now line members id (asked_by.Verified moment octets) asks short some is =
+    (short, some, members, is, asks)
+asks_whole now line members id (asked_by.Shb moment shb) asks short some is =
     (short, some, members, is, asks)
 asks_whole now line members id (asked_by.Release moment) asks short some is =
     (short, some, members, is, asks)
@@ -139,8 +142,8 @@ bad_query now members (read_faults.Bad faults.NotJson) is = absurd is.0
 bad_query now members (read_faults.Bad faults.Id) is = absurd is.0
 bad_query now members (read_faults.Bad (faults.Key key wrong)) is = absurd is.0
 bad_query now members (read_faults.Bad (faults.Word meant)) is = absurd is.0
-bad_query now members (read_faults.Bad (faults.Query query_keys.Plain wrong)) is =
-    absurd (is.0 refl)
+bad_query now members (read_faults.Bad (faults.Query query_keys.Plain wrong)) is = absurd is.0
+bad_query now members (read_faults.Bad (faults.Query query_keys.Media wrong)) is = absurd is.0
 bad_query now members (read_faults.Bad (faults.Query query_keys.Jitter wrong)) is = is.1
 bad_query now members (read_faults.Bad (faults.Query query_keys.After wrong)) is = is.1
 bad_query now members (read_faults.Bad (faults.Query query_keys.Address wrong)) is = is.1

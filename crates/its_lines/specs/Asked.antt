@@ -42,6 +42,7 @@ right_of asks.Nothing = None
 right_of (asks.Call moment (calls.Own call)) = Some (own_right call)
 right_of (asks.Call moment (calls.Receive frame)) = Some rights.Receive
 right_of (asks.Verified moment octets) = Some rights.Receive
+right_of (asks.Shb moment shb) = Some rights.Send
 right_of (asks.Release moment) = None
 right_of (asks.Query at query) = None
 right_of (asks.Bad fault) = None
@@ -107,6 +108,12 @@ asked_of (asks.Call moment (calls.Receive frame)) =
     record { word = Some line_words.Receive; port = None; payload_length = 0 }
 asked_of (asks.Verified moment octets) =
     record { word = Some line_words.Receive; port = None; payload_length = 0 }
+asked_of (asks.Shb moment shb) =
+    record {
+      word = Some (line_words.Own verbs.Shb);
+      port = Some shb.request.port;
+      payload_length = length shb.request.payload.items;
+    }
 asked_of (asks.Release moment) =
     record { word = Some line_words.Release; port = None; payload_length = 0 }
 asked_of (asks.Query at query) =

@@ -4,7 +4,7 @@ use Rattle.std.specs.Prelude.{Bool, IsTrue, IsFalse, ◌⊎◌, IsUtf8, Option, 
 use Rattle.std.specs.Prelude.{is_some}
 use Rattle.std.specs.Option.{option_and_then}
 use Rattle.std.specs.String.{string_bytes}
-use Rattle.hex.specs.Hex.{decode_of}
+use Rattle.hex.specs.Hex.{decode_of, decode_sized}
 use Rattle.serde_json.specs.Data.{Data}
 use Rattle.serde_json.specs.Find.{get, as_bool, as_i64, as_number, as_object, as_str}
 use Rattle.serde_json.specs.Read.{read}
@@ -13,8 +13,10 @@ use Rattle.its_words.specs.declared.keys.fault.KeyFault.TheVariants as key_fault
 use Rattle.its_words.specs.declared.keys.fault.KeyFault.{KeyFault}
 use Rattle.its_words.specs.declared.keys.key.Key.TheVariants as keys
 use Rattle.its_words.specs.declared.keys.key.Key.{Key}
+use Rattle.its_model.specs.Calls.{ShbRequest}
 use Rattle.its_model.specs.World.What.{Calls}
-use Rattle.its_words.specs.Reading.{IsBadAt, SaysWhat}
+use Rattle.its_words.specs.Reading.{IsBadAt, SaysShb, SaysWhat}
+use Rattle.its_station.specs.Requests.{owned_shb}
 use Rattle.its_station.specs.Runs.{own_of}
 use Rattle.its_station.specs.declared.call.Call.{Call}
 use Rattle.its_station.specs.declared.call.Call.TheVariants as calls
@@ -31,6 +33,7 @@ use Rattle.its_lines.specs.declared.request.Query.{Query}
 use Rattle.its_lines.specs.declared.request.Query.TheVariants as queries
 use Rattle.its_lines.specs.Words.{line_word, query_key}
 use Rattle.its_lines.specs.declared.word.LineWord.{LineWord}
+use Rattle.its_lines.specs.declared.request.ShbWithMedia.{ShbWithMedia}
 use Rattle.its_lines.specs.declared.request.VerifiedOctets.{VerifiedOctets}
 use Rattle.its_lines.specs.declared.reading.OctetsFault.{OctetsFault}
 use Rattle.its_lines.specs.declared.reading.OctetsFault.TheVariants as octets_faults
@@ -108,6 +111,16 @@ AsksVerified members octets =
     ComesVerified members × IsFrameText members octets.frame.items
     × IsOctetsText (codes "plain") members octets.plain.items
 
+-- the object is a single-hop broadcast with a key for its media-dependent data
+abbrev pub BringsMedia : Data → Type 0
+BringsMedia members = IsWord members (codes "shb") × IsSome (get (codes "media") members)
+
+-- these four octets are the hexadecimal digits under `media`
+abbrev pub IsMediaText : Data → List ℕ → Type 0
+IsMediaText members media =
+    (digits : List ℕ) × (text_at (codes "media") members ≡ Some digits)
+    × (decode_sized digits 4 ≡ Ok media)
+
 -- the answer may have a secured frame: its room has to be that of the longest
 abbrev pub AsksSecuredIn : Data → Type 0
 AsksSecuredIn members =
@@ -137,6 +150,12 @@ values_in members =
 abbrev pub SaysCall : Data → OwnCall → Type 0
 SaysCall members call = SaysWhat (values_in members) (Calls (own_of call))
 
+-- the object asks for this single-hop broadcast with this media-dependent data
+abbrev pub AsksShb : Data → ShbWithMedia → Type 0
+AsksShb members shb =
+    BringsMedia members × SaysShb (values_in members) (owned_shb shb.request)
+    × IsMediaText members shb.media
+
 -- the object asks for this call: by `receive` for a frame that came without a plain part, else by
 -- the keys of a scenario's event
 abbrev pub AsksCall : Data → Call → Type 0
@@ -145,7 +164,7 @@ AsksCall members (calls.Receive frame) =
     × IsFrameText members frame.items
 AsksCall members (calls.Own call) =
     (¬ IsWord members (codes "receive")) × (¬ IsWord members (codes "deliver"))
-    × SaysCall members call
+    × (¬ BringsMedia members) × SaysCall members call
 
 -- the object asks this of what the station knows
 abbrev pub AsksQuery : Data → Query → Type 0
@@ -191,6 +210,9 @@ abbrev pub IsBadAsked : Data → QueryKey → Type 0
 IsBadAsked members query_keys.Plain =
     ComesVerified members × ((frame : List ℕ) × IsFrameText members frame)
     × ((plain : List ℕ) → ¬ IsOctetsText (codes "plain") members plain)
+IsBadAsked members query_keys.Media =
+    BringsMedia members × ((request : ShbRequest) × SaysShb (values_in members) request)
+    × ((media : List ℕ) → ¬ IsMediaText members media)
 IsBadAsked members key = IsQueryWord members
 
 -- the members of an object ask for this: a call, what the station knows, or they have a bad key
@@ -199,6 +221,8 @@ AsksIn now members asks.Nothing = ⊥
 AsksIn now members (asks.Call moment call) = IsMomentOf now members moment × AsksCall members call
 AsksIn now members (asks.Verified moment octets) =
     IsMomentOf now members moment × AsksVerified members octets
+AsksIn now members (asks.Shb moment shb) =
+    IsMomentOf now members moment × AsksShb members shb
 AsksIn now members (asks.Release moment) =
     IsMomentOf now members moment × IsWord members (codes "release")
 AsksIn now members (asks.Query at query) = IsAskedAt now members at × AsksQuery members query
@@ -265,6 +289,23 @@ IsVerifiedBad members (read_faults.Bad (faults.Query key wrong)) =
 IsVerifiedBad members (read_faults.Bad fault) = ⊥
 IsVerifiedBad members read_faults.OutOfMemory = Unit {0}
 
+-- the fault is that of the first bad key of a single-hop broadcast with media-dependent data, unless an
+-- allocation failed
+abbrev pub IsShbBad : Data → ReadFault → Type 0
+IsShbBad members (read_faults.Bad (faults.Key key wrong)) =
+    (¬ (key ≡ keys.At)) × IsBadAt (values_in members) key
+IsShbBad members (read_faults.Bad (faults.Query key wrong)) =
+    (key ≡ query_keys.Media) × IsBadAsked members query_keys.Media
+IsShbBad members (read_faults.Bad fault) = ⊥
+IsShbBad members read_faults.OutOfMemory = Unit {0}
+
+-- the fault is that of `media`, under which no four octets stand
+abbrev pub IsMediaFault : Data → ReadFault → Type 0
+IsMediaFault members (read_faults.Bad (faults.Query key wrong)) =
+    (key ≡ query_keys.Media) × ((media : List ℕ) → ¬ IsMediaText members media)
+IsMediaFault members (read_faults.Bad fault) = ⊥
+IsMediaFault members read_faults.OutOfMemory = ⊥
+
 -- `seal` with this frame and message
 abbrev pub AsksSeal : Data → Query → Type 0
 AsksSeal members (queries.Seal frame message) =
@@ -282,9 +323,15 @@ IsIdFault members (read_faults.Bad faults.Id) = IsSome (get (codes "id") members
 IsIdFault members (read_faults.Bad fault) = ⊥
 IsIdFault members read_faults.OutOfMemory = Unit {0}
 
+-- the key is one of a query
+abbrev pub IsOfQueries : QueryKey → Type 0
+IsOfQueries query_keys.Plain = ⊥
+IsOfQueries query_keys.Media = ⊥
+IsOfQueries key = Unit {0}
+
 -- the fault is that of a key of what is asked
 abbrev pub IsOfQuery : ReadFault → Type 0
-IsOfQuery (read_faults.Bad (faults.Query key wrong)) = key ≢ query_keys.Plain
+IsOfQuery (read_faults.Bad (faults.Query key wrong)) = IsOfQueries key
 IsOfQuery (read_faults.Bad fault) = ⊥
 IsOfQuery read_faults.OutOfMemory = Unit {0}
 

@@ -5,26 +5,30 @@ use Rattle.std.specs.declared.alloc.Global.{Global}
 use Rattle.its_headers.specs.Fields.{media_in}
 use Rattle.its_headers.specs.Seen.{Seen}
 use Rattle.its_headers.specs.declared.kind.Kind.{Kind}
+use Rattle.its_headers.specs.declared.kind.Kind.TheVariants as kinds
 use Rattle.its_linkframe.specs.Frames.{EncodesFrame}
 use Rattle.its_model.specs.Calls as model
 use Rattle.its_model.specs.Packet.{Transmission}
 use Rattle.its_station.specs.Answers.{Owns, StationAnswer, TellsAnswer, delivered}
+use Rattle.its_station.specs.Beside.{default_options}
 use Rattle.its_station.specs.Counting.{counted_accepted, counted_answer, one_more, own_kind}
 use Rattle.its_station.specs.Receiving.{Encoded, IsFrameCall, IsVerifiedCall, TellsAcceptedBy}
 use Rattle.its_station.specs.Receiving.{VerifiedCall, sealed_by, why_of}
+use Rattle.its_station.specs.Requests.{owned_shb}
 use Rattle.its_station.specs.Runs.{own_of}
 use Rattle.its_station.specs.Steps.{refusal_of}
 use Rattle.its_station.specs.declared.answer.Answer.TheVariants as answers
 use Rattle.its_station.specs.declared.call.Call.TheVariants as calls
 use Rattle.its_station.specs.declared.counts.Counts.{Counts}
 use Rattle.its_station.specs.declared.refused.Refused.{Refused}
+use Rattle.its_station.specs.declared.requests.ShbOptions.{ShbOptions}
 use Rattle.its_station.specs.declared.refused.Refused.TheVariants as refused
 use Rattle.its_unit.specs.Releases.{IsReleaseOf, counted_release, releases_by}
 use Rattle.its_unit.specs.Steps.{SaysPassed}
 use Rattle.std.specs.Prelude.{IsSomeAnd}
 use Rattle.std.specs.Option.{option_map}
 use Rattle.its_unit.specs.Unit.{RepresentsUnit, UnitAnswer, UnitModel, UnitState, UnitStep, step_by}
-use Rattle.its_unit.specs.Unit.UnitCall.{Own, Receive, ReceiveVerified}
+use Rattle.its_unit.specs.Unit.UnitCall.{Own, Receive, ReceiveVerified, SendShbFor}
 use Rattle.its_unit.specs.declared.limiting.Limiting.{Limiting}
 use Rattle.its_unit.specs.declared.outcome.Reaction.{Reaction}
 use Rattle.its_unit.specs.declared.outcome.UnitOutcome.{UnitOutcome}
@@ -147,6 +151,10 @@ id_in (responses.NotAllowed id at) = id
 id_in (responses.Known id at known) = id
 id_in (responses.Fault id line fault) = id
 
+-- the options of a single-hop broadcast with this media-dependent data
+abbrev pub options_of : List ℕ → ShbOptions
+options_of media = record default_options { media = media }
+
 -- The call that a line asks for is made of a unit, within its limits or past them: the answer is that of
 -- the very step of the model, the unit is the one after it, and it is counted.
 abbrev pub Makes : Limiting → UnitModel → Request → UnitState → Made → Option ℕ → Bool → UnitState
@@ -165,6 +173,11 @@ Makes l u (asks.Verified at octets) old made due cancelled new =
     × IsMadeBy (TellsHeard (sealed_by call)) made new (step_by l u at (ReceiveVerified call))
     × TellsReaction made due cancelled (step_by l u at (ReceiveVerified call)))
     × (new.counts ≡ counted_frame made old.counts)
+Makes l u (asks.Shb at shb) old made due cancelled new =
+    IsMadeBy TellsAnswer made new
+    (step_by l u at (SendShbFor (options_of shb.media) (owned_shb shb.request)))
+    × (due ≡ None) × (cancelled ≡ false)
+    × (new.counts ≡ counted_made (Some kinds.Shb) made old.counts)
 Makes l u asked old made due cancelled new = ⊥
 
 -- the answer to a line that asked for a call, which was made
@@ -184,6 +197,8 @@ AnswersIn l u n id (asks.Call at call) old told new =
     AnswersMade l u id at (asks.Call at call) old told new
 AnswersIn l u n id (asks.Verified at octets) old told new =
     AnswersMade l u id at (asks.Verified at octets) old told new
+AnswersIn l u n id (asks.Shb at shb) old told new =
+    AnswersMade l u id at (asks.Shb at shb) old told new
 AnswersIn l u n id (asks.Release at) old told new =
     (said : Result (Option (Vec ℕ Global)) Refused)
     × (told ≡ Some (response_of_release id at said))
@@ -218,6 +233,7 @@ barred (asks.Release at) = asks.Bad (faults.Key keys.Do wrongs.Value)
 barred asks.Nothing = asks.Nothing
 barred (asks.Call at call) = asks.Call at call
 barred (asks.Verified at octets) = asks.Verified at octets
+barred (asks.Shb at shb) = asks.Shb at shb
 barred (asks.Query at query) = asks.Query at query
 barred (asks.Bad fault) = asks.Bad fault
 

@@ -99,6 +99,11 @@ impl Asked {
                 port: None,
                 payload_length: 0,
             },
+            Request::Shb(_, shb) => Asked {
+                word: Some(LineWord::Own(Verb::Shb)),
+                port: Some(shb.request.port),
+                payload_length: shb.request.payload.len(),
+            },
             Request::Release(_) => Asked {
                 word: Some(LineWord::Release),
                 port: None,
@@ -120,6 +125,7 @@ fn right_of(request: &Request) -> Option<Right>
     match request {
         Request::Call(_, Call::Own(call)) => Some(own_right(call)),
         Request::Call(_, Call::Receive(_)) | Request::Verified(_, _) => Some(Right::Receive),
+        Request::Shb(_, _) => Some(Right::Send),
         Request::Nothing | Request::Release(_) | Request::Query(_, _) | Request::Bad(_) => None,
     }
 }

@@ -5,7 +5,7 @@
 //!
 //! A call of the station's own is the one that the word and its keys say. A key that is refused has
 //! no value that it takes (`answer_line`, by `read_call` of `its_words`). `receive` with a plain
-//! part is the step of `receive_verified` (`Makes`).
+//! part is the step of `receive_verified`, and `shb` with `media` that of `send_shb_by` (`Makes`).
 //!
 //! Within the limits of a unit a call is its step (`unit_step`), past them the step to which no limit
 //! applies (`unlimited_step`): frames wait and are cancelled in both. What is answered to a frame says

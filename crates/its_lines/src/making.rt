@@ -12,7 +12,7 @@ ghost use Rattle.its_station.specs.Answers.{Fits, TellsAnswer};
 ghost use Rattle.its_station.specs.Counting.{counted_answer, counted_done, counted_tick, own_kind};
 ghost use Rattle.its_station.specs.Receiving.{DeliversEndOf, IsFrameCall, IsVerifiedCall};
 ghost use Rattle.its_station.specs.Receiving.{TellsBy, VerifiedCall, sealed_by};
-ghost use Rattle.its_station.specs.Requests.{TellsTick};
+ghost use Rattle.its_station.specs.Requests.{TellsTick, owned_shb};
 ghost use Rattle.its_station.specs.Runs.{IsOwnInRange, own_of};
 ghost use Rattle.its_station.specs.Steps.{Says, refusal_of};
 ghost use Rattle.its_station.specs.declared.counts.Counts.{Counts};
@@ -21,18 +21,18 @@ ghost use Rattle.its_unit.specs.Steps.{SaysPassed};
 ghost use Rattle.its_unit.specs.Steps.{WherePassed, counted_received, counted_request, counted_unit};
 ghost use Rattle.its_unit.specs.Unit.{RepresentsUnit, UnitModel, UnitState, UnitStep, step_by};
 ghost use Rattle.its_unit.specs.Unit.{unit_step};
-ghost use Rattle.its_unit.specs.Unit.UnitCall.{Own, Receive, ReceiveVerified};
+ghost use Rattle.its_unit.specs.Unit.UnitCall.{Own, Receive, ReceiveVerified, SendShbFor};
 ghost use Rattle.its_lines.specs.Within.{IsMadeBy, IsMadeOf, IsMadeOfFrame, IsMadeOfOutcome};
-ghost use Rattle.its_lines.specs.Within.{accepted_packet, counted_frame, counted_made, response_of};
-ghost use Rattle.its_lines.specs.Within.{response_of_release};
+ghost use Rattle.its_lines.specs.Within.{accepted_packet, counted_frame, counted_made, options_of};
+ghost use Rattle.its_lines.specs.Within.{response_of, response_of_release};
 
-use crate::request::{Id, VerifiedOctets};
+use crate::request::{Id, ShbWithMedia, VerifiedOctets};
 use crate::response::{AcceptedPacket, Response};
 use its_gnvalue::NoMemory;
 use its_headers::{Head, PacketView};
 use its_linkframe::{VerifiedFrame, read_frame};
 use its_loctable::SortedTable;
-use its_station::{Answer, AreaCast, OwnCall, Refused, StationAnswer};
+use its_station::{Answer, AreaCast, OwnCall, Refused, ShbOptions, StationAnswer};
 use its_unit::{Limiting, Reaction, Unit, UnitOutcome, Unsent};
 use std::alloc::Global;
 
@@ -148,6 +148,28 @@ pub(crate) fn make_own(
         Limiting::Within => make_limited(unit, at, call),
         Limiting::Past => Ok(Made::Passed(unit.answer_unlimited(at, call)?)),
     }
+}
+
+/// Sends a single-hop broadcast with media-dependent data of its own, as `make_own` makes a call.
+pub(crate) fn make_shb(
+    unit: &mut Unit<SortedTable>,
+    limiting: Limiting,
+    at: u64,
+    shb: &ShbWithMedia,
+) -> Result<Made, NoMemory>
+    ensures step { (u : UnitModel) → RepresentsUnit unit.old u → IfOk result (λ made.
+        IsMadeBy TellsAnswer made unit.new (step_by limiting u at
+        (SendShbFor (options_of shb.now.media) (owned_shb shb.now.request)))) }
+    ensures counts { IfOk result (λ made.
+        unit.new.counts ≡ counted_made (Some kinds.Shb) made unit.old.counts) }
+    ensures limits { AreKept limiting unit.old.governor unit.new.governor }
+    ensures unchanged { OnErr result (IsSameUnit unit.old unit.new) }
+{
+    let options = ShbOptions {
+        media: shb.media,
+        ..ShbOptions::default()
+    };
+    made_of_send(unit.send_shb_by(limiting, at, &shb.request.lend(), options))
 }
 
 /// Makes a call of the applications at a time, within the limits.

@@ -14,16 +14,20 @@ ghost use Rattle.its_lines.specs.Requests.{line_of};
 ghost use Rattle.its_lines.specs.Requests.{AsksSeal, AsksSecured, AsksSecuredIn, AsksVerified};
 ghost use Rattle.its_lines.specs.Requests.{ComesVerified, IsNoOctets, IsOctetsText, IsOfKey};
 ghost use Rattle.its_lines.specs.Requests.{IsVerifiedBad, values_in};
+ghost use Rattle.its_lines.specs.Requests.{AsksShb, BringsMedia, IsMediaFault, IsMediaText, IsOfQueries};
+ghost use Rattle.its_lines.specs.Requests.{IsShbBad};
 ghost use Rattle.its_lines.specs.Words.{query_key};
 
 use crate::lines::is_blank;
 use crate::members::Members;
-use crate::request::{Id, LineFault, LineRequest, Query, QueryKey, Request, VerifiedOctets};
+use crate::request::{
+    Id, LineFault, LineRequest, Query, QueryKey, Request, ShbWithMedia, VerifiedOctets,
+};
 use crate::word::LineWord;
 use its_gnvalue::GnAddress;
 use its_station::Call;
 use its_words::calls;
-use its_words::keys::{Fields, Key, KeyFault, Wrong};
+use its_words::keys::{Fields, Key, KeyFault, Verb, Wrong};
 use serde_json::Value;
 use std::alloc::{AllocError, Global};
 
@@ -197,7 +201,7 @@ fn read_id(alloc: Global, members: &Members<'_>) -> Result<Option<Id>, ReadFault
 }
 
 /// Reads the time and the keys of the word under `do`. A query needs no time.
-#[tactic(auto, using(crate::proofs::Read::bad_told, crate::proofs::Secured::bad_verified))]
+#[tactic(auto, using(crate::proofs::Read::bad_told, crate::proofs::Secured::bad_verified, crate::proofs::Media::bad_shb))]
 fn read_call_or_query(
     alloc: Global,
     members: &Members<'_>,
@@ -218,6 +222,9 @@ fn read_call_or_query(
             Ok(Request::Verified(moment, read_verified(alloc, members)?))
         }
         Some(moment) if is_release(word) => Ok(Request::Release(moment)),
+        Some(moment) if brings_media(members, word) => {
+            Ok(Request::Shb(moment, read_shb(alloc, members)?))
+        }
         Some(moment) => match read_call(alloc, members, word) {
             Ok(call) => Ok(Request::Call(moment, call)),
             Err(fault) => Err(with_word_meant(alloc, members, fault)),
@@ -246,6 +253,46 @@ fn read_verified(alloc: Global, members: &Members<'_>) -> Result<VerifiedOctets,
     match read_octets(alloc, members, QueryKey::Plain) {
         Ok(plain) => Ok(VerifiedOctets { frame, plain }),
         Err(fault) => Err(fault),
+    }
+}
+
+/// Returns whether the line is a single-hop broadcast with media-dependent data.
+fn brings_media(members: &Members<'_>, word: Option<LineWord>) -> bool
+    requires { IsWordUnder (view members.now.0.now) word }
+    ensures { IsTrue result ↔ BringsMedia (view members.now.0.now) }
+{
+    match word {
+        Some(LineWord::Own(Verb::Shb)) => members.has("media"),
+        _ => false,
+    }
+}
+
+/// Reads a single-hop broadcast with media-dependent data: its keys, and then `media`.
+#[tactic(auto, using(crate::proofs::Media::keys_bad, crate::proofs::Media::media_bad))]
+fn read_shb(alloc: Global, members: &Members<'_>) -> Result<ShbWithMedia, ReadFault>
+    requires { BringsMedia (view members.now.0.now) }
+    ensures shb { IfOk result (AsksShb (view members.now.0.now)) }
+    ensures fault { IfErr result (IsShbBad (view members.now.0.now)) }
+{
+    let request = calls::read_single_hop(alloc, members)?;
+    match read_media(members) {
+        Ok(media) => Ok(ShbWithMedia { request, media }),
+        Err(fault) => Err(fault),
+    }
+}
+
+/// Reads the media-dependent data of a single-hop broadcast, in either letter case.
+fn read_media(members: &Members<'_>) -> Result<[u8; 4], ReadFault>
+    ensures media { IfOk result (IsMediaText (view members.now.0.now)) }
+    ensures fault { IfErr result (IsMediaFault (view members.now.0.now)) }
+{
+    let Some(digits) = members.text("media") else {
+        return Err(bad(QueryKey::Media, unlike(members, "media")));
+    };
+    let mut media = [0u8; 4];
+    match hex::decode_to_slice(digits, &mut media) {
+        Ok(()) => Ok(media),
+        Err(_) => Err(bad(QueryKey::Media, Wrong::Value)),
     }
 }
 
@@ -356,7 +403,7 @@ fn read_after(members: &Members<'_>) -> Result<Option<GnAddress>, ReadFault>
 
 /// Reads an address of 16 hexadecimal digits, whose MID is not a group address.
 fn read_address(members: &Members<'_>, key: QueryKey) -> Result<GnAddress, ReadFault>
-    requires { key ≢ QueryKey.Plain }
+    requires { IsOfQueries key }
     ensures fault { IfErr result IsOfQuery }
 {
     let Some(digits) = members.text(key.word()) else {
@@ -402,11 +449,12 @@ fn unlike(members: &Members<'_>, word: &str) -> Wrong {
 }
 
 /// Reads the call of a line: a frame that was received without a plain part, or a call of the
-/// applications, which has the keys of an event of a scenario.
+/// applications, which has only keys of an event of a scenario.
 #[tactic(auto, using(crate::proofs::Own::asks_own, crate::proofs::Own::bad_call))]
 fn read_call(alloc: Global, members: &Members<'_>, word: Option<LineWord>) -> Result<Call, KeyFault>
     requires word { IsWordUnder (view members.now.0.now) word }
     requires plain { ¬ ComesVerified (view members.now.0.now) }
+    requires media { ¬ BringsMedia (view members.now.0.now) }
     ensures call { IfOk result (AsksCall (view members.now.0.now)) }
     ensures range { IfOk result IsInRange }
     ensures fault { IfErr result (IsBadCallKeyOf (view members.now.0.now)) }

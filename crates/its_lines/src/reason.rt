@@ -72,6 +72,8 @@ fn explain_query<W: fmt::Write>(
         (QueryKey::Frame | QueryKey::Plain | QueryKey::Message, _) => {
             f.write_str("not an even number of hexadecimal digits")
         }
+        (QueryKey::Media, Wrong::Kind) => f.write_str("not a text"),
+        (QueryKey::Media, _) => f.write_str("not 8 hexadecimal digits"),
         (QueryKey::After | QueryKey::Address, _) => {
             f.write_str("not a GN address: 16 hexadecimal digits, not a group address")
         }

@@ -5,7 +5,7 @@ ghost use Rattle.its_lines.specs.Words.{query_key};
 
 use crate::word::LineWord;
 use its_gnvalue::GnAddress;
-use its_station::Call;
+use its_station::{Call, OwnedShbRequest};
 use its_words::keys::{Key, Wrong};
 use std::fmt;
 
@@ -42,7 +42,8 @@ pub enum Query {
     },
 }
 
-/// A key of a query, or of a signed frame that was received. It prints as its word.
+/// A key that no event of a scenario has: of a query, of a signed frame that was received, or of a
+/// single-hop broadcast with media-dependent data. It prints as its word.
 #[derive(Clone, Copy, Debug, PartialEq, Eq)]
 pub enum QueryKey {
     /// A jitter in milliseconds: 0 to 65535.
@@ -57,6 +58,8 @@ pub enum QueryKey {
     Plain,
     /// The message of a security entity: as `Frame`.
     Message,
+    /// The media-dependent data of a single-hop broadcast: 8 hexadecimal digits.
+    Media,
 }
 
 impl QueryKey {
@@ -71,6 +74,7 @@ impl QueryKey {
             QueryKey::Frame => "frame",
             QueryKey::Plain => "plain",
             QueryKey::Message => "message",
+            QueryKey::Media => "media",
         }
     }
 }
@@ -117,6 +121,8 @@ pub(crate) enum Request {
     Call(u64, Call),
     /// Receiving this secured frame, at this time.
     Verified(u64, VerifiedOctets),
+    /// Sending this single-hop broadcast, at this time.
+    Shb(u64, ShbWithMedia),
     /// Releasing a frame that is due, at this time.
     Release(u64),
     /// This query, for this time if one is given.
@@ -131,6 +137,13 @@ pub(crate) enum Request {
 pub(crate) struct VerifiedOctets {
     pub(crate) frame: Vec<u8>,
     pub(crate) plain: Vec<u8>,
+}
+
+/// A single-hop broadcast with media-dependent data of its own.
+#[derive(Drop)]
+pub(crate) struct ShbWithMedia {
+    pub(crate) request: OwnedShbRequest,
+    pub(crate) media: [u8; 4],
 }
 
 /// What a line asks for, and its `id`, if it has a valid one.

@@ -11,7 +11,7 @@ ghost use Rattle.its_unit.specs.Unit.{RepresentsUnit, UnitModel};
 use crate::asked::{Asked, Rights};
 use crate::knowing::answer_query;
 use crate::lines::LONGEST_LINE;
-use crate::making::{make_own, make_receive, make_receive_verified};
+use crate::making::{make_own, make_receive, make_receive_verified, make_shb};
 use crate::reading::read_request;
 use crate::request::{LineFault, LineRequest, Request};
 use crate::response::Response;
@@ -185,6 +185,10 @@ fn respond(
         Request::Verified(at, octets) => {
             let made = make_receive_verified(alloc, unit, limiting, at, &octets)?;
             Ok(Some(Response::of_frame(id, at, made)))
+        }
+        Request::Shb(at, shb) => {
+            let made = make_shb(unit, limiting, at, &shb)?;
+            Ok(Some(Response::of_made(id, at, made)))
         }
         Request::Release(at) => {
             let said = unit.release_by(limiting, at);

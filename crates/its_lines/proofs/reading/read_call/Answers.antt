@@ -20,4 +20,4 @@ returns-in_ok-read_call-in_default-clause-call c =
     let receive : ¬ IsWord members (codes "receive") =
     not_word members c.args.word line_words.Receive c.requires.word.none (λ some. search rules) in
     let read = c.in_ok-read_call-in_default in
-    asks_own members read.field-0 receive read.ensures.deliver read.ensures.says
+    asks_own members read.field-0 receive read.ensures.deliver c.requires.media read.ensures.says
