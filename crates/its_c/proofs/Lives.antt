@@ -367,7 +367,7 @@ one (HandleCall.Tick now jitter room status written frame) old new m holds is =
 one (HandleCall.SendShb now request payload room status written frame) old new m holds is =
     with_room 1468 room status _ _ _ old new m holds is
     (λ calls. called _ _ _ _ status _ old new m send_holds calls holds)
-one (HandleCall.SendShbFor now request lifetime payload room status written frame) old new m holds
+one (HandleCall.SendShbWith now request options payload room status written frame) old new m holds
     is =
     with_room 1468 room status _ _ _ old new m holds is
     (λ calls. called _ _ _ _ status _ old new m send_holds calls holds)

@@ -1,11 +1,13 @@
 -- What C asks for, and which arguments are in range.
-use Rattle.std.specs.Prelude.{◌≡◌, ◌≤◌, ℕ, ℤ, List}
+use Rattle.std.specs.Prelude.{◌≡◌, ◌≤◌, ℕ, ℤ, List, [], ◌∷◌}
 use Rattle.its_gnvalue.specs.Values.{Position, IsIndividual, IsLatitude, IsLongitude, IsSpeed}
 use Rattle.its_geometry.specs.Area.{GeoArea, HasMeasures}
 use Rattle.its_geometry.specs.declared.area.Shape.{Shape}
 use Rattle.its_geometry.specs.declared.area.Shape.TheVariants as shapes
 use Rattle.its_model.specs.Calls.{GbcRequest as ModelGbc, ShbRequest as ModelShb}
 use Rattle.its_c.specs.declared.layout.AreaRequest.{AreaRequest}
+use Rattle.its_station.specs.declared.requests.ShbOptions.{ShbOptions as StationShbOptions}
+use Rattle.its_c.specs.declared.layout.ShbOptions.{ShbOptions}
 use Rattle.its_c.specs.declared.layout.ShbRequest.{ShbRequest}
 
 -- the place of these coordinates
@@ -29,6 +31,14 @@ shb_asked r payload = record {
   class = r.traffic_class;
   message = record { port = r.port; info = r.info; payload = payload };
 }
+
+-- what it has besides: a lifetime and media-dependent data
+abbrev pub shb_options : ShbOptions → StationShbOptions
+shb_options options = record { lifetime = options.lifetime; media = options.media }
+
+-- the options of this lifetime, with media-dependent data of zeros
+abbrev pub with_lifetime : ℕ → ShbOptions
+with_lifetime lifetime = record { lifetime = lifetime; media = 0 ∷ 0 ∷ 0 ∷ 0 ∷ [] }
 
 -- a payload for an area
 abbrev pub gbc_asked : AreaRequest → GeoArea → List ℕ → ModelGbc

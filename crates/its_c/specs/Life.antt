@@ -35,7 +35,7 @@ use Rattle.its_unit.specs.Steps.{IsReactionOf, IsStepOf, IsSendOf, SaysPassed, c
 use Rattle.its_unit.specs.Steps.{counted_received}
 use Rattle.its_unit.specs.declared.outcome.Reaction.{Reaction}
 use Rattle.its_unit.specs.declared.unsent.Unsent.{Unsent}
-use Rattle.its_c.specs.Arguments.{AreForMove, IsAreaOf, gbc_asked, place_of, shb_asked}
+use Rattle.its_c.specs.Arguments.{AreForMove, IsAreaOf, gbc_asked, place_of, shb_asked, shb_options}
 use Rattle.its_c.specs.Held.{IsSame, counts_in}
 use Rattle.its_c.specs.Open.{HoldsUnit}
 use Rattle.its_c.specs.Status.{status_in, status_sent}
@@ -44,6 +44,7 @@ use Rattle.its_c.specs.Told.{nothing_received, reception_in, verified_reception_
 use Rattle.its_c.specs.declared.handle.Geostation.{Geostation}
 use Rattle.its_c.specs.declared.layout.AreaRequest.{AreaRequest}
 use Rattle.its_c.specs.declared.layout.Reception.{Reception}
+use Rattle.its_c.specs.declared.layout.ShbOptions.{ShbOptions}
 use Rattle.its_c.specs.declared.layout.ShbRequest.{ShbRequest}
 
 -- A call of C, with its arguments: `room` is the caller's buffer as it was. After them stands what C
@@ -59,8 +60,8 @@ pub data HandleCall : Type 0 where
   Tick : (now jitter : ℕ) (room : List ℕ) (status : ℤ) (written : ℕ) (frame : List ℕ) → HandleCall
   SendShb : (now : ℕ) (request : ShbRequest) (payload room : List ℕ) (status : ℤ) (written : ℕ)
       (frame : List ℕ) → HandleCall
-  SendShbFor : (now : ℕ) (request : ShbRequest) (lifetime : ℕ) (payload room : List ℕ) (status : ℤ)
-      (written : ℕ) (frame : List ℕ) → HandleCall
+  SendShbWith : (now : ℕ) (request : ShbRequest) (options : ShbOptions) (payload room : List ℕ)
+      (status : ℤ) (written : ℕ) (frame : List ℕ) → HandleCall
   SendToArea : (now : ℕ) (cast : AreaCast) (request : AreaRequest) (payload room : List ℕ)
       (status : ℤ) (written : ℕ) (frame : List ℕ) → HandleCall
   Receive : (now : ℕ) (octets room : List ℕ) (status : ℤ) (reception : Reception)
@@ -148,11 +149,11 @@ Means (HandleCall.SendShb now request payload room status written frame) Refuses
     HasRoom 1468 room status (Refuses × (written ≡ 0))
     (SendsCall Calls (counted_request kinds.Shb) status written frame (at_time now
     (UnitCall.Own (model.OwnCall.SendShb (shb_asked request payload)))))
-Means (HandleCall.SendShbFor now request lifetime payload room status written frame) Refuses Reads
+Means (HandleCall.SendShbWith now request options payload room status written frame) Refuses Reads
     Calls Releases =
     HasRoom 1468 room status (Refuses × (written ≡ 0))
     (SendsCall Calls (counted_request kinds.Shb) status written frame (at_time now
-    (UnitCall.SendShbFor lifetime (shb_asked request payload))))
+    (UnitCall.SendShbFor (shb_options options) (shb_asked request payload))))
 Means (HandleCall.SendToArea now cast request payload room status written frame) Refuses Reads
     Calls Releases =
     HasRoom 1468 room status (Refuses × (written ≡ 0))

@@ -85,6 +85,16 @@ pub struct ShbRequest {
     pub traffic_class: u8,
 }
 
+/// What a single-hop broadcast has besides its request: `struct geostation_shb_options` of C.
+#[repr(C)]
+#[derive(Clone, Copy)]
+pub struct ShbOptions {
+    /// The octet of the lifetime: a multiplier of six bits, then a base of two.
+    pub lifetime: u8,
+    /// The media-dependent data (EN 302 636-4-2): zeros if it has none.
+    pub media: [u8; 4],
+}
+
 /// Where a payload for an area goes: `struct geostation_area_request` of C.
 #[repr(C)]
 #[derive(Clone, Copy)]

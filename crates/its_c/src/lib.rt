@@ -33,8 +33,8 @@
 //! - **Beacons.** `geostation_beacon_at` returns the earliest time at which the model's `tick` with
 //!   this jitter writes its beacon (`due`, `early`), and the greatest number for a jitter over 750
 //!   (`never`).
-//! - **Variants.** `geostation_move_at` and `geostation_send_shb_with_lifetime` differ from the
-//!   model's calls only in time stamp and lifetime (`step`).
+//! - **Variants.** `geostation_move_at` differs from the model's call only in its time stamp, and
+//!   `geostation_send_shb_with` only in lifetime and media-dependent data (`step`).
 //! - **Padding.** `geostation_receive` reads the octets without the padding of a frame of at most
 //!   60 octets (`IsUnpadded`). For each frame that is not refused it writes what the packet says
 //!   (`reception_of`). The payload ends where the frame ends. `geostation_frame_length` returns the
@@ -122,5 +122,5 @@ pub use handle::Geostation;
 pub use handle_out::HandleOut;
 pub use layout::{
     AllCounts, AreaRequest, Config, HeldCounts, LineResult, Packet, PacketArea, PacketMessage,
-    Reception, ShbRequest, ToldCounts, Vector,
+    Reception, ShbOptions, ShbRequest, ToldCounts, Vector,
 };

@@ -1,11 +1,13 @@
-use Rattle.std.proofs.Common.{◌≡◌, ℕ, rules, subst}
+use Rattle.std.proofs.Common.{rules, subst}
 use Rattle.its_headers.specs.declared.kind.Kind.TheVariants as kinds
 use Rattle.its_model.specs.Calls.{ShbRequest}
 use Rattle.its_station.specs.Requests.{shb_request}
+use Rattle.its_station.specs.declared.requests.ShbOptions.{ShbOptions}
 use Rattle.its_unit.specs.Unit.{unit_step, SendShbFor}
 use Rattle.its_unit.specs.Steps.{IsSendOf, counted_request}
+use Rattle.its_c.specs.Arguments.{shb_options}
 use Rattle.its_c.proofs.Opens.{counts_held, held_unit, sends_open}
-use Rattle.its_c.proofs.sending.geostation_send_shb_with_lifetime.Goals as goal
+use Rattle.its_c.proofs.sending.send_with.Goals as goal
 
 pub invariant_of-s : goal.invariant_of-s
 invariant_of-s c =
@@ -13,7 +15,7 @@ invariant_of-s c =
     record {
       represents = sends_open c.send_shb_for-said.result c.deref_mut.result.now
           c.send_shb_for-said.new.self
-          (λ u. unit_step u c.args.now (SendShbFor c.from_octet.result asked))
+          (λ u. unit_step u c.args.now (SendShbFor c.single_hop_options-options.result asked))
           c.args.s.now.held.unit c.put.new.self.unit c.send_shb_for-said.ensures.step
           c.send_shb_for-said.ensures.unchanged (search rules) (search rules)
           c.args.s.now.represents;
@@ -23,7 +25,6 @@ pub returns-clause-step : goal.returns-clause-step
 returns-clause-step c =
     let said = c.send_shb_for-said.result in
     let after = c.send_shb_for-said.new.self in
-    let same : c.from_octet.result ≡ c.args.lifetime = search rules in
     record {
       short = search rules;
       enough = λ long. record {
@@ -34,10 +35,11 @@ returns-clause-step c =
               after = after;
               held = search rules;
               done = subst (λ (asked : ShbRequest). IsSendOf said after
-                  (unit_step u c.args.now (SendShbFor c.args.lifetime asked)))
+                  (unit_step u c.args.now (SendShbFor (shb_options c.args.options.now) asked)))
                   c.single_hop_request-r.ensures
-                  (subst (λ (l : ℕ). IsSendOf said after (unit_step u c.args.now
-                  (SendShbFor l (shb_request c.single_hop_request-r.result)))) same
+                  (subst (λ (o : ShbOptions). IsSendOf said after (unit_step u c.args.now
+                  (SendShbFor o (shb_request c.single_hop_request-r.result))))
+                  c.single_hop_options-options.ensures
                   (c.send_shb_for-said.ensures.step u rep));
               code = search rules;
               shown = c.told_frame.ensures.shown;
