@@ -11,13 +11,13 @@ import c_twins as twins
 from c_compare import HEADER, LIBRARY, PYTHON, RUST, structs_of
 
 TEXT = "c/text.c"
-# What these do, Rust and Python do by send_shb_with.
-SHORTER = ("send_shb", "send_shb_with_lifetime")
 # The functions of the header that a source does without: those for which its language has something
 # else (docs/CALLS.md).
 WITHOUT = {
-    f"{RUST}/ffi.rs": {"code", "new", "next_beacon", "version", *SHORTER},
-    f"{PYTHON}/library.py": {"abi", "code", "new", "next_beacon", "version", *SHORTER},
+    f"{RUST}/ffi.rs": {"code", "new", "next_beacon", "send_shb_with_lifetime", "version"},
+    f"{PYTHON}/library.py": {
+        "abi", "code", "new", "next_beacon", "send_shb_with_lifetime", "version"
+    },
     "c/geostation.hpp": {"abi", "code", "fault_text", "new", "version"},
     "c/test.c": set(),
     "docs/CALLS.md": {"config_init"},

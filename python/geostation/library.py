@@ -239,6 +239,7 @@ CALLS = {
     "close_port": (c.c_int, c.c_void_p, c.c_uint64, c.c_uint16),
     "restart": (c.c_int, c.c_void_p, c.c_uint64, c.c_uint16),
     "tick": (c.c_int, c.c_void_p, c.c_uint64, c.c_uint16, *_WRITTEN),
+    "send_shb": (c.c_int, c.c_void_p, c.c_uint64, c.POINTER(ShbRequest), *_OCTETS, *_WRITTEN),
     "send_shb_with": (
         c.c_int,
         c.c_void_p,

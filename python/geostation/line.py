@@ -206,16 +206,11 @@ class PipeStation(Calls):
     def _send_shb(
         self, now: int, port: int, info: int, traffic_class: int, media: bytes, payload: bytes
     ) -> bytes:
-        answer = self._ask(
-            "shb",
-            now,
-            port=port,
-            info=info,
-            tc=traffic_class,
-            media=media.hex(),
-            payload=_short(payload, PAYLOAD_MAX).hex(),
+        told = _short(payload, PAYLOAD_MAX).hex()
+        more = {"media": media.hex()} if media != NO_MEDIA else {}
+        return self._sent(
+            self._ask("shb", now, port=port, info=info, tc=traffic_class, payload=told, **more)
         )
-        return self._sent(answer)
 
     def _send_area(
         self,

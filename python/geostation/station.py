@@ -176,9 +176,11 @@ class Station(Calls):
         lifetime: int = SHB_LIFETIME,
     ) -> bytes:
         request = library.ShbRequest(port, info, traffic_class)
+        rest = (payload, len(payload))
+        if (lifetime, media) == (SHB_LIFETIME, NO_MEDIA):
+            return self._written(self._library.send_shb, now, request, *rest)
         options = library.ShbOptions(lifetime, tuple(media))
-        call = self._library.send_shb_with
-        return self._written(call, now, request, options, payload, len(payload))
+        return self._written(self._library.send_shb_with, now, request, options, *rest)
 
     def _send_area(
         self,

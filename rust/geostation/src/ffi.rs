@@ -251,6 +251,16 @@ extern "C" {
         room: usize,
         length: *mut usize,
     ) -> c_int;
+    fn geostation_send_shb(
+        s: *mut Opaque,
+        now: u64,
+        request: *const ShbRequest,
+        payload: *const u8,
+        payload_length: usize,
+        frame: *mut u8,
+        room: usize,
+        length: *mut usize,
+    ) -> c_int;
     fn geostation_send_shb_with(
         s: *mut Opaque,
         now: u64,
@@ -446,6 +456,24 @@ impl Handle {
         (status, length)
     }
 
+    pub(crate) fn send_shb(
+        &mut self,
+        now: u64,
+        request: &ShbRequest,
+        payload: &[u8],
+        frame: &mut [u8],
+    ) -> Written {
+        let (s, mut length) = (self.0.as_ptr(), 0);
+        let (octets, room) = (frame.as_mut_ptr(), frame.len());
+        let (given, count) = (payload.as_ptr(), payload.len());
+        // SAFETY: the handle is valid, and in no other call; both slices have the given lengths,
+        // and don't overlap, as one of them is borrowed mutably.
+        let status = unsafe {
+            geostation_send_shb(s, now, request, given, count, octets, room, &mut length)
+        };
+        (status, length)
+    }
+
     pub(crate) fn send_shb_with(
         &mut self,
         now: u64,
@@ -457,8 +485,7 @@ impl Handle {
         let (s, mut length) = (self.0.as_ptr(), 0);
         let (octets, room) = (frame.as_mut_ptr(), frame.len());
         let (given, count) = (payload.as_ptr(), payload.len());
-        // SAFETY: the handle is valid, and in no other call; both slices have the given lengths,
-        // and don't overlap, as one of them is borrowed mutably.
+        // SAFETY: as for `geostation_send_shb`.
         let status = unsafe {
             geostation_send_shb_with(
                 s,

@@ -638,7 +638,10 @@ impl Station {
         payload: &[u8],
         buffer: &'a mut B,
     ) -> Result<&'a [u8], Error> {
-        self.send_shb_with(now, request, &ShbOptions::default(), payload, buffer)
+        let ShbRequest { port, info, traffic_class } = *request;
+        let request = ffi::ShbRequest { port, info, traffic_class };
+        let told = self.handle.send_shb(now, &request, payload, buffer.room(FRAME_MAX));
+        written(buffer, told)
     }
 
     /// Writes and returns the frame of a single-hop broadcast (SHB) with this lifetime and these
