@@ -2,6 +2,7 @@
 use Rattle.std.proofs.Common.{◌≡◌, ℕ, ◌≤◌, Bool, true, false, cond, not, ◌&&◌, ◌||◌, List, Option}
 use Rattle.std.proofs.Common.{Some, None, refl, sym, ap, ◌∙◌, subst, true≢false, arith}
 use Rattle.std.specs.Prelude.{nat_le}
+use Rattle.std.proofs.lemmas.Bool.{le-leb}
 use Rattle.std.proofs.lemmas.Bool.Decides.{nat_tests}
 use Rattle.its_geometry.specs.Area.{GeoArea}
 use Rattle.its_headers.specs.Fields.{kind_of_body, area_in}
@@ -20,12 +21,13 @@ use Rattle.its_duties.specs.declared.verdict.Verdict.TheVariants.{Pass}
 use Rattle.its_duties.specs.Seen.{Seen, AreRead}
 use Rattle.its_duties.specs.Verdicts.{is_fail}
 use Rattle.its_duties.specs.Places.{position_in, is_surely_inside}
-use Rattle.its_duties.specs.Heard.{has_room}
+use Rattle.its_duties.specs.Heard.{has_room, sources_in}
 use Rattle.its_duties.specs.Duties.{IsModelled, NoScenario}
 use Rattle.its_duties.specs.Relays.{is_simple}
 use Rattle.its_duties.specs.Owed.{is_forwarded, is_other_forwarded, is_broadcast, is_inside, unless}
 use Rattle.its_duties.specs.Owed.{or_this, claims_reason, packet_reason, capture_reason, reason}
-use Rattle.its_duties.specs.Owed.{owed_by, may_be_owed, owed_in, owed_of, owed_verdict, IsFound}
+use Rattle.its_duties.specs.Owed.{owed_by, may_be_owed, owed_in, owed_of, owed_verdict}
+use Rattle.its_duties.specs.Owed.{sources_at, IsFound}
 use Rattle.its_duties.proofs.Frames.{some_is}
 use Rattle.its_duties.proofs.RelayLaws.{and_first, and_second, simple_is}
 use Rattle.its_duties.proofs.InsideLaws.{inside_by}
@@ -87,6 +89,12 @@ inside_is Inside e = refl
 inside_is Outside e = absurd (true≢false (sym e))
 inside_is Unsure e = absurd (true≢false (sym e))
 
+-- room for so many is room for fewer
+room_for : (o : Option ℕ) (few many : ℕ) → few ≤ many → has_room o many ≡ true
+    → has_room o few ≡ true
+room_for None few many le e = e
+room_for (Some room) few many le e = le-leb few room (omega (arith, le, is_at_most many room e))
+
 -- ---- a geobroadcast
 
 broadcast_proof : (k : Claims) (tap : List Seen) (i : ℕ) (r : Seen) (t : Transmission) (n : ℕ)
@@ -145,7 +153,7 @@ broadcast_proof k tap i r t n p area message v all modelled found body e fails =
         known_from = found.is_known_from (and_second p.late p.known_from before);
         new = found.is_new (and_first p.new (nat_le 2 t.hops_left) new_hops);
         copies = found.are_copies (head p.copies reasons.OtherPacket _ packet_three);
-        room = subst (λ (m : ℕ). has_room k.capacity m ≡ true) found.sources_are
+        room = room_for k.capacity (sources_in k (sources_at k r) tap) p.sources found.sources_are
             (head (has_room k.capacity p.sources) reasons.TableFull _ packet_four);
         steady = holds k.steady reasons.Restarted packet_five;
         inside = inside_by k area

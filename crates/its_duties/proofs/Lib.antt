@@ -27,4 +27,5 @@ pub mod AllLaws
 pub mod RowsOfBeacons
 pub mod RowsOfRelays
 pub mod RowsOfOwed
+mod RowsOfWire
 mod RowsOfPlaces

@@ -243,7 +243,7 @@ pub record IsFound (k : Claims) (tap : List Seen) (i : ℕ) (r : Seen) (t : Tran
   pub are_copies : p.copies ≡ true → (m : ℕ) (s : Seen) (u : Transmission)
       → IsOther k tap i t.pdu.vector.address n m s → lies_in (processed_in k r) s ≡ true
       → s.frame ≡ Some u → IsCopy k t.pdu u.pdu × (2 ≤ u.hops_left)
-  pub sources_are : p.sources ≡ sources_in k (sources_at k r) tap
+  pub sources_are : sources_in k (sources_at k r) tap ≤ p.sources
   pub until_is : IsUntil k tap r t.pdu.vector.address n until
   pub is_going_on : p.goes_on ≡ true
       → until + lag k + wait k + by_retry r.wireless ≤ end_of k tap

@@ -1,4 +1,4 @@
--- A capture of a wire: all is claimed, each record is read, and what belongs together can be told by
+-- A capture of a wire: all is claimed, each record is read, and what belongs together is known by
 -- its time.
 use Rattle.std.specs.Prelude.{◌≡◌, ◌≢◌, ◌⊎◌, ℕ, ◌+◌, ◌*◌, ◌≤◌, ◌<◌, true, false, List, [], Some}
 use Rattle.std.specs.Prelude.{slice_get, ◌-◌}

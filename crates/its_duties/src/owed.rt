@@ -49,7 +49,8 @@ pub struct OwedSearch {
     pub new: bool,
     /// Each other record of its number up to the longest wait after it is a copy with another hop.
     pub copies: bool,
-    /// So many sources were heard from a source's life before it to the longest wait after it.
+    /// At most so many sources were heard from a source's life before it to the longest wait after
+    /// it.
     pub sources: u32,
     /// The capture has each frame that it may have caused.
     pub goes_on: bool,
