@@ -1,4 +1,5 @@
--- The role that octets tell is that of the record, and what isn't read is told so.
+-- The role by octets is that of the record, and a record that may have been processed unread has the
+-- role for that.
 use Rattle.std.proofs.Common.{◌≡◌, ◌⊎◌, ℕ, Bool, true, false, cond, not, ◌&&◌, ◌||◌, List, length}
 use Rattle.std.proofs.Common.{◌++◌, Option, Some, None, eqb, refl, sym, ap, subst, ◌∙◌, true≢false, arith}
 use Rattle.std.proofs.Common.{inl, inr, drop, take, ◌≤◌, ◌<◌}
@@ -19,7 +20,10 @@ use Rattle.its_duties.specs.Seen.{Seen, IsRead, Carries, HasOctets, is_number, l
 use Rattle.its_duties.specs.Seen.{link_target_of}
 use Rattle.its_duties.specs.Seen.{is_geonetworking, is_judged_on, is_of, is_of_other, is_for_it}
 use Rattle.its_duties.specs.Seen.{comes_to_it, has_no_type, is_secured, IsUnread}
+use Rattle.its_duties.specs.Seen.{is_sent, is_own, is_relay, is_unread_sent, is_heard, named_source}
+use Rattle.its_duties.specs.Heard.{is_unread_of_it, may_be_own, may_be_relay}
 use Rattle.its_duties.specs.Roles.{is_longer, may_be_longer, role_of, IsFrameIn, IsRecord, role_by}
+use Rattle.its_duties.specs.Roles.{may_process, is_sent_other, is_unread_role}
 use Rattle.its_duties.proofs.Kept.{InRange}
 use Rattle.its_duties.proofs.Read.{no_packet_fault}
 use Rattle.its_duties.proofs.RelayLaws.{and_first, and_second}
@@ -169,7 +173,7 @@ neither true b e = absurd (true≢false e)
 neither false b e = refl
 
 -- if it comes to the station
-told : (untyped mac judged geo for may : Bool) → (untyped || (not mac && for && geo)) ≡ true
+unread_role_of : (untyped mac judged geo for may : Bool) → (untyped || (not mac && for && geo)) ≡ true
     → may ≡ true
     → (cond untyped roles.Untyped
     (cond (judged && mac && geo && false) roles.Own
@@ -185,13 +189,13 @@ told : (untyped mac judged geo for may : Bool) → (untyped || (not mac && for &
     (cond (not mac && for && false) roles.Heard
     (cond (not mac && for && geo && may) roles.Unread
     (cond (judged && mac && not geo) roles.SentOther roles.Other)))))) ≡ roles.Untyped)
-told true mac judged geo for may e is = inr refl
-told false true judged geo for may e is = absurd (true≢false (sym e))
-told false false true true true true e is = inl refl
-told false false false true true true e is = inl refl
-told false false judged geo for false e is = absurd (true≢false (sym is))
-told false false judged false true true e is = absurd (true≢false (sym e))
-told false false judged geo false true e is = absurd (true≢false (sym e))
+unread_role_of true mac judged geo for may e is = inr refl
+unread_role_of false true judged geo for may e is = absurd (true≢false (sym e))
+unread_role_of false false true true true true e is = inl refl
+unread_role_of false false false true true true e is = inl refl
+unread_role_of false false judged geo for false e is = absurd (true≢false (sym is))
+unread_role_of false false judged false true true e is = absurd (true≢false (sym e))
+unread_role_of false false judged geo false true e is = absurd (true≢false (sym e))
 
 unread_at : (f : FrameSource) (k : Claims) (r : Seen) → IsFrameIn r f → IsRead r → IsUnread k r
     → (role_of k r (may_be_longer f) ≡ roles.Unread) ⊎ (role_of k r (may_be_longer f) ≡ roles.Untyped)
@@ -204,7 +208,7 @@ unread_at (NoFrame fault) k r is read u =
     subst (λ (o : Option Transmission).
     (role_with k r (is_longer fault) o ≡ roles.Unread)
     ⊎ (role_with k r (is_longer fault) o ≡ roles.Untyped)) (sym is.0)
-    (told (has_no_type r) (is_number k.mac (link_source_of r))
+    (unread_role_of (has_no_type r) (is_number k.mac (link_source_of r))
     (is_judged_on k.interface r.interface) (is_geonetworking r)
     (is_for_it k.mac (link_target_of r))
     (not k.profile || r.cut || is_secured r || is_longer fault) u.comes
@@ -222,3 +226,63 @@ pub unread_proof : (k : Claims) (v : RecordFacts) (octets : List ℕ) (r : Seen)
 unread_proof k v octets r role e is read u =
     subst (λ (x : Role). (x ≡ roles.Unread) ⊎ (x ≡ roles.Untyped))
     (sym (e ∙ role_proof k v octets r is)) (unread_at v.frame k r is.frame read u)
+
+-- ---- what it may have sent
+
+unread_role_by : (untyped own other unread heard may sent_other : Bool)
+    → (unread ≡ true → (own ≡ false) × (other ≡ false))
+    → (unread || untyped)
+    ≡ is_unread_role
+    (cond untyped roles.Untyped
+    (cond own roles.Own
+    (cond other roles.Forwarded
+    (cond unread roles.SentUnread
+    (cond heard roles.Heard
+    (cond may roles.Unread (cond sent_other roles.SentOther roles.Other)))))))
+unread_role_by true own other true heard may sent_other h = refl
+unread_role_by true own other false heard may sent_other h = refl
+unread_role_by false true other true heard may sent_other h = absurd (true≢false (h refl).0)
+unread_role_by false false true true heard may sent_other h = absurd (true≢false (h refl).1)
+unread_role_by false false false true heard may sent_other h = refl
+unread_role_by false true other false heard may sent_other h = refl
+unread_role_by false false true false heard may sent_other h = refl
+unread_role_by false false false false true may sent_other h = refl
+unread_role_by false false false false false true sent_other h = refl
+unread_role_by false false false false false false true h = refl
+unread_role_by false false false false false false false h = refl
+
+not_read : (o : Option Transmission) (address : ℕ) (sent : Bool) → (sent && is_none o) ≡ true
+    → ((sent && is_of address o) ≡ false) × ((sent && is_of_other address o) ≡ false)
+not_read None address true e = (refl, refl)
+not_read None address false e = (refl, refl)
+not_read (Some t) address true e = absurd (true≢false (sym e))
+not_read (Some t) address false e = absurd (true≢false (sym e))
+
+unread_of_it : (k : Claims) (r : Seen) (longer : Bool)
+    → is_unread_of_it k r ≡ is_unread_role (role_of k r longer)
+unread_of_it k r longer =
+    unread_role_by (has_no_type r) (is_own k r) (is_relay k r) (is_unread_sent k r) (is_heard k r)
+    (may_process k r longer) (is_sent_other k r)
+    (not_read r.frame k.address (is_sent k r))
+
+pub own_maybe : (k : Claims) (role : Role) (octets : List ℕ) (r : Seen) (longer : Bool)
+    → role ≡ role_of k r longer → octets ≡ r.octets
+    → (is_unread_role role && (is_number k.address (named_source octets)
+    || is_none (named_source octets))) ≡ may_be_own k r
+own_maybe k role octets r longer is same =
+    ap (λ (x : Role). is_unread_role x && (is_number k.address (named_source octets)
+    || is_none (named_source octets))) is
+    ∙ ap (λ (b : Bool). b && (is_number k.address (named_source octets)
+    || is_none (named_source octets))) (sym (unread_of_it k r longer))
+    ∙ ap (λ (w : List ℕ). is_unread_of_it k r && (is_number k.address (named_source w)
+    || is_none (named_source w))) same
+
+pub relay_maybe : (k : Claims) (role : Role) (octets : List ℕ) (r : Seen) (longer : Bool)
+    → role ≡ role_of k r longer → octets ≡ r.octets
+    → (is_unread_role role && not (is_number k.address (named_source octets)))
+    ≡ may_be_relay k r
+relay_maybe k role octets r longer is same =
+    ap (λ (x : Role). is_unread_role x && not (is_number k.address (named_source octets))) is
+    ∙ ap (λ (b : Bool). b && not (is_number k.address (named_source octets)))
+    (sym (unread_of_it k r longer))
+    ∙ ap (λ (w : List ℕ). is_unread_of_it k r && not (is_number k.address (named_source w))) same

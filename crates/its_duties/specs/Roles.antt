@@ -58,6 +58,17 @@ role_of k r longer =
     else if is_sent_other k r then roles.SentOther
     else roles.Other
 
+-- the station may have sent it, and it isn't read
+abbrev pub is_unread_role : Role → Bool
+is_unread_role roles.Own = false
+is_unread_role roles.Forwarded = false
+is_unread_role roles.SentUnread = true
+is_unread_role roles.SentOther = false
+is_unread_role roles.Heard = false
+is_unread_role roles.Unread = false
+is_unread_role roles.Untyped = true
+is_unread_role roles.Other = false
+
 -- ---- the same by octets
 
 -- this was read of the record

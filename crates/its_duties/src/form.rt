@@ -70,7 +70,7 @@ fn judge_fault(address: GnAddress, octets: &[u8], fault: FrameFault) -> Verdict
 }
 
 /// Whether the octets name this source.
-fn is_named(address: GnAddress, octets: &[u8]) -> bool
+pub(crate) fn is_named(address: GnAddress, octets: &[u8]) -> bool
     ensures { result ≡ is_number address (named_source octets.now) }
 {
     match named_source(octets) {

@@ -71,6 +71,6 @@ pub use once::{EarlierRelay, RelayAgain, judge_once};
 pub use owed::{OwedSearch, RelaySeen, judge_relay_owed};
 pub use own::{judge_hops, judge_kind, judge_lifetime, judge_link_target, judge_mobile};
 pub use relays::{PacketOrigin, RelaySearch, judge_faithful, judge_in_time};
-pub use role::{FrameSource, RecordFacts, Role, role_of};
+pub use role::{FrameSource, RecordFacts, Role, may_be_own, may_be_relay, role_of};
 pub use spans::{doubt_between, lag, longest, slack, wait};
 pub use verdict::{Breach, Doubt, NotOwed, Verdict};

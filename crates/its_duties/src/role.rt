@@ -1,14 +1,17 @@
 //! What a record of a capture is to the station.
 
-ghost use Rattle.std.specs.Prelude.{◌≡◌, ◌⊎◌, ◌||◌, not};
+ghost use Rattle.std.specs.Prelude.{◌≡◌, ◌⊎◌, ◌&&◌, ◌||◌, Bool, not, is_none};
 ghost use Rattle.its_duties.specs.Seen.{Seen, IsRead, IsUnread, is_number, is_for_it, is_judged_on};
 ghost use Rattle.its_duties.specs.Roles.{IsRecord, role_of, role_by, is_longer, may_be_longer};
 ghost use Rattle.its_duties.specs.Roles.{has_type, is_geonetworking_in, is_secured_in};
 ghost use Rattle.its_duties.specs.Roles.{link_target_in, sent_role, sender_role, unread_role};
-ghost use Rattle.its_duties.specs.Roles.{receiver_role_by};
+ghost use Rattle.its_duties.specs.Roles.{receiver_role_by, is_unread_role};
+ghost use Rattle.its_duties.specs.Seen.{named_source};
+ghost use Rattle.its_duties.specs.Heard.{may_be_own, may_be_relay};
 
 use crate::claims::Claims;
-use crate::octets::{octet_at, u16_at, u48_at};
+use crate::form::is_named;
+use crate::octets::{named_source, octet_at, u16_at, u48_at};
 use byteorder::{BigEndian, ByteOrder};
 use its_faults::FrameFault;
 use its_gnvalue::{GnAddress, Mac};
@@ -84,6 +87,61 @@ pub fn role_of(claims: &Claims, facts: &RecordFacts, octets: &[u8]) -> Role
         → (result ≡ Role.Unread) ⊎ (result ≡ Role.Untyped) }
 {
     role_by(claims, facts, octets)
+}
+
+/// Returns whether a record with this role may be a packet of the station's own that isn't read: it
+/// names the station as its source, or it names none.
+///
+/// - `role`: it is so of each record that has this role and these octets.
+pub fn may_be_own(claims: &Claims, role: Role, octets: &[u8]) -> bool
+    ensures value { result
+        ≡ (is_unread_role role && (is_number claims.now.address (named_source octets.now)
+        || is_none (named_source octets.now))) }
+    ensures role { (r : Seen) (longer : Bool) → role ≡ role_of claims.now r longer
+        → octets.now ≡ r.octets → result ≡ may_be_own claims.now r }
+{
+    may_be_own_of(claims, role, octets)
+}
+
+/// The same by its octets.
+fn may_be_own_of(claims: &Claims, role: Role, octets: &[u8]) -> bool
+    ensures { result
+        ≡ (is_unread_role role && (is_number claims.now.address (named_source octets.now)
+        || is_none (named_source octets.now))) }
+{
+    is_unread_role(role) && (is_named(claims.address, octets) || named_source(octets).is_none())
+}
+
+/// Returns whether a record with this role may be a packet that the station forwarded and that isn't
+/// read: it names another source, or it names none.
+///
+/// - `role`: it is so of each record that has this role and these octets.
+pub fn may_be_relay(claims: &Claims, role: Role, octets: &[u8]) -> bool
+    ensures value { result
+        ≡ (is_unread_role role && not (is_number claims.now.address (named_source octets.now))) }
+    ensures role { (r : Seen) (longer : Bool) → role ≡ role_of claims.now r longer
+        → octets.now ≡ r.octets → result ≡ may_be_relay claims.now r }
+{
+    may_be_relay_of(claims, role, octets)
+}
+
+/// The same by its octets.
+fn may_be_relay_of(claims: &Claims, role: Role, octets: &[u8]) -> bool
+    ensures { result
+        ≡ (is_unread_role role && not (is_number claims.now.address (named_source octets.now))) }
+{
+    is_unread_role(role) && !is_named(claims.address, octets)
+}
+
+/// Whether the station may have sent a record with this role that isn't read.
+fn is_unread_role(role: Role) -> bool
+    ensures { result ≡ is_unread_role role }
+{
+    match role {
+        Role::SentUnread | Role::Untyped => true,
+        Role::Own | Role::Forwarded | Role::SentOther | Role::Heard | Role::Unread | Role::Other =>
+            false,
+    }
 }
 
 /// What a record is.
