@@ -1,7 +1,7 @@
 -- Data frames of IEEE 802.11 with LLC and SNAP (IEEE 802) before the type, from an octet of a record
 -- on: octet 0 of the frame is the record's octet `at`.
 use Rattle.std.specs.Prelude.{◌≡◌, ◌≢◌, ℕ, ◌+◌, ◌*◌, ◌/◌, ◌%◌, ◌<◌, ◌≤◌, ◌⊎◌, Bool, true, false}
-use Rattle.std.specs.Prelude.{◌&&◌, ◌==◌, if◌then◌else◌, List, length, drop, slice_index}
+use Rattle.std.specs.Prelude.{◌&&◌, ◌==◌, if◌then◌else◌, List, length, drop, nat_lt, slice_index}
 use Rattle.byteorder.specs.Endian.{big_number}
 use Rattle.cap_linklayers.specs.declared.ieee80211.DataHeader.{DataHeader}
 use Rattle.cap_linklayers.specs.declared.link.LinkFault.{LinkFault}
@@ -90,3 +90,7 @@ IsHeaderFault filled w at faults.Kind =
     ⊎ (BeginsData w at × IsWhole filled w at × IsGathered w at)
     ⊎ (BeginsData w at × IsWhole filled w at × (¬ IsGathered w at)
     × (big_number 6 (drop (llc_at filled w at) w) ≢ snap_number))
+
+-- whether the frame control that begins there has the retry bit, bit 3 of its second octet
+abbrev pub is_retry_at : List ℕ → ℕ → Bool
+is_retry_at w at = nat_lt (at + 1) (length w) && has_bit 8 (slice_index w (at + 1))

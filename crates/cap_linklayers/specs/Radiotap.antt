@@ -3,7 +3,7 @@ use Rattle.std.specs.Prelude.{◌≡◌, ◌≢◌, ℕ, ◌+◌, ◌*◌, ◌/�
 use Rattle.std.specs.Prelude.{if◌then◌else◌, List, length, drop, slice_index, Option, Some, None, ℤ}
 use Rattle.std.specs.Int.{w8, cast_signed}
 use Rattle.byteorder.specs.Endian.{little_number}
-use Rattle.cap_linklayers.specs.Ieee80211.{has_bit}
+use Rattle.cap_linklayers.specs.Ieee80211.{has_bit, is_retry_at}
 use Rattle.cap_linklayers.specs.declared.radiotap.RadiotapHeader.{RadiotapHeader}
 use Rattle.cap_linklayers.specs.declared.link.LinkFault.{LinkFault}
 use Rattle.cap_linklayers.specs.declared.link.LinkFault.TheVariants as faults
@@ -119,3 +119,10 @@ abbrev pub IsSignal : List ℕ → Option ℤ → Type 0
 IsSignal w None = (octet : ℕ) → ¬ HasOctet has_signal signal_at w octet
 IsSignal w (Some dbm) =
     (octet : ℕ) × HasOctet has_signal signal_at w octet × (dbm ≡ cast_signed w8 octet)
+
+-- ---- the retry bit
+
+-- whether the header of IEEE 802.11 that comes after this one has the retry bit
+abbrev pub IsRetryBehind : List ℕ → Bool → Type 0
+IsRetryBehind w retry =
+    (IsThere w → retry ≡ is_retry_at w (length_of w)) × (¬ IsThere w → retry ≡ false)

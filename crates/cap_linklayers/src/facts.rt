@@ -3,8 +3,9 @@
 ghost use Rattle.cap_linklayers.specs.Facts.{AreFacts, AreNone};
 
 use crate::ethernet::vlan_of;
+use crate::ieee80211::is_retry;
 use crate::link::LinkLayer;
-use crate::radiotap::{rate_of, signal_of};
+use crate::radiotap::{is_retry_behind, rate_of, signal_of};
 
 /// What the headers of a link layer say of a record beside its frame.
 #[derive(Clone, Copy, Debug, PartialEq, Eq)]
@@ -15,6 +16,8 @@ pub struct LinkFacts {
     pub signal: Option<i8>,
     /// The rate in units of 500 kbit/s, from radiotap.
     pub rate: Option<u8>,
+    /// Whether the frame is a retry, by the bit of IEEE 802.11.
+    pub retry: bool,
 }
 
 impl LinkFacts {
@@ -26,6 +29,7 @@ impl LinkFacts {
             vlan: None,
             signal: None,
             rate: None,
+            retry: false,
         }
     }
 
@@ -42,11 +46,14 @@ impl LinkFacts {
             LinkLayer::Radiotap => LinkFacts {
                 signal: signal_of(octets),
                 rate: rate_of(octets),
+                retry: is_retry_behind(octets),
                 ..LinkFacts::none()
             },
-            LinkLayer::Bare | LinkLayer::Ieee80211 | LinkLayer::Sll | LinkLayer::Sll2 => {
-                LinkFacts::none()
-            }
+            LinkLayer::Ieee80211 => LinkFacts {
+                retry: is_retry(octets, 0),
+                ..LinkFacts::none()
+            },
+            LinkLayer::Bare | LinkLayer::Sll | LinkLayer::Sll2 => LinkFacts::none(),
         }
     }
 }

@@ -1,7 +1,7 @@
 //! Data frames of IEEE 802.11, whose type stands behind LLC and SNAP.
 
 ghost use Rattle.std.specs.Prelude.{◌≡◌, ◌↔◌, ◌+◌, ◌<◌, ◌≤◌, ◌^◌, IfOk, IfErr, IsTrue, length};
-ghost use Rattle.cap_linklayers.specs.Ieee80211.{IsData, IsHeader, IsHeaderFault, has_bit};
+ghost use Rattle.cap_linklayers.specs.Ieee80211.{IsData, IsHeader, IsHeaderFault, has_bit, is_retry_at};
 ghost use Rattle.cap_linklayers.specs.Ieee80211.{address_octets, control_octets, llc_at, IsGathered};
 ghost use Rattle.cap_linklayers.specs.Ieee80211.{target_octet, source_octet};
 
@@ -22,6 +22,8 @@ const TO_DS: u8 = 0x01;
 const FROM_DS: u8 = 0x02;
 
 const MORE_FRAGMENTS: u8 = 0x04;
+
+const RETRY: u8 = 0x08;
 
 const PROTECTED: u8 = 0x40;
 
@@ -112,6 +114,15 @@ fn is_data(octets: &[u8], at: usize) -> bool
 {
     let (kind, flags) = (octets[at], octets[at + 1]);
     (kind == DATA || kind == QOS_DATA) && !has(flags, MORE_FRAGMENTS) && !has(flags, PROTECTED)
+}
+
+/// Whether the frame control that begins at this octet has the retry bit: the frame was sent before,
+/// and not acknowledged. `false` if the record ends before.
+pub(crate) fn is_retry(octets: &[u8], at: usize) -> bool
+    requires { at ≤ 65535 }
+    ensures { result ≡ is_retry_at octets.now at }
+{
+    at + 1 < octets.len() && has(octets[at + 1], RETRY)
 }
 
 /// Whether the octet has the bit of this value.

@@ -3,10 +3,10 @@
 ghost use Rattle.std.specs.Prelude.{◌≡◌, ◌<◌, ◌≤◌, ◌+◌, ◌*◌, ℕ, IfOk, IfErr, IfSome, IfNone, length};
 ghost use Rattle.cap_linklayers.specs.Radiotap.{IsRadiotap, IsRadiotapFault, IsLastWord, HasFlagsAt};
 ghost use Rattle.cap_linklayers.specs.Radiotap.{IsThere, length_of, flags_at, rate_at, rate_end};
-ghost use Rattle.cap_linklayers.specs.Radiotap.{channel_end, signal_at, IsRate, IsSignal};
+ghost use Rattle.cap_linklayers.specs.Radiotap.{channel_end, signal_at, IsRate, IsRetryBehind, IsSignal};
 ghost use Rattle.cap_linklayers.specs.declared.link.LinkFault.TheVariants as faults;
 
-use crate::ieee80211::has;
+use crate::ieee80211::{has, is_retry};
 use crate::link::LinkFault;
 use byteorder::{ByteOrder, LittleEndian};
 
@@ -159,6 +159,17 @@ pub(crate) fn signal_of(octets: &[u8]) -> Option<i8>
         Some(octets[place].cast_signed())
     } else {
         None
+    }
+}
+
+/// Whether the header of IEEE 802.11 behind this one has the retry bit. `false` if one of them isn't
+/// there.
+pub(crate) fn is_retry_behind(octets: &[u8]) -> bool
+    ensures { IsRetryBehind octets.now result }
+{
+    match size_of(octets) {
+        Some(size) => is_retry(octets, size),
+        None => false,
     }
 }
 
