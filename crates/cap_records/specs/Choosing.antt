@@ -1,13 +1,16 @@
 -- Which records of a capture are chosen.
-use Rattle.std.specs.Prelude.{ℕ, ◌&&◌, ◌==◌, Bool, true, false, not, nat_le, Option, Some, None}
-use Rattle.std.specs.Prelude.{is_none}
+use Rattle.std.specs.Prelude.{ℕ, ◌&&◌, ◌||◌, ◌==◌, Bool, true, false, not, nat_le, Option, Some, None}
+use Rattle.std.specs.Prelude.{is_none, length}
+use Rattle.std.specs.List.{list_all, list_any}
 use Rattle.its_headers.specs.declared.kind.Kind.{Kind}
 use Rattle.its_headers.specs.declared.kind.Kind.TheVariants as profile
 use Rattle.its_outside.specs.declared.kind.StandardKind.{StandardKind}
 use Rattle.its_outside.specs.declared.kind.StandardKind.TheVariants as kinds
+use Rattle.cap_records.specs.Conditions.{has_kind, listed, meets}
 use Rattle.cap_records.specs.declared.choosing.Kinds.{Kinds}
 use Rattle.cap_records.specs.declared.choosing.Traits.{Traits}
 use Rattle.cap_records.specs.declared.choosing.Choice.{Choice}
+use Rattle.cap_records.specs.declared.condition.Conditions.{Conditions}
 
 -- none
 abbrev pub no_kinds : Kinds
@@ -21,17 +24,6 @@ no_kinds = record {
   ls_request = false;
   ls_reply = false;
 }
-
--- whether a kind is one of these
-abbrev pub has_kind : Kinds → StandardKind → Bool
-has_kind those kinds.Beacon = those.beacon
-has_kind those kinds.Guc = those.guc
-has_kind those kinds.Gac = those.gac
-has_kind those kinds.Gbc = those.gbc
-has_kind those kinds.Shb = those.shb
-has_kind those kinds.Tsb = those.tsb
-has_kind those kinds.LsRequest = those.ls_request
-has_kind those kinds.LsReply = those.ls_reply
 
 -- the kind of the standard that a kind of the profile is
 abbrev pub standard_kind : Kind → StandardKind
@@ -71,9 +63,22 @@ abbrev pub is_chosen_frame : Choice → Option Traits → Bool
 is_chosen_frame choice (Some frame) = not choice.refused && holds choice frame
 is_chosen_frame choice None = asks_nothing choice
 
+-- whether one of the conditions holds, or there are none
+abbrev pub allows_any : Conditions → Option Traits → Bool
+allows_any those frame =
+    (length (listed those) == 0) || list_any (λ c. meets c frame) (listed those)
+
+-- whether the lists of conditions let a record be chosen, with this frame or with none: all of those
+-- hold of which all have to, one of those of which one has to, and none of those that leave out
+abbrev pub meets_lists : Choice → Option Traits → Bool
+meets_lists choice frame =
+    list_all (λ c. meets c frame) (listed choice.all) && allows_any choice.any frame
+    && not (list_any (λ c. meets c frame) (listed choice.leaves_out))
+
 -- whether a record of this moment is chosen: all holds that is asked for
 abbrev pub is_chosen : Choice → ℕ → Option Traits → Bool
-is_chosen choice moment frame = is_chosen_frame choice frame && nat_le choice.since moment
+is_chosen choice moment frame =
+    (is_chosen_frame choice frame && meets_lists choice frame) && nat_le choice.since moment
     && nat_le moment choice.until
 
 -- the same of a record of which it is known whether it is of another protocol than GeoNetworking, or of

@@ -5,6 +5,7 @@ pub mod SignedFrames
 pub mod Selections
 pub mod Pulls
 pub mod Walks
+pub mod Conditions
 pub mod Choosing
 pub mod Messages
 pub mod OutsideFrames

@@ -1,6 +1,7 @@
 -- Frames that the standard lays out and the profile doesn't have, and the records that have them.
 use Rattle.std.specs.Prelude.{◌≡◌, ◌≤◌, ◌⊎◌, ℕ, List, length, take, drop, All}
-use Rattle.std.specs.Prelude.{Bool, true, false, Option, Some, None}
+use Rattle.std.specs.Prelude.{Bool, true, false, Option, Some, None, ◌||◌, ◌==◌, cond, nat_lt}
+use Rattle.std.specs.Prelude.{ℤ, pos, negsuc, int_lt}
 use Rattle.byteorder.specs.Endian.{big_number}
 use Rattle.cap_linklayers.specs.LinkLayers.{IsFrameIn, IsLinkFault}
 use Rattle.cap_linklayers.specs.declared.link.LinkLayer.{LinkLayer}
@@ -8,12 +9,19 @@ use Rattle.cap_linklayers.specs.declared.link.LinkLayer.TheVariants as layers
 use Rattle.cap_pcap.specs.Records.{fault_of}
 use Rattle.cap_pcap.specs.declared.record.RecordHeader.{RecordHeader}
 use Rattle.its_faults.specs.declared.secured.SecuredFault.{SecuredFault}
+use Rattle.its_geometry.specs.Area.{GeoArea}
+use Rattle.its_gnvalue.specs.Values.{Position}
+use Rattle.its_geometry.specs.declared.area.Shape.{Shape}
+use Rattle.its_geometry.specs.declared.area.Shape.TheVariants as shapes
 use Rattle.its_linkframe.specs.FrameFaults.{IsGeoNetworking}
 use Rattle.its_linkframe.specs.Secured.{IsVerifiedFault}
 use Rattle.its_model.specs.Packet.{Transmission}
 use Rattle.its_outside.specs.Encoding.{Standard, Encodes}
 use Rattle.its_outside.specs.Kinds.{kind_of_extended}
 use Rattle.its_outside.specs.Outside.{BeginsInProfile, btp_of}
+use Rattle.its_outside.specs.declared.fields.AreaFields.{AreaFields}
+use Rattle.its_outside.specs.declared.fields.ExtendedFields.{ExtendedFields}
+use Rattle.its_outside.specs.declared.fields.ExtendedFields.TheVariants as extended
 use Rattle.its_outside.specs.declared.btp.BtpHeader.{BtpHeader}
 use Rattle.its_outside.specs.declared.btp.BtpHeader.TheVariants as btp
 use Rattle.cap_records.specs.SignedFrames.{HasPlain, IsUnread, inner_frame, plain_octets}
@@ -87,6 +95,61 @@ port_of_btp None = None
 port_of_btp (Some (btp.A destination source)) = Some destination
 port_of_btp (Some (btp.B destination info)) = Some destination
 
+-- the sequence number of a packet that has one
+abbrev pub number_of : ExtendedFields → Option ℕ
+number_of extended.Beacon = None
+number_of (extended.Guc s d) = Some s.number
+number_of (extended.Gac s a) = Some s.number
+number_of (extended.Gbc s a) = Some s.number
+number_of (extended.Shb media) = None
+number_of (extended.Tsb s) = Some s.number
+number_of (extended.LsRequest s sought) = Some s.number
+number_of (extended.LsReply s d) = Some s.number
+
+-- the place of a latitude and a longitude, if they are in range
+abbrev pub place_said : ℤ → ℤ → Option Position
+place_said latitude longitude =
+    cond (int_lt latitude (negsuc 899999999) || int_lt (pos 900000000) latitude) None
+    (cond (int_lt longitude (negsuc 1799999999) || int_lt (pos 1800000000) longitude) None
+    (Some (record { latitude = latitude; longitude = longitude })))
+
+abbrev pub is_circle : Shape → Bool
+is_circle shapes.Circle = true
+is_circle shapes.Rectangle = false
+is_circle shapes.Ellipse = false
+
+-- a circle of this radius
+abbrev pub circle_said : Position → ℕ → Option GeoArea
+circle_said centre radius = cond (radius == 0) None
+    (Some (record { shape = shapes.Circle; centre = centre; a = radius; b = 0; angle = 0 }))
+
+-- a rectangle or an ellipse
+abbrev pub turned_said : Position → AreaFields → Option GeoArea
+turned_said centre f = cond ((f.a == 0) || (f.b == 0) || nat_lt 359 f.angle) None
+    (Some (record { shape = f.shape; centre = centre; a = f.a; b = f.b; angle = f.angle }))
+
+-- the area round this centre, if the distances and the angle are in range. A circle has a radius
+-- alone: what its fields have for b and the angle says nothing.
+abbrev pub area_round : AreaFields → Option Position → Option GeoArea
+area_round f None = None
+area_round f (Some centre) =
+    cond (is_circle f.shape) (circle_said centre f.a) (turned_said centre f)
+
+-- the area that these fields say, if all are in range
+abbrev pub area_said : AreaFields → Option GeoArea
+area_said f = area_round f (place_said f.latitude f.longitude)
+
+-- the destination area of a packet that has one
+abbrev pub area_of : ExtendedFields → Option GeoArea
+area_of extended.Beacon = None
+area_of (extended.Guc s d) = None
+area_of (extended.Gac s a) = area_said a
+area_of (extended.Gbc s a) = area_said a
+area_of (extended.Shb media) = None
+area_of (extended.Tsb s) = None
+area_of (extended.LsRequest s sought) = None
+area_of (extended.LsReply s d) = None
+
 -- what a frame outside the profile is chosen by
 abbrev pub outside_traits : StandardFrame → Traits
 outside_traits s =
@@ -94,7 +157,12 @@ outside_traits s =
       kind = kind_of_extended s.packet.fields.extended;
       source = s.packet.fields.source.address;
       from = s.link_source;
+      to = s.link_target;
       port = port_of_btp (btp_of s.packet.fields.common.next s.packet.payload);
+      left = s.packet.fields.basic.left;
+      class = s.packet.fields.common.class;
+      number = number_of s.packet.fields.extended;
+      area = area_of s.packet.fields.extended;
     }
 
 -- ---- the record

@@ -6,7 +6,7 @@ use Rattle.cap_records.specs.declared.choosing.Traits.{Traits}
 use Rattle.its_faults.specs.declared.frame.FrameFault.{FrameFault}
 use Rattle.its_faults.specs.declared.frame.FrameFault.TheVariants as frames
 use Rattle.its_faults.specs.declared.packet.FaultKind.TheVariants.{BasicNext}
-use Rattle.its_headers.specs.Fields.{kind_of_body}
+use Rattle.its_headers.specs.Fields.{area_in, kind_of_body}
 use Rattle.its_linkframe.specs.FrameFaults.{IsFrameFault}
 use Rattle.its_linkframe.specs.Frames.{EncodesFrame}
 use Rattle.its_linkframe.specs.Padding.{IsUnpadded}
@@ -14,7 +14,7 @@ use Rattle.cap_linklayers.specs.LinkLayers.{IsFrameIn, IsLinkFault}
 use Rattle.cap_linklayers.specs.declared.link.LinkFault.TheVariants as links
 use Rattle.cap_linklayers.specs.declared.link.LinkLayer.{LinkLayer}
 use Rattle.cap_linklayers.specs.declared.link.LinkLayer.TheVariants as layers
-use Rattle.its_model.specs.Packet.{Transmission, Body, beacon, shb, gbc, gac}
+use Rattle.its_model.specs.Packet.{Transmission, Body, beacon, shb, gbc, gac, number_in}
 use Rattle.cap_pcap.specs.Records.{fault_of}
 use Rattle.cap_pcap.specs.declared.record.RecordFault.TheVariants as records
 use Rattle.cap_pcap.specs.declared.record.RecordHeader.{RecordHeader}
@@ -102,7 +102,12 @@ traits_in t =
       kind = standard_kind (kind_of_body t.pdu.body);
       source = t.pdu.vector.address;
       from = t.link_source;
+      to = t.link_target;
       port = port_in t.pdu.body;
+      left = t.hops_left;
+      class = t.pdu.class;
+      number = number_in t.pdu.body;
+      area = area_in t.pdu.body;
     }
 
 -- a record that is refused because it is of another protocol: its link layer isn't read (P3), or says

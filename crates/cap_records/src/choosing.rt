@@ -1,13 +1,16 @@
 //! Which records of a capture a command is over.
 
-ghost use Rattle.std.specs.Prelude.{◌≡◌, ◌<◌, ◌^◌, ℕ, Option, Some, false, true};
+ghost use Rattle.std.specs.Prelude.{◌≡◌, ◌<◌, ◌^◌, ℕ, IsTrue, Option, Some, false, true};
 ghost use Rattle.its_linkframe.specs.Frames.{transmission_of};
 ghost use Rattle.cap_records.specs.declared.choosing.Traits.{Traits};
-ghost use Rattle.cap_records.specs.Choosing.{allows, allows_port, has_kind, has_kind_of, holds as all_holds};
-ghost use Rattle.cap_records.specs.Choosing.{is_chosen as chosen, no_kinds, selects, standard_kind};
+ghost use Rattle.cap_records.specs.Choosing.{allows, allows_any, allows_port, has_kind_of, holds as all_holds};
+ghost use Rattle.cap_records.specs.Choosing.{is_chosen as chosen, meets_lists, no_kinds, selects, standard_kind};
+ghost use Rattle.cap_records.specs.Conditions.{has_kind};
 ghost use Rattle.cap_records.specs.RecordFrames.{port_in, traits_in};
 
-use crate::frame::port_of;
+use crate::condition::Conditions;
+use crate::frame::{port_of, traits_of};
+use its_geometry::Area;
 use its_gnvalue::{GnAddress, Mac};
 use its_headers::Kind;
 use its_linkframe::FrameView;
@@ -89,8 +92,18 @@ pub struct Traits {
     pub source: u64,
     /// The link address that it comes from.
     pub from: Mac,
+    /// The link address that it goes to.
+    pub to: Mac,
     /// The destination port, where the packet has one.
     pub port: Option<u16>,
+    /// The remaining hop limit (RHL).
+    pub left: u8,
+    /// The traffic class (TC).
+    pub class: u8,
+    /// The sequence number, where the packet has one.
+    pub number: Option<u16>,
+    /// The destination area, where the packet has one whose values are in range.
+    pub area: Option<Area>,
 }
 
 /// Which records are chosen: those of which all holds that is given.
@@ -104,6 +117,12 @@ pub struct Choice {
     pub from: Option<Mac>,
     /// Frames to this port.
     pub port: Option<u16>,
+    /// Records of which all these conditions hold.
+    pub all: Conditions,
+    /// Records of which one of these conditions holds, if there are any.
+    pub any: Conditions,
+    /// Records of which none of these conditions holds.
+    pub leaves_out: Conditions,
     /// Records of this moment in milliseconds and later.
     pub since: u64,
     /// Records of this moment in milliseconds and before.
@@ -129,6 +148,9 @@ impl Choice {
             source: None,
             from: None,
             port: None,
+            all: Conditions::none(),
+            any: Conditions::none(),
+            leaves_out: Conditions::none(),
             since: 0,
             until: u64::MAX,
             refused: false,
@@ -142,7 +164,7 @@ impl Choice {
     pub fn is_chosen(&self, moment: u64, frame: Option<Traits>) -> bool
         ensures { result ≡ chosen self.now moment frame }
     {
-        let is_chosen = match frame {
+        let is_chosen = match &frame {
             Some(traits) => !self.refused && self.holds(traits),
             None => {
                 self.kinds.is_none()
@@ -151,7 +173,23 @@ impl Choice {
                     && self.port.is_none()
             }
         };
-        is_chosen && self.since <= moment && moment <= self.until
+        is_chosen && self.meets_lists(&frame) && self.since <= moment && moment <= self.until
+    }
+
+    /// Whether the lists of conditions let a record with this frame be selected, or one without.
+    fn meets_lists(&self, frame: &Option<Traits>) -> bool
+        ensures { result ≡ meets_lists self.now frame.now }
+    {
+        self.all.has_all(frame)
+            && (self.any.is_empty() || self.any.has_one(frame))
+            && !self.leaves_out.has_one(frame)
+    }
+
+    /// Whether no list has a condition.
+    pub(crate) fn has_no_conditions(&self) -> bool
+        ensures { IsTrue result → (frame : Option Traits) → meets_lists self.now frame ≡ true }
+    {
+        self.all.is_empty() && self.any.is_empty() && self.leaves_out.is_empty()
     }
 
     /// Whether a record of this moment is chosen, of which this is said beside its frame: that it is
@@ -168,7 +206,19 @@ impl Choice {
         ensures { result
             ≡ selects self.now moment (Some (traits_in (transmission_of frame.now))) false }
     {
-        !self.refused && self.holds_of(frame) && self.since <= moment && moment <= self.until
+        !self.refused
+            && self.holds_of(frame)
+            && self.meets_lists_by(frame)
+            && self.since <= moment
+            && moment <= self.until
+    }
+
+    /// Whether the lists of conditions let a record with this frame be selected.
+    fn meets_lists_by(&self, frame: &FrameView<'_>) -> bool
+        ensures { result
+            ≡ meets_lists self.now (Some (traits_in (transmission_of frame.now))) }
+    {
+        self.has_no_conditions() || self.meets_lists(&Some(traits_of(frame)))
     }
 
     /// Whether all holds of this frame that is asked of frames.
@@ -201,8 +251,8 @@ impl Choice {
     }
 
     /// Whether all holds of a frame that is asked of frames.
-    fn holds(&self, frame: Traits) -> bool
-        ensures { result ≡ all_holds self.now frame }
+    fn holds(&self, frame: &Traits) -> bool
+        ensures { result ≡ all_holds self.now frame.now }
     {
         self.has_kind(frame.kind)
             && self.allows_source(frame.source)

@@ -29,6 +29,9 @@ const SHB_PAYLOAD: usize = 40;
 
 const AREA_PAYLOAD: usize = 56;
 
+/// Where an area ends, without the reserved octets after it.
+const AREA_END: usize = 54;
+
 /// Where the source's address ends in a packet for an area, and in another.
 const AREA_ADDRESS_END: usize = 24;
 
@@ -155,7 +158,7 @@ fn complete_distance(room: &mut [u8; LONGEST_FRAME], known: usize, place: usize)
 #[derive(Clone, Copy)]
 pub(crate) struct CutFrame {
     pub(crate) place: FramePlace,
-    /// What it is chosen by. A port of which an octet is missing is none.
+    /// What it is chosen by. A port or an area of which an octet is missing is none.
     pub(crate) traits: Traits,
 }
 
@@ -200,6 +203,7 @@ fn known_traits(frame: &FrameView<'_>, known: usize) -> Traits {
     let end = PACKET.saturating_add(before).saturating_add(PORT);
     Traits {
         port: traits.port.filter(|_| end <= known),
+        area: traits.area.filter(|_| PACKET + AREA_END <= known),
         ..traits
     }
 }

@@ -66,6 +66,7 @@ impl FoundOutside {
         requires { (s : StandardFrame) × IsPlacedOutside octets.now s self.place }
         ensures frame { IsOutsideFrame (octets_at self.place octets.now) (standard_of result) }
         ensures length { result.length ≡ self.place.end - self.place.start }
+        ensures octets { result.octets.now ≡ octets_at self.place octets.now }
         ensures fault { result.fault ≡ self.fault }
     {
         OutsideFrame::of_frame(self.place.octets(octets), self.fault)

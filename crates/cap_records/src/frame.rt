@@ -92,7 +92,12 @@ pub fn traits_of(frame: &FrameView<'_>) -> Traits
         kind: kind_of_standard(frame.packet.kind()),
         source: frame.packet.vector().address().as_u64(),
         from: frame.from,
+        to: frame.to,
         port: port_of(frame),
+        left: frame.packet.left(),
+        class: frame.packet.class().octet(),
+        number: frame.packet.number(),
+        area: frame.packet.area(),
     }
 }
 

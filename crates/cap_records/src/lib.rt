@@ -12,7 +12,8 @@
 //!   its octets are such a frame, whole, but for what Ethernet fills up. All else is refused, by the
 //!   fault that it has without this choice.
 //! - `Choice::is_chosen` and `Selection::has_record` hold if and only if all that is asked for
-//!   holds of the record's time and frame. `cmd_arguments` reads the options.
+//!   holds of the record's time and frame: also all conditions of a list, one of another, and none of
+//!   a third (`Condition::holds`). `cmd_arguments` reads the options.
 //! - A pull returns the next selected record of the file, and skips the others (`Records::next_chosen`,
 //!   clause `next`: `IsNext`). Nothing is read once as many are selected as are wanted.
 //! - `show`, `check` and `stats` see exactly the selected records, each with its frame, but those that
@@ -24,8 +25,8 @@
 //!
 //! - `cases/signed.md`: which records `--signed` selects, and what a walk does with them; that
 //!   `message_in` is what IEEE 1609.2 says, against an encoder and Wireshark.
-//! - `cases/show.md`, `choosing.md`, `links.md`, `bench.md`: that a walk visits exactly the records
-//!   that are chosen.
+//! - `cases/show.md`, `choosing.md`, `conditions.md`, `links.md`, `bench.md`: that a walk visits
+//!   exactly the records that are chosen.
 //! - `checks/packets`: frames that were cut, at each octet.
 //! - `checks/failures`: that the line of a record is printed before the next one is read from a
 //!   pipe.
@@ -37,6 +38,7 @@
 
 mod any_kind;
 pub mod choosing;
+pub mod condition;
 mod counts;
 mod cut;
 mod found;
@@ -52,6 +54,7 @@ mod signed;
 mod walk;
 
 pub use crate::choosing::{Choice, Kinds, Traits, kind_of_standard};
+pub use crate::condition::{Condition, Conditions};
 pub use counts::RecordCounts;
 pub use found::{Found, FoundFrame, FoundOutside, FramePlace, SeenFrame};
 pub use frame::{frame_of, read_from, traits_of};

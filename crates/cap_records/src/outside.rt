@@ -1,19 +1,22 @@
 //! Frames that the standard lays out (EN 302 636-4-1 clause 9) and the profile doesn't have.
 
-ghost use Rattle.std.specs.Prelude.{◌≡◌, ◌≤◌, ◌+◌, ◌↔◌, All, IfNone, IfSome, IsFalse, IsTrue, length, take, drop};
+ghost use Rattle.std.specs.Prelude.{◌≡◌, ◌≤◌, ◌+◌, ◌↔◌, All, false, IfNone, IfSome, IsFalse, IsTrue, length, take, drop};
 ghost use Rattle.byteorder.specs.Endian.{big_number};
 ghost use Rattle.cap_records.specs.OutsideFrames.{EndsAt, IsNotOutside, IsOutsideAt};
 ghost use Rattle.cap_records.specs.OutsideFrames.{IsOutsideFrame};
 ghost use Rattle.cap_records.specs.OutsideFrames.{StandardFrame, is_padded, outside_traits};
-ghost use Rattle.cap_records.specs.OutsideFrames.{port_of_btp, standard_of};
+ghost use Rattle.cap_records.specs.OutsideFrames.{area_of, area_said, circle_said, is_circle};
+ghost use Rattle.cap_records.specs.OutsideFrames.{place_said, turned_said};
+ghost use Rattle.cap_records.specs.OutsideFrames.{number_of, port_of_btp, standard_of};
 ghost use Rattle.its_outside.specs.Outside.{btp_of};
 
 use crate::choosing::Traits;
 use crate::refusal::RecordFault;
 use cap_pcap::LinkLayer;
-use its_gnvalue::Mac;
+use its_geometry::{Area, Shape};
+use its_gnvalue::{Mac, Place};
 use its_linkframe::PACKET;
-use its_outside::{BtpHeader, Fields, OutsidePacket, btp_header};
+use its_outside::{AreaFields, BtpHeader, ExtendedFields, Fields, OutsidePacket, btp_header};
 
 /// Octets of a frame: its target, its source and its type.
 const TARGET: usize = 0;
@@ -43,6 +46,8 @@ pub struct OutsideFrame<'a> {
     pub payload: &'a [u8],
     /// How many octets it has.
     pub length: usize,
+    /// All its octets.
+    pub octets: &'a [u8],
     /// Why a station refuses it: lines have its code.
     pub fault: RecordFault,
 }
@@ -106,6 +111,7 @@ impl<'a> OutsideFrame<'a> {
         requires { (s : StandardFrame) × IsOutsideFrame octets.now s }
         ensures frame { IsOutsideFrame octets.now (standard_of result) }
         ensures length { result.length ≡ length octets.now }
+        ensures octets { result.octets.now ≡ octets.now }
         ensures fault { result.fault ≡ fault }
     {
         let Ok((packet, _)) = OutsidePacket::read(&octets[PACKET..]) else {
@@ -117,6 +123,7 @@ impl<'a> OutsideFrame<'a> {
             fields: packet.fields,
             payload: packet.payload,
             length: octets.len(),
+            octets,
             fault,
         }
     }
@@ -129,7 +136,12 @@ impl<'a> OutsideFrame<'a> {
             kind: self.fields.extended.kind(),
             source: self.fields.source.address,
             from: self.from,
+            to: self.to,
             port: self.port(),
+            left: self.fields.basic.left,
+            class: self.fields.common.class.octet(),
+            number: number_of(&self.fields.extended),
+            area: area_of(&self.fields.extended),
         }
     }
 
@@ -159,6 +171,76 @@ pub(crate) fn traits_of_outside(octets: &[u8], fault: RecordFault) -> Traits
 {
     let frame = OutsideFrame::of_frame(octets, fault);
     frame.traits()
+}
+
+/// The sequence number of a packet that has one.
+fn number_of(extended: &ExtendedFields) -> Option<u16>
+    ensures { result ≡ number_of extended.now }
+{
+    match extended {
+        ExtendedFields::Guc(sequence, _)
+        | ExtendedFields::Gac(sequence, _)
+        | ExtendedFields::Gbc(sequence, _)
+        | ExtendedFields::Tsb(sequence)
+        | ExtendedFields::LsRequest(sequence, _)
+        | ExtendedFields::LsReply(sequence, _) => Some(sequence.number),
+        ExtendedFields::Beacon | ExtendedFields::Shb(_) => None,
+    }
+}
+
+/// The destination area of a packet that has one whose values are in range.
+fn area_of(extended: &ExtendedFields) -> Option<Area>
+    ensures { result ≡ area_of extended.now }
+{
+    match extended {
+        ExtendedFields::Gac(_, area) | ExtendedFields::Gbc(_, area) => area_said(area),
+        _ => None,
+    }
+}
+
+/// The area that these fields say, if all are in range. A circle has a radius alone.
+fn area_said(fields: &AreaFields) -> Option<Area>
+    ensures { result ≡ area_said fields.now }
+{
+    let centre = place_said(fields.latitude, fields.longitude)?;
+    match fields.shape {
+        Shape::Circle => circle_said(centre, fields.a),
+        Shape::Rectangle | Shape::Ellipse => turned_said(centre, fields),
+    }
+}
+
+/// The place of this latitude and longitude, if they are in range.
+fn place_said(latitude: i32, longitude: i32) -> Option<Place>
+    ensures { result ≡ place_said latitude longitude }
+{
+    if latitude < -900_000_000 || latitude > 900_000_000 {
+        return None;
+    }
+    if longitude < -1_800_000_000 || longitude > 1_800_000_000 {
+        return None;
+    }
+    Some(Place::within(latitude, longitude))
+}
+
+/// The circle of this radius, if that is not 0.
+fn circle_said(centre: Place, radius: u16) -> Option<Area>
+    ensures { result ≡ circle_said centre radius }
+{
+    if radius == 0 {
+        return None;
+    }
+    Some(Area::within(Shape::Circle, centre, radius, 0, 0))
+}
+
+/// The rectangle or ellipse round this centre that these fields say, if they are in range.
+fn turned_said(centre: Place, fields: &AreaFields) -> Option<Area>
+    requires { is_circle fields.now.shape ≡ false }
+    ensures { result ≡ turned_said centre fields.now }
+{
+    if fields.a == 0 || fields.b == 0 || fields.angle > 359 {
+        return None;
+    }
+    Some(Area::within(fields.shape, centre, fields.a, fields.b, fields.angle))
 }
 
 /// The link address that begins at this octet.

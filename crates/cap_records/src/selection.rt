@@ -118,6 +118,7 @@ impl Selection {
             && choice.source.is_none()
             && choice.from.is_none()
             && choice.port.is_none()
+            && choice.has_no_conditions()
             && !choice.refused
             && !choice.skips_others
             && choice.since <= moment

@@ -211,6 +211,11 @@ pub fn traits_inside(frame: &VerifiedFrame<'_, '_>) -> Traits
         kind: kind_of_standard(packet.kind()),
         source: packet.vector().address().as_u64(),
         from: frame.secured().from(),
+        to: frame.secured().to(),
         port,
+        left: packet.left(),
+        class: packet.class().octet(),
+        number: packet.number(),
+        area: packet.area(),
     }
 }
