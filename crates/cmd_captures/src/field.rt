@@ -77,6 +77,12 @@ pub enum Field {
     Rate,
     /// Whether the record was cut and is read as far as it goes.
     Cut,
+    /// The media-dependent data of a single-hop broadcast.
+    Media,
+    /// The octets of the frame.
+    Octets,
+    /// Whether the frame is a retry of IEEE 802.11.
+    Retry,
     /// The PSID of a signed packet.
     Psid,
     /// The generation time of a signed packet, in microseconds of TAI since 2004-01-01.
@@ -103,7 +109,7 @@ pub enum Field {
 
 /// All keys, in the order in which the object of a record has them; then that of a refusal, those
 /// that an object has only if they are asked for, and those of packets outside the profile.
-pub const FIELDS: [Field; 45] = [
+pub const FIELDS: [Field; 48] = [
     Field::Moment,
     Field::From,
     Field::To,
@@ -138,6 +144,9 @@ pub const FIELDS: [Field; 45] = [
     Field::Rssi,
     Field::Rate,
     Field::Cut,
+    Field::Media,
+    Field::Octets,
+    Field::Retry,
     Field::Psid,
     Field::Generated,
     Field::Secured,
@@ -194,6 +203,9 @@ impl Field {
             Field::Rssi => "rssi",
             Field::Rate => "rate",
             Field::Cut => "cut",
+            Field::Media => "media",
+            Field::Octets => "octets",
+            Field::Retry => "retry",
             Field::Psid => "psid",
             Field::Generated => "generated",
             Field::Secured => "secured",
@@ -226,6 +238,8 @@ impl Field {
                 | Field::Shape
                 | Field::Payload
                 | Field::Refused
+                | Field::Media
+                | Field::Octets
                 | Field::Outside
                 | Field::Destination
                 | Field::Sought
@@ -252,6 +266,7 @@ impl Field {
             Field::A => PACKET + 50,
             Field::B => PACKET + 52,
             Field::Angle => PACKET + 54,
+            Field::Media => PACKET + 40,
             Field::Port => payload + 2,
             Field::Info | Field::Payload => payload + 4,
             // What comes before the source's address is there in each frame that was read.

@@ -6,11 +6,14 @@ use crate::text::Text;
 use cap_records::RecordPlace;
 use cmd_times::Moment;
 use its_headers::Kind;
-use its_linkframe::FrameView;
+use its_linkframe::{FrameView, PACKET};
 use its_words::frames::{FrameKeys, MessageKeys, TargetKeys};
-use its_words::json_lines::Octets;
+use its_words::json_lines::{Digits, Octets};
 use serde::Serialize;
 use std::alloc::AllocError;
+
+/// The EtherType of GeoNetworking.
+const ETHER_TYPE: [u8; 2] = [0x89, 0x47];
 
 /// What is printed of a frame that was read at a moment, in this order: as keys in JSON, and as
 /// words in text.
@@ -20,11 +23,32 @@ pub(crate) struct FrameLine<'a> {
     moment: Moment,
     #[serde(flatten)]
     keys: FrameKeys<'a>,
+    #[serde(skip_serializing_if = "are_zeros")]
+    media: Option<Digits<4>>,
     #[serde(flatten)]
     secured: Option<SecuredKeys>,
+    /// The octets of the packet.
+    #[serde(skip)]
+    packet: &'a [u8],
     /// How far the octets of the frame go, if it was cut.
     #[serde(skip)]
     cut: Option<Cut>,
+}
+
+/// Whether a packet has no media-dependent data but zeros, which objects leave out.
+pub(crate) fn are_zeros(media: &Option<Digits<4>>) -> bool {
+    match media {
+        Some(media) => media.0 == [0; 4],
+        None => true,
+    }
+}
+
+/// Adds media-dependent data to a text, if there are any.
+pub(crate) fn add_media(media: Option<Digits<4>>, text: &mut Text) -> Result<(), AllocError> {
+    match media {
+        Some(media) => text.digits("", &media.0),
+        None => Ok(()),
+    }
 }
 
 /// How far the octets of a frame go that was cut.
@@ -65,7 +89,9 @@ impl<'a> FrameLine<'a> {
                 message: keys.message.map(|message| message_within(message, cut)),
                 ..keys
             },
+            media: frame.packet.media().map(Digits),
             secured: place.secured.map(|facts| SecuredKeys::of(&facts)),
+            packet: frame.packet.octets(),
             cut,
         }
     }
@@ -104,12 +130,26 @@ impl<'a> FrameLine<'a> {
         match field {
             Field::Moment => text.moment(self.moment),
             Field::Cut if self.cut.is_some() => text.word("true"),
+            Field::Media => add_media(self.media, text),
+            Field::Octets => self.add_octets_to(text),
             Field::Psid | Field::Generated | Field::Secured => match &self.secured {
                 Some(secured) => secured.add_value_to(field, text),
                 None => Ok(()),
             },
             _ => add_key_value(&self.keys, field, text),
         }
+    }
+
+    /// Adds the octets of the frame to a text: those that are there.
+    fn add_octets_to(&self, text: &mut Text) -> Result<(), AllocError> {
+        text.digits("", &self.keys.to.0)?;
+        text.digits("", &self.keys.from.0)?;
+        text.digits("", &ETHER_TYPE)?;
+        let there = match self.cut {
+            Some(cut) => cut.known.saturating_sub(PACKET),
+            None => self.packet.len(),
+        };
+        text.digits("", &self.packet[..there.min(self.packet.len())])
     }
 }
 

@@ -44,7 +44,7 @@ mod text;
 mod utc;
 mod written;
 
-pub use cap_records::{Choice, Kinds, Selection};
+pub use cap_records::{Choice, Condition, Conditions, Kinds, Selection};
 pub use checking::check_file;
 pub use cmd_times::Time;
 pub use converting::{Conversion, convert_file};

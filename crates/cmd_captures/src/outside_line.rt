@@ -1,7 +1,7 @@
 //! The line of `show` for a packet that the standard allows and the profile does not have.
 
 use crate::field::Field;
-use crate::frame_line::{add_headers, add_key_value};
+use crate::frame_line::{add_headers, add_key_value, add_media, are_zeros};
 use crate::outside_keys::OutsideKeys;
 use crate::secured_keys::SecuredKeys;
 use crate::text::Text;
@@ -42,8 +42,13 @@ pub(crate) struct OutsideLine<'a> {
     keys: FrameKeys<'a>,
     #[serde(flatten)]
     rest: OutsideKeys<'a>,
+    #[serde(skip_serializing_if = "are_zeros")]
+    media: Option<Digits<4>>,
     #[serde(flatten)]
     secured: Option<SecuredKeys>,
+    /// The octets of the frame.
+    #[serde(skip)]
+    octets: &'a [u8],
 }
 
 impl<'a> OutsideLine<'a> {
@@ -59,7 +64,9 @@ impl<'a> OutsideLine<'a> {
             reason: Printed(OutsideReason(frame.fault)),
             keys: keys_of(frame),
             rest: OutsideKeys::of(frame),
+            media: media_of(&frame.fields.extended),
             secured: place.secured.map(|facts| SecuredKeys::of(&facts)),
+            octets: frame.octets,
         }
     }
 
@@ -92,6 +99,8 @@ impl<'a> OutsideLine<'a> {
     pub(crate) fn add_value_to(&self, field: Field, text: &mut Text) -> Result<(), AllocError> {
         match field {
             Field::Outside => write!(text, "{}", self.outside.0).map_err(|_| AllocError),
+            Field::Media => add_media(self.media, text),
+            Field::Octets => text.digits("", self.octets),
             Field::Psid | Field::Generated | Field::Secured => match &self.secured {
                 Some(secured) => secured.add_value_to(field, text),
                 None => Ok(()),
@@ -126,6 +135,14 @@ fn keys_of<'a>(frame: &OutsideFrame<'a>) -> FrameKeys<'a> {
         max_hops: fields.common.max_hops,
         target: target_of(&fields.extended),
         message: None,
+    }
+}
+
+/// The media-dependent data of a single-hop broadcast.
+fn media_of(extended: &ExtendedFields) -> Option<Digits<4>> {
+    match extended {
+        ExtendedFields::Shb(media) => Some(Digits(media.to_be_bytes())),
+        _ => None,
     }
 }
 

@@ -59,7 +59,9 @@ impl Row<'_> {
             (Field::Record, _) => text.number("", self.place.number),
             (Field::Interface, _) => text.number("", self.place.interface),
             (Field::Length, _) => text.number("", self.place.length),
-            (Field::Vlan | Field::Rssi | Field::Rate, _) => self.add_fact_to(field, text),
+            (Field::Vlan | Field::Rssi | Field::Rate | Field::Retry, _) => self.add_fact_to(
+                field, text,
+            ),
             (Field::Refused, RecordLine::Refused(fault)) => {
                 write!(text, "{}", fault.code()).map_err(|_| AllocError)
             }
@@ -81,6 +83,7 @@ impl Row<'_> {
                 Some(signal) => text.number("", signal),
                 None => Ok(()),
             },
+            Field::Retry => text.word(if link.retry { "true" } else { "" }),
             _ => match link.rate {
                 Some(rate) => add_rate(rate, text),
                 None => Ok(()),
