@@ -22,6 +22,8 @@ class Seen(NamedTuple):
     octets: int
     port: int | None = None
     number: int | None = None
+    max_hops: int = 0
+    retry: bool = False
 
 
 def air_time(octets: int) -> int:
@@ -99,6 +101,29 @@ class Counts:
             "hops": [min(hops), max(hops)],
         }
 
+    def is_forwarded(self, frame: Seen) -> bool:
+        return frame.hops < frame.max_hops
+
+    def own(self, address: str) -> dict:
+        """The columns of `--own`: frames without a hop used, apart from retries, and the times between
+        each two that follow each other."""
+        frames = [frame for frame in self.frames if frame.address == address]
+        sent = [frame for frame in frames if not self.is_forwarded(frame)]
+        moments = [frame.moment for frame in sent if not frame.retry]
+        steps = [max(after - before, 0) for before, after in zip(moments, moments[1:])]
+        columns = {
+            "own": len(moments),
+            "forwarded": len(frames) - len(sent),
+            "retries": len(sent) - len(moments),
+        }
+        if steps:
+            columns |= {
+                "own_least": min(steps),
+                "own_mean": (max(moments) - min(moments)) // len(steps),
+                "own_greatest": max(steps),
+            }
+        return columns
+
     def ports(self) -> list[dict]:
         frames: Counter = Counter()
         octets: Counter = Counter()
@@ -119,10 +144,13 @@ class Counts:
         octets = sum(self.octets_of(frame) for frame in within)
         return {"second": second, "frames": len(within), "octets": octets, "busy": busy[second]}
 
-    def all(self, most: int | None = None) -> dict:
+    def all(self, most: int | None = None, own: bool = False) -> dict:
+        sources = self.sources(most)
+        if own:
+            sources = [{**row, **self.own(row["address"])} for row in sources]
         tables = {
             "records": self.records(),
-            "sources": self.sources(most),
+            "sources": sources,
             "ports": self.ports(),
             "load": self.load(),
         }
@@ -132,6 +160,7 @@ class Counts:
 
 
 SOURCE = "address frames octets first last mean greatest missing repeated hops".split()
+OWN = SOURCE + "own forwarded retries own_least own_mean own_greatest".split()
 
 
 def as_json(tables: dict) -> str:
@@ -143,7 +172,10 @@ def as_text(tables: dict, columns: list[str] = SOURCE) -> str:
     load = tables["load"]
     parts = [
         table(["kind", "records"], tables["records"].items()),
-        table(columns, ([source_cell(row[key]) for key in columns] for row in tables["sources"])),
+        table(
+            columns,
+            ([source_cell(row.get(key, "-")) for key in columns] for row in tables["sources"]),
+        ),
         table(["port", "frames", "octets"], (row.values() for row in tables["ports"])),
         table(["second", "frames", "octets", "busy"], [load.values()] if load else []),
     ]

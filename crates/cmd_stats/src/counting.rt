@@ -8,7 +8,7 @@ use crate::ports::Ports;
 use crate::printing::{Counted, print_object, print_tables};
 use crate::psids::Psids;
 use crate::seconds::Seconds;
-use crate::sources::{SourceFrame, Sources};
+use crate::sources::{SourceColumns, SourceFrame, Sources};
 use cap_records::{
     OutsideFrame, RecordFault, RecordPlace, RecordVisitor, SeenFrame, Selection, each_record,
     open_records, traits_of,
@@ -111,9 +111,18 @@ impl RecordVisitor for Counts {
     }
 }
 
+/// What `stats` prints of sources.
+#[derive(Clone, Copy, Debug, PartialEq, Eq)]
+pub struct PrintedSources {
+    /// How many are printed at most: those with the most frames.
+    pub top: Option<u64>,
+    /// Whether their own frames are counted apart from those that others forwarded.
+    pub own: bool,
+}
+
 /// Prints what the selected records of the file are, and the traffic of their frames: by source, by
-/// port, and the second with the most air time. `input` is standard input. At most `top` sources are
-/// printed. The output is one object, or tables.
+/// port, and the second with the most air time. `input` is standard input. The output is one object,
+/// or tables.
 ///
 /// `Refused` if the file was refused, `Failed` if it could not be read or standard output not
 /// written, or memory ran out.
@@ -122,14 +131,14 @@ pub fn stats_file<R: Files + AllocGlobal, I: Read + Drop, W: Write, E: Write>(
     file: &str,
     input: I,
     selection: &Selection,
-    top: Option<u64>,
+    printed: PrintedSources,
     io: &mut Io<W, E>,
 ) -> Status
 where
     R::File: Read + Drop,
     ensures { IsCommandStatus result }
 {
-    let ended = count(rt, file, input, selection, top, io);
+    let ended = count(rt, file, input, selection, printed, io);
     io.status_of(ended)
 }
 
@@ -139,7 +148,7 @@ fn count<'a, R: Files + AllocGlobal, I: Read + Drop, W: Write, E>(
     file: &'a str,
     input: I,
     selection: &Selection,
-    top: Option<u64>,
+    printed: PrintedSources,
     io: &mut Io<W, E>,
 ) -> Result<Status, Fault<'a>>
 where
@@ -154,9 +163,12 @@ where
     let counted = Counted {
         counts: &counts,
         walked: &walked,
-        top,
+        top: printed.top,
         signed: selection.signed,
-        all_kinds: selection.choice.all_kinds,
+        columns: SourceColumns {
+            outside: selection.choice.all_kinds,
+            own: printed.own,
+        },
     };
     if io.format.json {
         print_object(alloc, counted, &mut io.out)?;

@@ -33,6 +33,7 @@
 mod counting;
 mod kinds;
 mod numbers;
+mod own;
 mod ports;
 mod printing;
 mod psids;
@@ -42,4 +43,4 @@ mod sources;
 mod table;
 mod traffic;
 
-pub use counting::stats_file;
+pub use counting::{PrintedSources, stats_file};

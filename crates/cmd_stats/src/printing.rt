@@ -5,7 +5,7 @@ use crate::kinds::Kinds;
 use crate::ports::{PortRow, port_table};
 use crate::psids::{PsidRow, psid_table};
 use crate::seconds::{SecondRow, second_table};
-use crate::sources::{SourceRow, source_table};
+use crate::sources::{SourceColumns, SourceRow, source_table};
 use cap_records::{RefusedCapture, Walked};
 use cmd_reporting::Fault;
 use its_words::json_lines::JsonLine;
@@ -23,8 +23,8 @@ pub(crate) struct Counted<'c> {
     pub(crate) top: Option<u64>,
     /// Whether PSIDs are printed.
     pub(crate) signed: bool,
-    /// Whether frames outside the profile are counted.
-    pub(crate) all_kinds: bool,
+    /// Which columns the rows of sources have besides those that all have.
+    pub(crate) columns: SourceColumns,
 }
 
 /// Prints the four tables, and that of PSIDs if it is wanted, an empty line between them, and why
@@ -36,11 +36,11 @@ pub(crate) fn print_tables<'f, W: Write>(
     out: &mut W,
 ) -> Result<(), Fault<'f>> {
     let (counts, walked) = (counted.counts, counted.walked);
-    let sources = counts.sources.rows(counted.top, counted.all_kinds)?;
+    let sources = counts.sources.rows(counted.top, counted.columns)?;
     let ports = counts.ports.rows()?;
     counts.kinds.table(alloc, explain)?.write(out)?;
     writeln!(out)?;
-    source_table(alloc, sources.as_slice(), counted.all_kinds)?.write(out)?;
+    source_table(alloc, sources.as_slice(), counted.columns)?.write(out)?;
     writeln!(out)?;
     port_table(alloc, ports.as_slice())?.write(out)?;
     writeln!(out)?;
@@ -92,7 +92,7 @@ pub(crate) fn print_object<'f, W: Write>(
     out: &mut W,
 ) -> Result<(), Fault<'f>> {
     let (counts, walked) = (counted.counts, counted.walked);
-    let sources = counts.sources.rows(counted.top, counted.all_kinds)?;
+    let sources = counts.sources.rows(counted.top, counted.columns)?;
     let ports = counts.ports.rows()?;
     let psids = counts.psids.rows()?;
     let fault = walked

@@ -1,6 +1,7 @@
 //! The traffic of each source.
 
 use crate::numbers::Numbers;
+use crate::own::{OWN_HEADS, OwnFrames, OwnKeys, Sending};
 use crate::table::Table;
 use cap_records::{OutsideFrame, RecordPlace};
 use its_linkframe::FrameView;
@@ -19,6 +20,7 @@ pub(crate) struct SourceFrame {
     octets: u64,
     /// The hops left.
     hops: u8,
+    sending: Sending,
     /// The sequence number, if the packet has one.
     number: Option<u16>,
     /// Whether the frame is outside the profile.
@@ -29,11 +31,13 @@ impl SourceFrame {
     /// What is counted of a frame of the profile of so many octets.
     pub(crate) fn of(place: &RecordPlace, octets: u32, frame: &FrameView<'_>) -> SourceFrame {
         let packet = &frame.packet;
+        let hops = packet.hops();
         SourceFrame {
             address: packet.vector().address().as_u64(),
             moment: place.moment,
             octets: u64::from(octets),
-            hops: packet.hops().left(),
+            hops: hops.left(),
+            sending: Sending::of(hops.left(), hops.max(), place.link.retry),
             number: packet.number(),
             is_outside: false,
         }
@@ -51,6 +55,7 @@ impl SourceFrame {
             moment: place.moment,
             octets: u64::from(octets),
             hops: fields.basic.left,
+            sending: Sending::of(fields.basic.left, fields.common.max_hops, place.link.retry),
             number: number_of(&fields.extended),
             is_outside: true,
         }
@@ -85,6 +90,8 @@ struct Source {
     /// The most that a moment was above the one before.
     greatest: u64,
     numbers: Numbers,
+    /// Those that it sent itself.
+    own: OwnFrames,
     /// The least and the most hops left.
     fewest: u8,
     most: u8,
@@ -102,6 +109,7 @@ impl Source {
             previous: moment,
             greatest: 0,
             numbers: Numbers::new(alloc),
+            own: OwnFrames::none(),
             fewest: hops,
             most: hops,
         }
@@ -117,6 +125,7 @@ impl Source {
         self.last = self.last.max(moment);
         self.greatest = self.greatest.max(moment.saturating_sub(self.previous));
         self.previous = moment;
+        self.own.add(moment, frame.sending);
         self.fewest = self.fewest.min(frame.hops);
         self.most = self.most.max(frame.hops);
         match frame.number {
@@ -126,7 +135,7 @@ impl Source {
     }
 
     /// Its row in the table.
-    fn row(&self, address: u64, all_kinds: bool) -> SourceRow {
+    fn row(&self, address: u64, columns: SourceColumns) -> SourceRow {
         let between = self.last.saturating_sub(self.first);
         SourceRow {
             address: Digits(address.to_be_bytes()),
@@ -141,7 +150,8 @@ impl Source {
             missing: self.numbers.missing(),
             repeated: self.numbers.repeated(),
             hops: [self.fewest, self.most],
-            outside: all_kinds.then_some(self.outside),
+            outside: columns.outside.then_some(self.outside),
+            own: columns.own.then_some(self.own.keys()),
         }
     }
 }
@@ -162,6 +172,17 @@ pub(crate) struct SourceRow {
     /// How many frames are outside the profile, if all kinds are chosen.
     #[serde(skip_serializing_if = "Option::is_none")]
     outside: Option<u64>,
+    #[serde(flatten)]
+    own: Option<OwnKeys>,
+}
+
+/// Which columns rows of sources have besides those that all have.
+#[derive(Clone, Copy)]
+pub(crate) struct SourceColumns {
+    /// How many frames are outside the profile.
+    pub(crate) outside: bool,
+    /// What the source sent itself.
+    pub(crate) own: bool,
 }
 
 /// The hops left, as a table has them.
@@ -188,8 +209,11 @@ impl SourceRow {
         table.add(&self.missing)?;
         table.add(&self.repeated)?;
         table.add(&Hops(self.hops))?;
-        match self.outside {
-            Some(outside) => table.add(&outside),
+        if let Some(outside) = self.outside {
+            table.add(&outside)?;
+        }
+        match &self.own {
+            Some(own) => own.add_to(table),
             None => Ok(()),
         }
     }
@@ -225,11 +249,11 @@ impl Sources {
     pub(crate) fn rows(
         &self,
         top: Option<u64>,
-        all_kinds: bool,
+        columns: SourceColumns,
     ) -> Result<Vec<SourceRow>, AllocError> {
         let mut rows = Vec::new(self.alloc);
         for (address, source) in self.sources.iter() {
-            rows.push(source.row(*address, all_kinds))?;
+            rows.push(source.row(*address, columns))?;
         }
         rows.sort_by_key(|row| u64::MAX - row.frames)?;
         if let Some(top) = top {
@@ -239,22 +263,26 @@ impl Sources {
     }
 }
 
-/// The table of these rows. They have a last column if all kinds are chosen.
+/// The heads of the columns that all rows of sources have.
+const SOURCE_HEADS: [&str; 10] = [
+    "address", "frames", "octets", "first", "last", "mean", "greatest", "missing", "repeated",
+    "hops",
+];
+
+/// The table of these rows, which have these columns besides.
 pub(crate) fn source_table(
     alloc: Global,
     rows: &[SourceRow],
-    all_kinds: bool,
+    columns: SourceColumns,
 ) -> Result<Table, AllocError> {
-    let heads = [
-        "address", "frames", "octets", "first", "last", "mean", "greatest", "missing", "repeated",
-        "hops", "outside",
-    ];
-    let columns = if all_kinds {
-        heads.len()
-    } else {
-        heads.len() - 1
-    };
-    let mut table = Table::new(alloc, &heads[..columns])?;
+    let mut heads = Vec::from_slice(alloc, &SOURCE_HEADS)?;
+    if columns.outside {
+        heads.push("outside")?;
+    }
+    if columns.own {
+        heads.extend_from_slice(&OWN_HEADS)?;
+    }
+    let mut table = Table::new(alloc, heads.as_slice())?;
     for row in rows {
         row.add_to(&mut table)?;
     }

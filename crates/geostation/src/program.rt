@@ -169,9 +169,16 @@ where
             let mut io = Io { out, err, format };
             check_file(rt, records.file, input, &records.selection, &mut io)
         }
-        Subcommand::Stats(records, top) => {
+        Subcommand::Stats(records, printed) => {
             let mut io = Io { out, err, format };
-            stats_file(rt, records.file, input, &records.selection, *top, &mut io)
+            stats_file(
+                rt,
+                records.file,
+                input,
+                &records.selection,
+                *printed,
+                &mut io,
+            )
         }
         Subcommand::Convert(convert) => {
             convert_records(rt, convert, input, &mut Io { out, err, format })

@@ -14,6 +14,7 @@ use cmd_captures::{Conversion, Field, Selection, Showing};
 use cmd_mesh::MeshOptions;
 use cmd_page::Viewing;
 use cmd_reporting::{OutputFormat, Target, is_standard};
+use cmd_stats::PrintedSources;
 use cmd_stats::replay::{Against, PortList};
 use cmd_verdict::VerdictOptions;
 use its_contention::ContentionRule;
@@ -29,7 +30,7 @@ pub enum Subcommand<'a> {
     /// To check records.
     Check(ChosenRecords<'a>),
     /// To count records, and to tell of so many sources at most.
-    Stats(ChosenRecords<'a>, Option<u64>),
+    Stats(ChosenRecords<'a>, PrintedSources),
     /// To write records to another file.
     Convert(Convert<'a>),
     /// To make a capture of lines.
@@ -239,8 +240,11 @@ fn over_capture<'a>(
             Ok(Some(showing(file, selection, fields, matches, console)))
         }
         "stats" => {
-            let top = count_of(matches, "top")?;
-            Ok(Some(Subcommand::Stats(ChosenRecords { file, selection }, top)))
+            let printed = PrintedSources {
+                top: count_of(matches, "top")?,
+                own: matches.get_flag("own"),
+            };
+            Ok(Some(Subcommand::Stats(ChosenRecords { file, selection }, printed)))
         }
         "check" => Ok(Some(Subcommand::Check(ChosenRecords { file, selection }))),
         _ => Ok(converting(file, selection, matches, console)),
