@@ -13,6 +13,7 @@ ghost use Rattle.cmd_arguments.specs.Options.{value_in};
 ghost use Rattle.cmd_stats.specs.Units.{listed};
 
 use crate::bad_argument::BadArgument;
+use crate::conditions::AskedConditions;
 use cap_pcap::Format;
 use clap::ArgMatches;
 use cmd_captures::{Choice, Field, Kinds, Selection, Time, utc_moment};
@@ -91,9 +92,17 @@ impl FromStr for AllKindList {
     }
 }
 
+/// The kinds that a list names, separated by commas: of the profile, or of all.
+pub(crate) fn kinds_in(words: &str, all_kinds: bool) -> Option<Kinds> {
+    if all_kinds {
+        return words.parse::<AllKindList>().ok().map(|list| list.0);
+    }
+    words.parse::<KindList>().ok().map(|list| list.0)
+}
+
 /// The digits of a station's address.
 #[derive(Clone, Copy)]
-struct AddressDigits(GnAddress);
+pub(crate) struct AddressDigits(pub(crate) GnAddress);
 
 impl FromStr for AddressDigits {
     type Err = ();
@@ -190,7 +199,7 @@ const COUNT: &str = "a whole number of at least 1";
 pub(crate) const MAC: &str =
     "12 hexadecimal digits, with colons, hyphens or nothing between the pairs";
 
-const PORT: &str = "a whole number in 0..=65535";
+pub(crate) const PORT: &str = "a whole number in 0..=65535";
 
 /// The value of an option, if it is given.
 pub(crate) fn value_of<'a, T: FromStr>(
@@ -221,7 +230,8 @@ where
 ///   or hyphens, or without) are what their texts spell; `--since` and `--until` are the number
 ///   that their text is, if it is a whole number; all records where they aren't given; `--refused`
 ///   selects refused ones; other protocols are skipped if and only if `--not-geonetworking` is
-///   `skip`; `--all-kinds` chooses frames of all kinds.
+///   `skip`; `--all-kinds` chooses frames of all kinds. `--to-mac`, `--hops`, `--class`, `--number`,
+///   `--area`, `--any` and `--not` are the conditions that their texts list.
 /// - `port`: the port is the number that `--port` spells, of 16 bits; none where it isn't given, or
 ///   is for another use.
 pub fn selection_of<'a>(
@@ -308,6 +318,7 @@ fn choice_of<'a>(matches: &ArgMatches<'a>) -> Result<Choice, BadArgument<'a>>
     let wanted = "the 16 hexadecimal digits of a station's address";
     let source = value_of::<AddressDigits>(matches, "source", wanted)?;
     let from = value_of::<MacDigits>(matches, "from-mac", MAC)?;
+    let asked = AskedConditions::of(matches, all_kinds)?;
     let since = moment_of(matches, "since", 0)?;
     let until = moment_of(matches, "until", u64::MAX)?;
     Ok(Choice {
@@ -315,6 +326,9 @@ fn choice_of<'a>(matches: &ArgMatches<'a>) -> Result<Choice, BadArgument<'a>>
         source: source.map(|digits| digits.0),
         from: from.map(|digits| digits.0),
         port: None,
+        all: asked.all,
+        any: asked.any,
+        leaves_out: asked.leaves_out,
         since,
         until,
         refused: matches.get_flag("refused"),

@@ -104,6 +104,40 @@ const FROM_MAC: Argument = Argument::Value(
 
 const PORT: Argument = Argument::Value("port", "N", "Select frames to this destination port");
 
+const TO_MAC: Argument = Argument::Value("to-mac", "HEX12", "Select frames to this link address");
+
+const HOPS: Argument = Argument::Value(
+    "hops",
+    "RANGE",
+    "Select frames with this remaining hop limit, or one in a range such as 1-3",
+);
+
+const CLASS: Argument = Argument::Value("class", "HEX2", "Select frames with this traffic class");
+
+const NUMBER: Argument = Argument::Value(
+    "number",
+    "RANGE",
+    "Select frames with this sequence number, or one in a range such as 7-9",
+);
+
+const AREA: Argument = Argument::Value(
+    "area",
+    "LAT:LON",
+    "Select frames whose destination area contains this position",
+);
+
+const ANY: Argument = Argument::Value(
+    "any",
+    "LIST",
+    "Select records that match one of these filters, such as kind=gbc,hops=1-3,refused",
+);
+
+const NOT: Argument = Argument::Value(
+    "not",
+    "LIST",
+    "Leave out records that match one of these filters",
+);
+
 const SINCE: Argument = Argument::Value(
     "since",
     "MOMENT",
@@ -155,6 +189,11 @@ const FIELDS: Argument = Argument::Value(
     "Print the values of these keys, separated by commas: as CSV, or as objects with --json",
 );
 
+const OWN: Argument = Argument::Flag(
+    "own",
+    "Count the frames that each source sent itself apart from those that others forwarded",
+);
+
 const FRAMES_ONLY: Argument = Argument::Flag(
     "frames-only",
     "Write Ethernet frames instead of records with their link layer header",
@@ -203,7 +242,14 @@ const CHOOSING: &[Argument] = &[
     KIND,
     SOURCE,
     FROM_MAC,
+    TO_MAC,
     PORT,
+    HOPS,
+    CLASS,
+    NUMBER,
+    AREA,
+    ANY,
+    NOT,
     SINCE,
     UNTIL,
     REFUSED,
@@ -212,7 +258,10 @@ const CHOOSING: &[Argument] = &[
 ];
 
 /// The options that select records, for a command whose `--port` opens a port.
-const CHOOSING_TO_ANY_PORT: &[Argument] = &[KIND, SOURCE, FROM_MAC, SINCE, UNTIL, REFUSED, COUNT];
+const CHOOSING_TO_ANY_PORT: &[Argument] = &[
+    KIND, SOURCE, FROM_MAC, TO_MAC, HOPS, CLASS, NUMBER, AREA, ANY, NOT, SINCE, UNTIL, REFUSED,
+    COUNT,
+];
 
 /// Adds all commands to a program, each with its arguments, in the order of the help.
 pub fn add_commands<'a>(alloc: Global, program: Command<'a>) -> Result<Command<'a>, AllocError> {
@@ -282,7 +331,8 @@ static READERS: [Form; 3] = [
         example: "\
 Keys of --fields: moment, from, to, kind, address, tst, lat, lon, pai, speed, heading, lt, tc,
 mobile, hops, max_hops, number, shape, alat, alon, a, b, angle, port, info, payload, refused,
-record, interface, length, vlan, rssi, rate, cut; with --signed psid, generated, secured;
+record, interface, length, vlan, rssi, rate, cut, media, octets, retry;
+with --signed psid, generated, secured;
 with --all-kinds outside, destination, dtst, dlat, dlon, sought, next, source_port
 
 Example:
@@ -313,6 +363,7 @@ Example:
                 "N",
                 "Print this many sources, those with the most frames",
             ),
+            OWN,
             SIGNED,
             ALL_KINDS,
         ],

@@ -9,6 +9,8 @@
 //! # Only tested
 //!
 //! - `cases/choosing.md`, `checks/stats`: which kinds `--kind` names, each of the 15 sets.
+//! - `cases/conditions.md`: the values of `--to-mac`, `--hops`, `--class`, `--number`, `--area`,
+//!   `--any` and `--not`.
 //! - `cases/`: which time a time of UTC is; that a port given twice, and a 65th, is refused; of
 //!   which of several options a fault is; suggestions (`BadArgument::tip`); the texts of help and
 //!   of refused arguments.
@@ -19,6 +21,7 @@
 mod against;
 mod bad_argument;
 mod choosing;
+mod conditions;
 mod contention;
 mod forms;
 mod judging;
