@@ -31,6 +31,11 @@ def addresses_of(layers: dict) -> tuple[str, str]:
     return layers["wlan"]["wlan.sa"], layers["wlan"]["wlan.da"]
 
 
+def media_of(header: dict) -> str:
+    """The media-dependent data of an SHB, which tshark names by what it takes them for."""
+    return (header.get("geonw.dccmco_raw") or header["geonw.shb.reserved_raw"])[0]
+
+
 def values_of(layers: dict) -> dict:
     """The values of one frame, by the program's keys and in their order."""
     gnw = layers["gnw"]
@@ -75,6 +80,8 @@ def values_of(layers: dict) -> dict:
             "info": int(layers["btpb"]["btpb.dstportinf"], 16),
             "payload": layers["frame_raw"][0][2 * start : 2 * end],
         }
+    if header_type == SHB and int(media_of(extended), 16):
+        values["media"] = media_of(extended)
     return values
 
 

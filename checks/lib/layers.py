@@ -30,7 +30,7 @@ BROADCAST = bytes.fromhex("ffffffffffff")
 RATE, CHANNEL, HOPPING, SIGNAL = 0x4, 0x8, 0x10, 0x20
 SNAP = bytes.fromhex("aaaa03000000")
 OTHER = bytes.fromhex("02000000aa01")
-TO_DS, FROM_DS, QOS = 1, 2, 0x80
+TO_DS, FROM_DS, RETRY, QOS = 1, 2, 8, 0x80
 CHECKED, PADDED = 0x10, 0x20
 
 
@@ -40,7 +40,8 @@ def tagged(frame: bytes, tags: bytes) -> bytes:
 
 
 def header_80211(frame: bytes, bits: int, qos: bool) -> bytes:
-    """The header of a data frame with these DS bits, from the addresses of an Ethernet frame."""
+    """The header of a data frame with these DS bits, from the addresses of an Ethernet frame. That to
+    a distribution system, with QoS, is one of a retry."""
     target, source = frame[:6], frame[6:12]
     order = {
         0: (target, source, OTHER),
@@ -48,7 +49,8 @@ def header_80211(frame: bytes, bits: int, qos: bool) -> bytes:
         FROM_DS: (target, OTHER, source),
         TO_DS | FROM_DS: (OTHER, OTHER, target),
     }
-    header = bytes([0x08 | (QOS if qos else 0), bits, 0, 0]) + b"".join(order[bits]) + bytes(2)
+    flags = bits | (RETRY if qos and bits == TO_DS else 0)
+    header = bytes([0x08 | (QOS if qos else 0), flags, 0, 0]) + b"".join(order[bits]) + bytes(2)
     if bits == TO_DS | FROM_DS:
         header += source
     return header + (bytes(2) if qos else b"")

@@ -95,11 +95,13 @@ def sentence(code: str) -> str:
 
 def shown(moment: int, packet: Packet, code: str) -> dict:
     """The object of a packet outside the profile, or of a frame of the profile if there is no code."""
-    values = {"moment": moment, **values_of(packet)}
+    values = values_of(packet)
+    if packet.kind == "shb" and packet.media:
+        values["media"] = f"{packet.media:08x}"
     if not code:
-        return {key: value for key, value in values.items() if key != "next"}
+        return {"moment": moment, **{key: values[key] for key in values if key != "next"}}
     reason = {"outside": code, "reason": VALID + sentence(code)}
-    return {"moment": moment, **reason, **values_of(packet)}
+    return {"moment": moment, **reason, **values}
 
 
 def words(v: dict) -> str:
