@@ -13,3 +13,10 @@ returns-in_default-2 c =
     not_word (view c.args.members.now.0.now) c.args.word (line_words.Own verbs.Shb)
     c.requires.none (λ some. search rules) in
     brings_none (view c.args.members.now.0.now) shb
+
+pub returns-in_default-3 : goal.returns-in_default-3
+returns-in_default-3 c =
+    let shb : ¬ IsWord (view c.args.members.now.0.now) (codes "shb") =
+    not_word (view c.args.members.now.0.now) c.args.word (line_words.Own verbs.Shb)
+    c.requires.none (λ some. search rules) in
+    brings_none (view c.args.members.now.0.now) shb
