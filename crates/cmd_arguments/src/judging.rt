@@ -26,10 +26,8 @@ pub fn duties_of<'a>(matches: &ArgMatches<'a>) -> Result<DutySet, BadArgument<'a
     };
     let wanted = match DutySet::listed(list) {
         Ok(duties) => return Ok(duties),
-        Err(DutyFault::Unknown) => "a list of D1 to D6, D10, D12 to D14, D16, D17 and D19",
-        Err(DutyFault::NotJudged) => {
-            "a list of duties that are judged: D15 and D20 are not judged yet"
-        }
+        Err(DutyFault::Unknown) => "a list of D1 to D6, D10, D12 to D17 and D19",
+        Err(DutyFault::NotJudged) => "a list of duties that are judged: D20 is not judged yet",
     };
     Err(BadArgument::Value("duty", list, wanted))
 }

@@ -4,12 +4,23 @@ use crate::seen_record::SeenRecord;
 use std::alloc::{AllocError, Global};
 use std::collections::VecDeque;
 
+/// How many records wait at most.
+const MOST: usize = 16384;
+
+/// How many octets they have at most.
+const MOST_OCTETS: usize = 1 << 22;
+
+/// How many repeats of one of them are noted at most.
+const MOST_REPEATS: usize = 4096;
+
 /// The last records of the file, in the order of their stamps, and of the file if these are equal.
 /// They wait until none can come before them.
 #[derive(Drop)]
 pub(crate) struct Arrivals {
     alloc: Global,
     waiting: VecDeque<SeenRecord>,
+    /// How many octets they have.
+    octets: usize,
     /// The greatest stamp so far.
     greatest: u64,
     /// How far a stamp may be below the greatest before it, in nanoseconds.
@@ -22,6 +33,7 @@ impl Arrivals {
         Arrivals {
             alloc,
             waiting: VecDeque::new(alloc),
+            octets: 0,
             greatest: 0,
             disorder,
         }
@@ -35,6 +47,7 @@ impl Arrivals {
     /// Adds the next record of the file.
     pub(crate) fn add(&mut self, record: SeenRecord) -> Result<(), AllocError> {
         self.greatest = self.greatest.max(record.stamp);
+        self.octets = self.octets.saturating_add(record.octets.len());
         let mut later = Vec::new(self.alloc);
         for _ in 0..self.waiting.len() {
             match self.take_later(record.stamp) {
@@ -70,14 +83,21 @@ impl Arrivals {
         let first = self.waiting.front()?;
         let passed = first.stamp.saturating_add(self.disorder.saturating_mul(2));
         if self.disorder == 0 || passed < self.greatest {
-            return self.waiting.pop_front();
+            return self.take_first();
         }
         None
     }
 
-    /// Takes the first record, at the end of the file.
-    pub(crate) fn take_last(&mut self) -> Option<SeenRecord> {
-        self.waiting.pop_front()
+    /// Whether more records wait than may.
+    pub(crate) fn is_over(&self) -> bool {
+        MOST < self.waiting.len() || MOST_OCTETS < self.octets
+    }
+
+    /// Takes the first record, whether another one can come before it or not.
+    pub(crate) fn take_first(&mut self) -> Option<SeenRecord> {
+        let first = self.waiting.pop_front()?;
+        self.octets = self.octets.saturating_sub(first.octets.len());
+        Some(first)
     }
 
     /// Notes a record as a repeat of a later one that waits and may be its first sending. Returns
@@ -85,7 +105,8 @@ impl Arrivals {
     pub(crate) fn note_repeat(&mut self, record: &SeenRecord) -> Result<bool, AllocError> {
         let last = record.stamp.saturating_add(self.disorder);
         for later in self.waiting.iter_mut() {
-            if later.stamp <= last && is_same_sending(later, record) {
+            let has_room = later.repeats.len() < MOST_REPEATS;
+            if has_room && later.stamp <= last && is_same_sending(later, record) {
                 later.repeats.push(record.stamp)?;
                 return Ok(true);
             }

@@ -47,8 +47,10 @@ pub(crate) fn is_fail(verdict: &Verdict) -> bool {
 pub(crate) struct Needs {
     pub(crate) mobile: bool,
     pub(crate) area: bool,
+    pub(crate) capacity: bool,
     pub(crate) profile: bool,
     pub(crate) steady: bool,
+    pub(crate) fresh: bool,
     pub(crate) unbuffered: bool,
     pub(crate) sent: bool,
     pub(crate) received: bool,
@@ -56,12 +58,14 @@ pub(crate) struct Needs {
 
 impl Needs {
     /// Their words, in the order of the station file's keys.
-    pub(crate) fn words(self) -> [Option<&'static str>; 7] {
+    pub(crate) fn words(self) -> [Option<&'static str>; 9] {
         [
             self.mobile.then_some("mobile"),
             self.area.then_some("area"),
+            self.capacity.then_some("capacity"),
             self.profile.then_some("profile"),
             self.steady.then_some("steady"),
+            self.fresh.then_some("fresh"),
             self.unbuffered.then_some("unbuffered"),
             self.sent.then_some("sent"),
             self.received.then_some("received"),
@@ -70,13 +74,7 @@ impl Needs {
 
     /// Whether it needs nothing.
     pub(crate) fn is_empty(self) -> bool {
-        !(self.mobile
-            || self.area
-            || self.profile
-            || self.steady
-            || self.unbuffered
-            || self.sent
-            || self.received)
+        self.words().iter().flatten().count() == 0
     }
 }
 

@@ -3,7 +3,7 @@
 use its_duties::Duty;
 
 /// The duties that are judged, in the order of their numbers.
-pub(crate) const JUDGED: [Duty; 13] = [
+pub(crate) const JUDGED: [Duty; 14] = [
     Duty::Form,
     Duty::LinkTarget,
     Duty::Mobile,
@@ -14,13 +14,14 @@ pub(crate) const JUDGED: [Duty; 13] = [
     Duty::AreaTarget,
     Duty::Faithful,
     Duty::Kind,
+    Duty::Once,
     Duty::InTime,
     Duty::StopsInside,
     Duty::NextHop,
 ];
 
 /// The duties that have a definition, but that no verdict is on yet.
-const NOT_JUDGED: [Duty; 2] = [Duty::Once, Duty::Forward];
+const NOT_JUDGED: [Duty; 1] = [Duty::Forward];
 
 /// The rule of a duty, as the table of counts shows it.
 pub(crate) fn rule_of(duty: Duty) -> &'static str {
@@ -55,18 +56,18 @@ pub enum DutyFault {
 /// The duties that are chosen.
 #[derive(Clone, Copy, Debug, PartialEq, Eq)]
 pub struct DutySet {
-    chosen: [bool; 13],
+    chosen: [bool; 14],
 }
 
 impl DutySet {
     /// All that are judged.
     pub fn all() -> DutySet {
-        DutySet { chosen: [true; 13] }
+        DutySet { chosen: [true; 14] }
     }
 
     /// Those of a list as `D13,D15`.
     pub fn listed(list: &str) -> Result<DutySet, DutyFault> {
-        let mut chosen = [false; 13];
+        let mut chosen = [false; 14];
         for name in list.split(',') {
             let number = number_in(name).ok_or(DutyFault::Unknown)?;
             if NOT_JUDGED.iter().any(|duty| duty.number() == number) {

@@ -10,6 +10,12 @@ use std::collections::VecDeque;
 /// How many octets of packets are kept at most, but for those within the longest wait.
 const MOST_OCTETS: usize = 1 << 20;
 
+/// How many octets of packets are kept at most.
+const MOST_NEAR_OCTETS: usize = 1 << 22;
+
+/// How many octets the stamp of a repeat has.
+const STAMP: usize = 8;
+
 /// Where the lifetime and the remaining hops stand in a packet.
 const LIFETIME: usize = 2;
 
@@ -31,6 +37,12 @@ pub(crate) struct HeardPacket {
 }
 
 impl HeardPacket {
+    /// How many octets are kept of it.
+    fn size(&self) -> usize {
+        let repeats = self.repeats.len().saturating_mul(STAMP);
+        self.octets.len().saturating_add(repeats)
+    }
+
     /// When it was sent last.
     pub(crate) fn last_sending(&self) -> u64 {
         let mut last = self.stamp;
@@ -130,6 +142,11 @@ impl HeardPackets {
         }
     }
 
+    /// Notes that packets may be missing up to this stamp.
+    pub(crate) fn lose(&mut self, stamp: u64) {
+        self.lost = Some(stamp.max(self.lost.unwrap_or(0)));
+    }
+
     /// Adds the packet of a record, if it is one for an area. Those of before `oldest` are
     /// forgotten, and so many octets of those of before `near` that the others fit.
     pub(crate) fn add(
@@ -146,8 +163,7 @@ impl HeardPackets {
         octets.extend_from_slice(frame.packet.octets())?;
         let mut repeats = Vec::new(self.alloc);
         repeats.extend_from_slice(record.repeats.as_slice())?;
-        self.octets = self.octets.saturating_add(octets.len());
-        self.packets.push_back(HeardPacket {
+        let packet = HeardPacket {
             number: record.number,
             stamp: record.stamp,
             repeats,
@@ -155,7 +171,9 @@ impl HeardPackets {
             sequence,
             hops: frame.packet.hops(),
             octets,
-        })?;
+        };
+        self.octets = self.octets.saturating_add(packet.size());
+        self.packets.push_back(packet)?;
         self.forget(oldest, near);
         Ok(())
     }
@@ -167,15 +185,16 @@ impl HeardPackets {
                 return;
             };
             let last = first.last_sending();
-            let is_over = MOST_OCTETS < self.octets && last < near;
+            let is_over = MOST_NEAR_OCTETS < self.octets
+                || (MOST_OCTETS < self.octets && last < near);
             if oldest <= last && !is_over {
                 return;
             }
             if oldest <= last {
-                self.lost = Some(last);
+                self.lose(last);
             }
             if let Some(first) = self.packets.pop_front() {
-                self.octets = self.octets.saturating_sub(first.octets.len());
+                self.octets = self.octets.saturating_sub(first.size());
             }
         }
     }
@@ -185,8 +204,10 @@ impl HeardPackets {
         for packet in self.packets.iter_mut() {
             if packet.number == number {
                 packet.repeats.push(stamp)?;
+                self.octets = self.octets.saturating_add(STAMP);
             }
         }
+        self.forget(0, 0);
         Ok(())
     }
 }

@@ -3,39 +3,31 @@
 use crate::area_cases::{area_target_case, next_hop_case, stops_inside_case};
 use crate::arrivals::Arrivals;
 use crate::case::{Case, Needs, is_fail};
+use crate::forwarded::{ForwardedPacket, ForwardedPackets, once_time};
 use crate::frame_cases::{
     form_case, hops_case, kind_case, lifetime_case, link_target_case, mobile_case,
 };
 use crate::heard::HeardPackets;
+use crate::heard_numbers::PacketId;
+use crate::once_case::once_case;
 use crate::own_packets::{OwnPackets, StepFrom};
 use crate::relay_cases::{faithful_case, in_time_case};
 use crate::relays::{Relay, find_origin};
 use crate::repeats::{RETRY_TIME, Repeats};
 use crate::reporter::CaseSink;
-use crate::role::{Role, may_be_own, role_of};
+use crate::role::{Role, may_be_forwarded, may_be_own, role_of};
 use crate::seen_record::SeenRecord;
 use crate::text::Text;
 use crate::unread::{UnreadRecord, UnreadRecords};
+use crate::waiting::{Waiting, WaitingFrames};
 use cmd_reporting::Fault;
 use its_duties::{
-    BeaconGap, Claims, Doubt, Duty, Verdict, doubt_between, judge_beacon, judge_faithful,
-    judge_numbers, longest, slack, wait,
+    BeaconGap, Claims, Doubt, Duty, NumberStep, Verdict, doubt_between, judge_beacon,
+    judge_faithful, judge_numbers, longest, slack, wait,
 };
 use its_headers::Kind;
 use its_linkframe::{FrameFault, FrameView};
 use std::alloc::{AllocError, Global};
-use std::collections::VecDeque;
-
-/// A record that the station sent, which is judged once the capture has all that it is judged by.
-#[derive(Drop)]
-struct Waiting {
-    record: SeenRecord,
-    role: Role,
-    /// Its first sending isn't in the capture.
-    retried: bool,
-    /// The step to its sequence number, if there is one.
-    step: Option<StepFrom>,
-}
 
 /// Judges the records of a capture.
 #[derive(Drop)]
@@ -46,7 +38,8 @@ pub(crate) struct Judge {
     heard: HeardPackets,
     unread: UnreadRecords,
     own: OwnPackets,
-    waiting: VecDeque<Waiting>,
+    forwarded: ForwardedPackets,
+    waiting: WaitingFrames,
     /// The first stamp.
     begin: Option<u64>,
     /// How many records are repeats of the link.
@@ -66,7 +59,8 @@ impl Judge {
             heard: HeardPackets::new(alloc),
             unread: UnreadRecords::new(alloc),
             own: OwnPackets::new(alloc),
-            waiting: VecDeque::new(alloc),
+            forwarded: ForwardedPackets::new(alloc),
+            waiting: WaitingFrames::new(alloc),
             begin: None,
             repeated: 0,
             others: 0,
@@ -86,7 +80,7 @@ impl Judge {
     ) -> Result<(), Fault<'f>> {
         self.arrivals.add(record)?;
         for _ in 0..self.arrivals.count() {
-            match self.arrivals.take() {
+            match self.next_arrival() {
                 Some(record) => self.meet(record, sink)?,
                 None => return Ok(()),
             }
@@ -94,15 +88,35 @@ impl Judge {
         Ok(())
     }
 
+    /// The next record that is met: one that none can come before, or the first if too many wait.
+    fn next_arrival(&mut self) -> Option<SeenRecord> {
+        if let Some(record) = self.arrivals.take() {
+            return Some(record);
+        }
+        if !self.arrivals.is_over() {
+            return None;
+        }
+        let record = self.arrivals.take_first()?;
+        self.lose(record.stamp);
+        Some(record)
+    }
+
+    /// Notes that records may be missing up to this stamp: too many waited.
+    fn lose(&mut self, stamp: u64) {
+        self.heard.lose(stamp);
+        self.own.lose(stamp);
+        self.forwarded.lose(stamp);
+    }
+
     /// Ends the capture, and passes on the verdicts that are left.
     pub(crate) fn end<'f, S: CaseSink>(&mut self, sink: &mut S) -> Result<(), Fault<'f>> {
         for _ in 0..self.arrivals.count() {
-            if let Some(record) = self.arrivals.take_last() {
+            if let Some(record) = self.arrivals.take_first() {
                 self.meet(record, sink)?;
             }
         }
-        for _ in 0..self.waiting.len() {
-            if let Some(waiting) = self.waiting.pop_front() {
+        for _ in 0..self.waiting.count() {
+            if let Some(waiting) = self.waiting.take_first() {
                 self.judge(&waiting, sink)?;
             }
         }
@@ -122,13 +136,27 @@ impl Judge {
             return Ok(());
         }
         self.add(record)?;
+        self.judge_early(sink)
+    }
+
+    /// Judges the first records that wait, if too many do.
+    fn judge_early<'f, S: CaseSink>(&mut self, sink: &mut S) -> Result<(), Fault<'f>> {
+        for _ in 0..self.waiting.count() {
+            if !self.waiting.is_over() {
+                return Ok(());
+            }
+            if let Some(waiting) = self.waiting.take_first() {
+                self.lose(waiting.record.stamp);
+                self.judge(&waiting, sink)?;
+            }
+        }
         Ok(())
     }
 
     /// Judges the records that the capture has all for, up to the stamp of the next record.
     fn judge_due<'f, S: CaseSink>(&mut self, stamp: u64, sink: &mut S) -> Result<(), Fault<'f>> {
-        for _ in 0..self.waiting.len() {
-            match self.due(stamp) {
+        for _ in 0..self.waiting.count() {
+            match self.waiting.take_due(&self.claims, stamp) {
                 Some(waiting) => self.judge(&waiting, sink)?,
                 None => return Ok(()),
             }
@@ -143,31 +171,27 @@ impl Judge {
         }
         if let Some(first) = self.repeats.first_of(record) {
             self.repeats.note(record, first)?;
-            self.heard.repeat(first, record.stamp)?;
-            self.unread.repeat(first, record.stamp)?;
+            self.add_repeat(record, first)?;
             return Ok(true);
         }
         self.arrivals.note_repeat(record)
     }
 
-    /// The first record that waits, if the capture has all that it is judged by: the next record has
-    /// this stamp.
-    fn due(&mut self, stamp: u64) -> Option<Waiting> {
-        let first = self.waiting.front()?;
-        let retries = if first.record.is_wireless() {
-            RETRY_TIME
-        } else {
-            0
-        };
-        let end = first
-            .record
-            .stamp
-            .saturating_add(doubt_between(&self.claims))
-            .saturating_add(retries);
-        if end < stamp {
-            return self.waiting.pop_front();
+    /// Adds a record as another sending of the frame of its first sending.
+    fn add_repeat(&mut self, record: &SeenRecord, first: u64) -> Result<(), AllocError> {
+        let stamp = record.stamp;
+        self.heard.repeat(first, stamp)?;
+        self.unread.repeat(first, stamp)?;
+        self.forwarded.repeat_unread(first, stamp)?;
+        let frame = record.frame();
+        match (role_of(&self.claims, record.view(&frame)), &frame) {
+            (Role::Heard, Ok(view)) => {
+                let (settled, oldest) = (self.settled(stamp), self.oldest_of_once(stamp));
+                self.forwarded
+                    .repeat_heard(first, stamp, view, settled, oldest)
+            }
+            _ => Ok(()),
         }
-        None
     }
 
     /// Adds a record that is no repeat.
@@ -185,11 +209,15 @@ impl Judge {
                 let oldest = self.oldest(record.stamp);
                 let near = record.stamp.saturating_sub(self.near_time());
                 self.heard.add(&record, view, oldest, near)?;
+                let settled = self.settled(record.stamp);
+                let oldest = self.oldest_of_once(record.stamp);
+                self.forwarded.add_heard(&record, view, settled, oldest)?;
             }
+            (Role::Forwarded, Ok(view)) => self.add_forwarded(&record, view, retried)?,
             _ => self.add_unread(&record, role, &frame)?,
         }
         if matches!(role, Role::Own | Role::Forwarded | Role::SentUnread) {
-            self.waiting.push_back(Waiting {
+            self.waiting.add(Waiting {
                 record,
                 role,
                 retried,
@@ -197,6 +225,20 @@ impl Judge {
             })?;
         }
         Ok(())
+    }
+
+    /// Adds a packet that the station forwarded, if it is one for an area.
+    fn add_forwarded(
+        &mut self,
+        record: &SeenRecord,
+        frame: &FrameView<'_>,
+        retried: bool,
+    ) -> Result<(), AllocError> {
+        let oldest = self.oldest_of_once(record.stamp);
+        match forwarded_packet(record, frame, retried) {
+            Some(packet) => self.forwarded.add(packet, oldest),
+            None => Ok(()),
+        }
     }
 
     /// Adds a record that isn't read, or is of another type.
@@ -208,11 +250,16 @@ impl Judge {
     ) -> Result<(), AllocError> {
         let oldest = self.oldest(record.stamp);
         if matches!(role, Role::Unread | Role::Untyped) {
+            let oldest = self.oldest_of_once(record.stamp).min(oldest);
             self.add_unread_heard(record, frame, oldest)?;
         }
         let is_sent = matches!(role, Role::SentUnread | Role::Untyped);
         if is_sent && may_be_own(&self.claims, record.octets.as_slice()) {
             self.own.add_hidden(record, oldest)?;
+        }
+        if is_sent && may_be_forwarded(&self.claims, record.octets.as_slice()) {
+            let oldest = self.oldest_of_once(record.stamp);
+            self.forwarded.add_unread(record, oldest)?;
         }
         if matches!(role, Role::SentOther) {
             self.others = self.others.saturating_add(1);
@@ -258,6 +305,21 @@ impl Judge {
             .saturating_add(doubt_between(claims).saturating_mul(4))
             .saturating_add(RETRY_TIME.saturating_mul(4));
         stamp.saturating_sub(back)
+    }
+
+    /// The stamp before which nothing is looked for by which it is judged whether a packet is
+    /// forwarded once.
+    fn oldest_of_once(&self, stamp: u64) -> u64 {
+        let claims = &self.claims;
+        let back = once_time(claims)
+            .saturating_add(doubt_between(claims).saturating_mul(4))
+            .saturating_add(RETRY_TIME.saturating_mul(4));
+        stamp.saturating_sub(back)
+    }
+
+    /// The first stamp of a record that may still be judged, once a record of this stamp is met.
+    fn settled(&self, stamp: u64) -> u64 {
+        self.waiting.first_stamp().unwrap_or(stamp).min(stamp)
     }
 
     /// How long before a record one may be that caused a frame that still waits.
@@ -311,6 +373,11 @@ impl Judge {
     fn numbers_case(&self, waiting: &Waiting) -> Option<Case> {
         let StepFrom { step, record } = waiting.step?;
         let stamp = waiting.record.stamp;
+        let lacks = self.own.may_lack(stamp.saturating_sub(step.since));
+        let step = NumberStep {
+            sure: step.sure && !lacks,
+            ..step
+        };
         if self.own.hidden_in(stamp, stamp).is_some() {
             return None;
         }
@@ -342,17 +409,21 @@ impl Judge {
         let (from, to) = (stamp.saturating_sub(doubt), stamp.saturating_add(doubt));
         let reset = self.own.last_reset(from)?;
         let interval = u64::from(claims.interval).saturating_mul(1_000_000);
-        let hidden = self.own.hidden_in(from.saturating_sub(interval), to);
+        let first = from.saturating_sub(interval);
+        let (hidden, lacks) = (self.own.hidden_in(first, to), self.own.may_lack(first));
         let gap = BeaconGap {
             since: stamp.saturating_sub(reset.stamp),
             sure: !reset.retried && !waiting.retried,
-            alone: hidden.is_none() && !self.own.has_other_reset(number, from, to),
+            alone: hidden.is_none() && !lacks && !self.own.has_other_reset(number, from, to),
         };
         let verdict = judge_beacon(claims, gap);
         let text = match (verdict, hidden) {
             (Verdict::Fail(_), _) => { Text::BeaconEarly(gap.since, reset.number, claims.interval) }
             (Verdict::Inconclusive(_), Some(hidden)) if passes_but_for(claims, gap) => {
                 Text::NotRead(hidden)
+            }
+            (Verdict::Inconclusive(_), None) if lacks && passes_but_for(claims, gap) => {
+                Text::TooMany
             }
             _ => Text::After(gap.since, reset.number),
         };
@@ -384,6 +455,10 @@ impl Judge {
             faithful_case(claims, frame, number, &found, faithful),
         )?;
         sink.put(record, kind_case(frame))?;
+        if let Some(packet) = forwarded_packet(record, frame, waiting.retried) {
+            let found = self.forwarded.find(claims, &self.unread, begin, &packet)?;
+            sink.put(record, once_case(claims, packet.packet, &found))?;
+        }
         if !is_faithful {
             return Ok(());
         }
@@ -396,6 +471,22 @@ impl Judge {
         }
         Ok(())
     }
+}
+
+/// The packet that the station forwarded in a record, if it is one for an area.
+fn forwarded_packet(
+    record: &SeenRecord,
+    frame: &FrameView<'_>,
+    retried: bool,
+) -> Option<ForwardedPacket> {
+    let sequence = frame.packet.number()?;
+    let source = frame.packet.vector().address();
+    Some(ForwardedPacket {
+        record: record.number,
+        stamp: record.stamp,
+        retried,
+        packet: PacketId { source, sequence },
+    })
 }
 
 /// How many numbers were not seen.

@@ -11,7 +11,8 @@
 //! - `cases/verdict.md`: texts, objects, statuses, refused station files.
 //! - `checks/verdict`: that what the command finds in a capture is there: which records are the
 //!   station's and which it may have heard (`role_of`), the packet before (`IsBeaconAfter`,
-//!   `IsNumberStep`), what a forwarded packet was made from (`IsSearch`).
+//!   `IsNumberStep`), what a forwarded packet was made from (`IsSearch`), whether it was forwarded
+//!   before (`IsRelayAgain`).
 #![tactic(auto)]
 
 mod area_cases;
@@ -23,10 +24,14 @@ mod counts;
 mod duties;
 mod fault;
 mod first_line;
+mod forwarded;
 mod frame_cases;
 mod heard;
+mod heard_numbers;
+mod heard_sources;
 mod judge;
 mod link_header;
+mod once_case;
 mod own_packets;
 mod relay_cases;
 mod relays;
@@ -35,9 +40,11 @@ mod reporter;
 mod role;
 mod seen_record;
 mod station_file;
+mod stretch;
 mod table_keys;
 mod text;
 mod unread;
+mod waiting;
 
 pub use claim::{Claim, ClaimSet};
 pub use command::{VerdictOptions, verdict_file};

@@ -57,6 +57,8 @@ pub(crate) struct OwnPackets {
     last: Option<Numbered>,
     /// The octets of the last ones for areas.
     octets: VecDeque<Vec<u8>>,
+    /// Packets may be missing up to this stamp.
+    lost: Option<u64>,
 }
 
 impl OwnPackets {
@@ -68,6 +70,20 @@ impl OwnPackets {
             hidden: VecDeque::new(alloc),
             last: None,
             octets: VecDeque::new(alloc),
+            lost: None,
+        }
+    }
+
+    /// Notes that packets may be missing up to this stamp.
+    pub(crate) fn lose(&mut self, stamp: u64) {
+        self.lost = Some(stamp.max(self.lost.unwrap_or(0)));
+    }
+
+    /// Whether one may be missing that was sent at this time or later.
+    pub(crate) fn may_lack(&self, from: u64) -> bool {
+        match self.lost {
+            Some(lost) => from <= lost,
+            None => false,
         }
     }
 
@@ -120,6 +136,11 @@ impl OwnPackets {
         retried: bool,
     ) -> Result<Option<StepFrom>, AllocError> {
         if resets(claims, frame.packet.kind()) {
+            if MOST <= self.resets.len()
+                && let Some(first) = self.resets.pop_front()
+            {
+                self.lose(first.stamp);
+            }
             self.resets.push_back(Reset {
                 number: record.number,
                 stamp: record.stamp,

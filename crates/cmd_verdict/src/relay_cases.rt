@@ -86,15 +86,16 @@ pub(crate) fn in_time_case(claims: &Claims, found: &FoundOrigin) -> Case {
 fn late_case(claims: &Claims, found: &FoundOrigin, case: Case) -> Case {
     let is_simple = claims.area == AreaForwarding::Simple;
     let is_claimed = claims.received && claims.unbuffered && is_simple;
-    if let Some(unread) = found.near_unread
+    let doubt = match found.near_unread {
+        Some(unread) => Some(Text::NotRead(unread.first)),
+        None => found.near_too_many.then_some(Text::TooMany),
+    };
+    if let Some(text) = doubt
         && is_claimed
     {
-        return Case {
-            text: Text::NotRead(unread.first),
-            ..case
-        };
+        return Case { text, ..case };
     }
-    if stays_unread(found.near_unread) {
+    if stays_unread(found.near_unread) || found.near_too_many {
         return case;
     }
     case.needing(Needs {

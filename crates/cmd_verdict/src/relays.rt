@@ -39,6 +39,8 @@ pub(crate) struct FoundOrigin {
     pub(crate) near_unread: Option<UnreadIn>,
     /// Packets had to give way that were heard in that time.
     pub(crate) too_many: bool,
+    /// Packets had to give way that may have been received in time.
+    pub(crate) near_too_many: bool,
 }
 
 /// The stretch of time in which a packet is looked for, and the two ends of what is in time.
@@ -168,12 +170,13 @@ pub(crate) fn find_origin(
     let found = unread.within(search.from, search.to);
     let near_found = unread.within(search.near, search.to);
     let too_many = heard.may_lack(search.from);
+    let near_too_many = heard.may_lack(search.near);
     FoundOrigin {
         search: RelaySearch {
             origin,
             late: is_late(claims, begin, relay),
             all_read: found.is_none() && !too_many,
-            near_read: near_found.is_none() && !heard.may_lack(search.near),
+            near_read: near_found.is_none() && !near_too_many,
             sure: !relay.retried,
         },
         cause,
@@ -181,6 +184,7 @@ pub(crate) fn find_origin(
         unread: found,
         near_unread: near_found,
         too_many,
+        near_too_many,
     }
 }
 

@@ -11,6 +11,9 @@ pub(crate) const RETRY_TIME: u64 = 100 * NANOS;
 /// How many sendings are kept at most.
 const MOST: usize = 4096;
 
+/// How many octets they have at most, but for the last one.
+const MOST_OCTETS: usize = 1 << 20;
+
 /// A sending of a frame.
 #[derive(Drop)]
 struct Sending {
@@ -26,6 +29,8 @@ struct Sending {
 pub(crate) struct Repeats {
     alloc: Global,
     sendings: VecDeque<Sending>,
+    /// How many octets they have.
+    octets: usize,
 }
 
 impl Repeats {
@@ -34,6 +39,7 @@ impl Repeats {
         Repeats {
             alloc,
             sendings: VecDeque::new(alloc),
+            octets: 0,
         }
     }
 
@@ -56,14 +62,17 @@ impl Repeats {
         first
     }
 
-    /// Forgets the sendings of before a stamp.
+    /// Forgets the sendings of before a stamp, and the first ones if there are too many.
     fn forget(&mut self, oldest: u64) {
         for _ in 0..self.sendings.len() {
+            let is_over = MOST <= self.sendings.len() || MOST_OCTETS < self.octets;
             match self.sendings.front() {
-                Some(sending) if sending.stamp < oldest => {}
+                Some(sending) if is_over || sending.stamp < oldest => {}
                 _ => return,
             }
-            self.sendings.pop_front();
+            if let Some(sending) = self.sendings.pop_front() {
+                self.octets = self.octets.saturating_sub(sending.octets.len());
+            }
         }
     }
 
@@ -73,11 +82,9 @@ impl Repeats {
             return Ok(());
         };
         self.forget(record.stamp.saturating_sub(RETRY_TIME));
-        if MOST <= self.sendings.len() {
-            self.sendings.pop_front();
-        }
         let mut octets = Vec::new(self.alloc);
         octets.extend_from_slice(record.octets.as_slice())?;
+        self.octets = self.octets.saturating_add(octets.len());
         self.sendings.push_back(Sending {
             stamp: record.stamp,
             first,

@@ -136,6 +136,12 @@ pub(crate) fn may_be_own(claims: &Claims, octets: &[u8]) -> bool {
     }
 }
 
+/// Whether an unread record that the station may have sent may be a packet of another source: it
+/// doesn't name the station as its source.
+pub(crate) fn may_be_forwarded(claims: &Claims, octets: &[u8]) -> bool {
+    named_source(octets) != Some(claims.address.as_u64())
+}
+
 /// Whether the type of a frame is that of GeoNetworking.
 fn is_geonetworking(octets: &[u8]) -> bool {
     octets.get(TYPE) == Some(&0x89) && octets.get(TYPE + 1) == Some(&0x47)

@@ -54,6 +54,13 @@ pub(crate) enum Text {
     /// It is late: so long after this record.
     Late(u64, u64),
     NotHeard,
+    /// No earlier frame of the packet was forwarded.
+    FirstTime,
+    /// The packet of this source and number was forwarded in this record, with so many other numbers
+    /// between.
+    ForwardedAgain(GnAddress, u16, u64, u32),
+    /// The packet was forwarded in this record, with so many other numbers between.
+    Again(u64, u32),
     /// This record isn't read.
     NotRead(u64),
     /// Too many packets were heard to keep them all.
@@ -107,6 +114,9 @@ impl fmt::Display for Text {
             | Text::Forwarded(..)
             | Text::Late(..)
             | Text::NotHeard
+            | Text::FirstTime
+            | Text::ForwardedAgain(..)
+            | Text::Again(..)
             | Text::NotRead(_)
             | Text::TooMany => self.write_forwarding(f),
             Text::OutsideItsArea
@@ -191,6 +201,17 @@ impl Text {
             }
             Text::Late(since, record) => write!(f, "late: {} ms after #{record}", millis(since)),
             Text::NotHeard => f.write_str("never received"),
+            Text::FirstTime => f.write_str("the first time"),
+            Text::ForwardedAgain(source, number, record, others) => {
+                write!(
+                    f,
+                    "again: number {number} of {source} was forwarded as #{record}, "
+                )?;
+                write!(f, "with {others} other numbers between")
+            }
+            Text::Again(record, others) => {
+                write!(f, "again after #{record}, {others} other numbers between")
+            }
             Text::NotRead(record) => write!(f, "not read #{record}"),
             _ => f.write_str("too many"),
         }
@@ -237,6 +258,8 @@ impl Text {
             | Text::WrongHops(_, _, _, record)
             | Text::Changed(_, record)
             | Text::Late(_, record)
+            | Text::ForwardedAgain(_, _, record, _)
+            | Text::Again(record, _)
             | Text::NotRead(record) => Some(record),
             _ => None,
         }
@@ -261,7 +284,8 @@ pub(crate) fn clause_of(duty: Duty) -> Option<&'static str> {
         Duty::Kind => Some("10.3"),
         Duty::StopsInside => Some("10.3.12.3"),
         Duty::AreaTarget | Duty::NextHop => Some("Annex D"),
-        Duty::InTime | Duty::Once | Duty::Forward => None,
+        Duty::Once => Some("Annex A"),
+        Duty::InTime | Duty::Forward => None,
     }
 }
 

@@ -46,6 +46,11 @@ impl UnreadRecords {
     /// Adds a sending. Those before `oldest` are forgotten.
     pub(crate) fn add(&mut self, record: UnreadRecord, oldest: u64) -> Result<(), AllocError> {
         self.forget(oldest);
+        self.push(record)
+    }
+
+    /// Adds a sending. If there are too many, the first one gives way.
+    fn push(&mut self, record: UnreadRecord) -> Result<(), AllocError> {
         if MOST <= self.records.len() {
             self.lost = self.records.pop_front();
         }
@@ -73,7 +78,7 @@ impl UnreadRecords {
             }
         }
         if let Some(record) = found {
-            self.records.push_back(UnreadRecord { stamp, ..record })?;
+            self.push(UnreadRecord { stamp, ..record })?;
         }
         Ok(())
     }

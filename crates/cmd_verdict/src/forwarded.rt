@@ -1,0 +1,354 @@
+//! What is kept of a capture to judge whether a packet is forwarded once.
+
+use crate::case::is_fail;
+use crate::heard_numbers::{HeardNumbers, PacketId};
+use crate::heard_sources::HeardSources;
+use crate::seen_record::{NANOS, SeenRecord};
+use crate::stretch::Stretch;
+use crate::unread::{UnreadIn, UnreadRecord, UnreadRecords};
+use its_duties::{Claims, EarlierRelay, RelayAgain, judge_once, slack, wait};
+use its_linkframe::FrameView;
+use std::alloc::{AllocError, Global};
+use std::collections::VecDeque;
+
+/// How many forwarded packets are kept at most.
+const MOST: usize = 16384;
+
+/// So many earlier frames of a packet are tried at most, the last first.
+const MOST_TRIED: usize = 16;
+
+/// A packet for an area that the station forwarded.
+#[derive(Clone, Copy)]
+pub(crate) struct ForwardedPacket {
+    pub(crate) record: u64,
+    pub(crate) stamp: u64,
+    /// Its first sending isn't in the capture.
+    pub(crate) retried: bool,
+    pub(crate) packet: PacketId,
+}
+
+impl ForwardedPacket {
+    /// Whether it comes before another one, by stamps and by records.
+    fn is_before(&self, other: &ForwardedPacket) -> bool {
+        self.stamp < other.stamp || (self.stamp == other.stamp && self.record < other.record)
+    }
+}
+
+/// That no earlier frame was found of a packet that was forwarded.
+#[derive(Clone, Copy)]
+pub(crate) struct FoundNone {
+    /// The capture has all of the time that counts.
+    pub(crate) begins: bool,
+    /// What isn't read of what was sent in this time.
+    pub(crate) unread: Option<UnreadIn>,
+    /// Packets had to give way that were forwarded in this time.
+    pub(crate) too_many: bool,
+}
+
+impl FoundNone {
+    /// Whether the capture has each earlier frame that counts.
+    pub(crate) fn is_known(&self, claims: &Claims) -> bool {
+        (claims.fresh || self.begins) && self.unread.is_none() && !self.too_many
+    }
+}
+
+/// An earlier frame of a packet that was forwarded.
+#[derive(Clone, Copy)]
+pub(crate) struct FoundAgain {
+    /// Its record.
+    pub(crate) record: u64,
+    since: u64,
+    sure: bool,
+    others: u32,
+    /// The capture has all of the time in which other numbers count.
+    others_begin: bool,
+    /// The packet was heard less often than it was forwarded, and the capture has all of the time in
+    /// which it may have been heard.
+    heard_less: bool,
+    sources: u32,
+    /// The capture has all of the time in which sources count.
+    pub(crate) sources_begin: bool,
+    /// What isn't read of what was heard in this time.
+    pub(crate) unread: Option<UnreadIn>,
+    /// What was heard in this time had to give way.
+    pub(crate) too_many: bool,
+}
+
+impl FoundAgain {
+    /// Whether each record is read by which it is judged.
+    pub(crate) fn is_read(&self) -> bool {
+        self.unread.is_none() && !self.too_many
+    }
+
+    /// It, by these claims, if all records are read or not.
+    pub(crate) fn earlier(&self, claims: &Claims, all_read: bool) -> EarlierRelay {
+        EarlierRelay::Again(RelayAgain {
+            since: self.since,
+            sure: self.sure,
+            others: self.others,
+            others_known: all_read && self.others_begin,
+            heard_less: all_read && self.heard_less,
+            sources: self.sources,
+            sources_known: all_read && (claims.fresh || self.sources_begin),
+        })
+    }
+
+    /// How many other numbers were heard between.
+    pub(crate) fn others(&self) -> u32 {
+        self.others
+    }
+}
+
+/// Whether a packet was forwarded before.
+#[derive(Clone, Copy)]
+pub(crate) enum FoundEarlier {
+    None(FoundNone),
+    Again(FoundAgain),
+}
+
+/// A stretch of time from so long before an earlier frame on.
+#[derive(Clone, Copy)]
+struct Around {
+    back: u64,
+    first: u64,
+    stretch: Stretch,
+}
+
+impl Around {
+    /// The one that ends so long after the later frame.
+    fn of(back: u64, first: u64, second: u64, after: u64) -> Around {
+        let stretch = Stretch {
+            from: first.saturating_sub(back),
+            to: second.saturating_add(after),
+        };
+        Around {
+            back,
+            first,
+            stretch,
+        }
+    }
+
+    /// Whether it doesn't begin before the capture.
+    fn is_after(&self, begin: u64) -> bool {
+        begin.saturating_add(self.back) <= self.first
+    }
+}
+
+/// How long a source counts.
+fn life(claims: &Claims) -> u64 {
+    u64::from(claims.life).saturating_mul(NANOS)
+}
+
+/// How long before a forwarded packet another frame of it counts.
+fn counted_time(claims: &Claims) -> u64 {
+    life(claims)
+        .saturating_add(wait(claims))
+        .saturating_add(slack(claims).saturating_mul(2))
+}
+
+/// How long before a record another one may be by which it is judged whether a packet is forwarded
+/// once.
+pub(crate) fn once_time(claims: &Claims) -> u64 {
+    counted_time(claims)
+        .saturating_add(life(claims))
+        .saturating_add(wait(claims).saturating_mul(2))
+        .saturating_add(slack(claims).saturating_mul(2))
+}
+
+/// The packets that were forwarded last, and what was heard in their time.
+#[derive(Drop)]
+pub(crate) struct ForwardedPackets {
+    alloc: Global,
+    packets: VecDeque<ForwardedPacket>,
+    /// The last of those that had to give way.
+    lost: Option<u64>,
+    /// What the station sent that isn't read and may be a forwarded packet.
+    unread: UnreadRecords,
+    numbers: HeardNumbers,
+    sources: HeardSources,
+}
+
+impl ForwardedPackets {
+    /// None yet.
+    pub(crate) fn new(alloc: Global) -> ForwardedPackets {
+        ForwardedPackets {
+            alloc,
+            packets: VecDeque::new(alloc),
+            lost: None,
+            unread: UnreadRecords::new(alloc),
+            numbers: HeardNumbers::new(alloc),
+            sources: HeardSources::new(alloc),
+        }
+    }
+
+    /// Notes that packets may be missing up to this stamp.
+    pub(crate) fn lose(&mut self, stamp: u64) {
+        self.lost = Some(stamp.max(self.lost.unwrap_or(0)));
+    }
+
+    /// Whether one may be missing that was sent at this time or later.
+    fn may_lack(&self, from: u64) -> bool {
+        self.lost.is_some_and(|lost| from <= lost)
+    }
+
+    /// Adds a packet that was forwarded. Those of before `oldest` are forgotten.
+    pub(crate) fn add(&mut self, packet: ForwardedPacket, oldest: u64) -> Result<(), AllocError> {
+        for _ in 0..self.packets.len() {
+            match self.packets.front() {
+                Some(first) if first.stamp < oldest => {}
+                _ => break,
+            }
+            self.packets.pop_front();
+        }
+        if MOST <= self.packets.len()
+            && let Some(first) = self.packets.pop_front()
+        {
+            self.lose(first.stamp);
+        }
+        self.packets.push_back(packet)?;
+        Ok(())
+    }
+
+    /// Adds a record that the station sent and that isn't read, if it may be a forwarded packet.
+    pub(crate) fn add_unread(
+        &mut self,
+        record: &SeenRecord,
+        oldest: u64,
+    ) -> Result<(), AllocError> {
+        let unread = UnreadRecord {
+            stamp: record.stamp,
+            number: record.number,
+            despite_profile: true,
+        };
+        self.unread.add(unread, oldest)
+    }
+
+    /// Adds a frame that was heard. No frame is judged any more that was sent before `settled`.
+    pub(crate) fn add_heard(
+        &mut self,
+        record: &SeenRecord,
+        frame: &FrameView<'_>,
+        settled: u64,
+        oldest: u64,
+    ) -> Result<(), AllocError> {
+        let source = frame.packet.vector().address();
+        for stamp in record.repeats.iter() {
+            self.sources.add(source, *stamp, settled, oldest)?;
+        }
+        self.sources.add(source, record.stamp, settled, oldest)?;
+        self.numbers.add(record, frame, oldest)
+    }
+
+    /// Adds another sending of a frame that was heard first in this record.
+    pub(crate) fn repeat_heard(
+        &mut self,
+        first: u64,
+        stamp: u64,
+        frame: &FrameView<'_>,
+        settled: u64,
+        oldest: u64,
+    ) -> Result<(), AllocError> {
+        let source = frame.packet.vector().address();
+        self.sources.add(source, stamp, settled, oldest)?;
+        self.numbers.repeat(first, stamp)
+    }
+
+    /// Adds another sending of a record that isn't read, if it is one of these.
+    pub(crate) fn repeat_unread(&mut self, first: u64, stamp: u64) -> Result<(), AllocError> {
+        self.unread.repeat(first, stamp)
+    }
+
+    /// Finds the last earlier frame of a packet with which it fails to be forwarded once, or else
+    /// the last of all. The capture begins at this stamp.
+    pub(crate) fn find(
+        &self,
+        claims: &Claims,
+        unread: &UnreadRecords,
+        begin: u64,
+        packet: &ForwardedPacket,
+    ) -> Result<FoundEarlier, AllocError> {
+        let from = packet.stamp.saturating_sub(counted_time(claims));
+        let mut earlier = VecDeque::new(self.alloc);
+        for other in self.packets.iter() {
+            if from <= other.stamp && other.packet == packet.packet && other.is_before(packet) {
+                if MOST_TRIED <= earlier.len() {
+                    earlier.pop_front();
+                }
+                earlier.push_back(*other)?;
+            }
+        }
+        let mut last = None;
+        for _ in 0..earlier.len() {
+            let Some(other) = earlier.pop_back() else {
+                break;
+            };
+            let found = self.again(claims, unread, begin, &other, packet)?;
+            let verdict = judge_once(claims, found.earlier(claims, found.is_read()));
+            if is_fail(&verdict) {
+                return Ok(FoundEarlier::Again(found));
+            }
+            last = last.or(Some(found));
+        }
+        Ok(match last {
+            Some(found) => FoundEarlier::Again(found),
+            None => FoundEarlier::None(self.none(claims, begin, packet.stamp, from)),
+        })
+    }
+
+    /// That a packet with this stamp wasn't forwarded since `from`.
+    fn none(&self, claims: &Claims, begin: u64, stamp: u64, from: u64) -> FoundNone {
+        FoundNone {
+            begins: begin.saturating_add(counted_time(claims)) <= stamp,
+            unread: self.unread.within(from, stamp),
+            too_many: self.may_lack(from),
+        }
+    }
+
+    /// What was heard from an earlier frame of a packet to it.
+    fn again(
+        &self,
+        claims: &Claims,
+        unread: &UnreadRecords,
+        begin: u64,
+        first: &ForwardedPacket,
+        second: &ForwardedPacket,
+    ) -> Result<FoundAgain, AllocError> {
+        let doubt = slack(claims).saturating_mul(2);
+        let near = wait(claims).saturating_add(doubt);
+        let before_near = near.saturating_add(wait(claims));
+        let copies = Around::of(near, first.stamp, second.stamp, doubt);
+        let others = Around::of(before_near, first.stamp, second.stamp, doubt);
+        let all = before_near.saturating_add(life(claims));
+        let all = Around::of(all, first.stamp, second.stamp, doubt);
+        let heard = self.numbers.copies(second.packet, copies.stretch);
+        Ok(FoundAgain {
+            record: first.record,
+            since: second.stamp.saturating_sub(first.stamp),
+            sure: !first.retried && !second.retried,
+            others: self.numbers.others(second.packet, others.stretch)?,
+            others_begin: others.is_after(begin),
+            heard_less: copies.is_after(begin) && heard < self.count(first, second),
+            sources: self.sources.count(all.stretch),
+            sources_begin: all.is_after(begin),
+            unread: unread.within(all.stretch.from, all.stretch.to),
+            too_many: self.may_lack(all.stretch.from)
+                || self.numbers.may_lack(others.stretch.from)
+                || self.sources.may_lack(all.stretch.from),
+        })
+    }
+
+    /// How often a packet was forwarded from one frame of it to another.
+    fn count(&self, first: &ForwardedPacket, second: &ForwardedPacket) -> u32 {
+        let stretch = Stretch {
+            from: first.stamp,
+            to: second.stamp,
+        };
+        let mut count: u32 = 0;
+        for other in self.packets.iter() {
+            if !other.retried && other.packet == second.packet && stretch.has(other.stamp) {
+                count = count.saturating_add(1);
+            }
+        }
+        count
+    }
+}

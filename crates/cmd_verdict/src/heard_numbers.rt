@@ -1,0 +1,166 @@
+//! The sequence numbers that the station may have heard of each source.
+
+use crate::seen_record::SeenRecord;
+use crate::stretch::Stretch;
+use its_gnvalue::GnAddress;
+use its_linkframe::FrameView;
+use std::alloc::{AllocError, Global};
+use std::collections::{BTreeSet, VecDeque};
+
+/// How many sendings are kept at most.
+const MOST: usize = 65536;
+
+/// The source and the sequence number of a packet for an area.
+#[derive(Clone, Copy, PartialEq, Eq)]
+pub(crate) struct PacketId {
+    pub(crate) source: GnAddress,
+    pub(crate) sequence: u16,
+}
+
+/// A sending of a packet for an area.
+#[derive(Clone, Copy)]
+struct NumberSending {
+    /// Its record.
+    record: u64,
+    stamp: u64,
+    /// When the record was sent before this, if it was.
+    before: Option<u64>,
+    packet: PacketId,
+}
+
+impl NumberSending {
+    /// Whether it is the first sending of its record in a stretch.
+    fn is_first_in(&self, stretch: Stretch) -> bool {
+        match self.before {
+            Some(before) if stretch.from <= before => false,
+            _ => stretch.has(self.stamp),
+        }
+    }
+}
+
+/// The packets for areas that were heard last: their sources and numbers.
+#[derive(Drop)]
+pub(crate) struct HeardNumbers {
+    alloc: Global,
+    sendings: VecDeque<NumberSending>,
+    /// The last sending of those that had to give way, if any had to.
+    lost: Option<u64>,
+}
+
+impl HeardNumbers {
+    /// None yet.
+    pub(crate) fn new(alloc: Global) -> HeardNumbers {
+        HeardNumbers {
+            alloc,
+            sendings: VecDeque::new(alloc),
+            lost: None,
+        }
+    }
+
+    /// Whether one may be missing that was sent at this time or later.
+    pub(crate) fn may_lack(&self, from: u64) -> bool {
+        match self.lost {
+            Some(lost) => from <= lost,
+            None => false,
+        }
+    }
+
+    /// Adds the packet of a record, if it is one for an area. Those sent before `oldest` are
+    /// forgotten.
+    pub(crate) fn add(
+        &mut self,
+        record: &SeenRecord,
+        frame: &FrameView<'_>,
+        oldest: u64,
+    ) -> Result<(), AllocError> {
+        let Some(sequence) = frame.packet.number() else {
+            return Ok(());
+        };
+        self.forget(oldest);
+        let source = frame.packet.vector().address();
+        let mut before = None;
+        // The repeats that come with a record were sent before it, by their stamps.
+        for stamp in record.repeats.iter() {
+            self.push(NumberSending {
+                record: record.number,
+                stamp: *stamp,
+                before,
+                packet: PacketId { source, sequence },
+            })?;
+            before = Some(*stamp);
+        }
+        self.push(NumberSending {
+            record: record.number,
+            stamp: record.stamp,
+            before,
+            packet: PacketId { source, sequence },
+        })
+    }
+
+    /// Adds a sending. If there are too many, the first one gives way.
+    fn push(&mut self, sending: NumberSending) -> Result<(), AllocError> {
+        if MOST <= self.sendings.len()
+            && let Some(first) = self.sendings.pop_front()
+        {
+            self.lost = Some(first.stamp.max(self.lost.unwrap_or(0)));
+        }
+        self.sendings.push_back(sending)?;
+        Ok(())
+    }
+
+    /// Forgets the sendings of before a stamp.
+    fn forget(&mut self, oldest: u64) {
+        for _ in 0..self.sendings.len() {
+            match self.sendings.front() {
+                Some(sending) if sending.stamp < oldest => {}
+                _ => return,
+            }
+            self.sendings.pop_front();
+        }
+    }
+
+    /// Adds another sending of a record, if it is one of these.
+    pub(crate) fn repeat(&mut self, record: u64, stamp: u64) -> Result<(), AllocError> {
+        let mut found = None;
+        for sending in self.sendings.iter() {
+            if sending.record == record {
+                found = Some(*sending);
+            }
+        }
+        match found {
+            Some(last) => {
+                self.push(NumberSending {
+                    stamp,
+                    before: Some(last.stamp),
+                    ..last
+                })
+            }
+            None => Ok(()),
+        }
+    }
+
+    /// How many other numbers of the source of a packet were heard in a stretch.
+    pub(crate) fn others(&self, packet: PacketId, stretch: Stretch) -> Result<u32, AllocError> {
+        let mut others = BTreeSet::new(self.alloc);
+        for sending in self.sendings.iter() {
+            if sending.packet.source == packet.source
+                && sending.packet.sequence != packet.sequence
+                && stretch.has(sending.stamp)
+            {
+                others.insert(sending.packet.sequence)?;
+            }
+        }
+        Ok(u32::try_from(others.len()).unwrap_or(u32::MAX))
+    }
+
+    /// How many records of a packet were heard in a stretch.
+    pub(crate) fn copies(&self, packet: PacketId, stretch: Stretch) -> u32 {
+        let mut copies: u32 = 0;
+        for sending in self.sendings.iter() {
+            if sending.packet == packet && sending.is_first_in(stretch) {
+                copies = copies.saturating_add(1);
+            }
+        }
+        copies
+    }
+}
