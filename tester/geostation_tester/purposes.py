@@ -23,7 +23,7 @@ from .tables import Table, read_file
 
 ITEM = re.compile(r"(CAP|MIB|PKT|FUN)-[0-9]+$")  # of docs/PROFILE.md
 # The duties that `geostation verdict` judges. For the others a purpose has an [[expect]].
-JUDGED = tuple("D1 D2 D3 D4 D5 D6 D10 D12 D13 D14 D16 D17 D19".split())
+JUDGED = tuple("D1 D2 D3 D4 D5 D6 D10 D12 D13 D14 D15 D16 D17 D19".split())
 
 
 @dataclass(frozen=True)

@@ -231,7 +231,7 @@ class Results(unittest.TestCase):
         fake.chmod(0o700)
         record = written(self.room, "run.pcapng", "")
         setting = Setting("lo", self.station, record, str(fake))
-        missing = "does not judge D3, D4, D5, D6, D10, D12, D13, D14, D16, D17, D19"
+        missing = "does not judge D3, D4, D5, D6, D10, D12, D13, D14, D15, D16, D17, D19"
         with self.assertRaisesRegex(NoVerdict, missing):
             expect_judge(setting)
 
