@@ -26,6 +26,7 @@ from verdict_frames import (
 )
 
 WAITING = 16_384  # so many records wait at most
+DOUBTFUL = 200  # packets that were never received
 SENT = 400_000  # own packets of the capture that is judged for its memory
 MOST_KIB = 64 * 1024
 QUIET = 30_000  # ms after which nothing is doubtful any more
@@ -42,9 +43,9 @@ def never(at: int, number: int) -> Sent:
 
 
 def crowd() -> list[Sent]:
-    """Packets that were never received, all with one stamp, more than wait. Then one that was
-    received, and one that was not."""
-    frames = [never(0, n) for n in range(WAITING + 5_000)]
+    """Packets that were never received, and more own ones than wait, all with one stamp. Then one
+    that was received, and one that was not."""
+    frames = [never(0, n) for n in range(DOUBTFUL)] + [shb(0, STATION)] * (WAITING + 1_000)
     heard = gbc(QUIET, NEAR, 1)
     return [*frames, heard, relay(heard, 2), never(QUIET + 1_000, 2), beacon(2 * QUIET, NEAR)]
 
@@ -57,7 +58,7 @@ def check_crowd(folder: Path, skew: int) -> int:
     found = Counter((line["result"], line["reason"]) for line in lines if line["duty"] == "D13")
     received, number = len(frames) - 4, len(frames) - 3
     wanted = {
-        ("inconclusive", "too many"): WAITING + 5_000,
+        ("inconclusive", "too many"): DOUBTFUL,
         ("pass", f"of #{received}, one hop fewer"): 1,
         ("fail", f"never received: {FAR:016x} number 2"): 1,
     }
