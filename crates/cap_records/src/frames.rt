@@ -93,9 +93,9 @@ impl FoundRecord {
     }
 }
 
-/// Reads the frame of each record, in the buffer.
+/// Reads the frame of each record that is selected, in the buffer.
 #[derive(Drop)]
-pub(crate) struct FrameReader {
+pub struct FrameReader {
     /// The moment of the first record, and the nanoseconds below it.
     first: Option<(u64, u32)>,
     /// Where a frame that was cut is completed.
@@ -103,8 +103,8 @@ pub(crate) struct FrameReader {
 }
 
 impl FrameReader {
-    /// No record yet.
-    pub(crate) fn new() -> FrameReader {
+    /// Returns a reader that has read no record.
+    pub fn new() -> FrameReader {
         FrameReader {
             first: None,
             room: [0; LONGEST_FRAME],

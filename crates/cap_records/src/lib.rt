@@ -58,7 +58,7 @@ pub use crate::condition::{Condition, Conditions};
 pub use counts::RecordCounts;
 pub use found::{Found, FoundFrame, FoundOutside, FramePlace, SeenFrame};
 pub use frame::{frame_of, read_from, traits_of};
-pub use frames::{FoundRecord, RecordPlace};
+pub use frames::{FoundRecord, FrameReader, RecordPlace};
 pub use outside::OutsideFrame;
 pub use records::{Pulled, RecordReader, Records};
 pub use refusal::{FileFault, RecordCode, RecordFault, SIGNED_HINT};
