@@ -2,10 +2,10 @@
 
 ghost use Rattle.std.specs.Prelude.{◌<◌};
 
-use crate::table::Table;
 use cap_pcap::LinkFault;
 use cap_records::messages::{MessageFault, SHORT_MESSAGE, UNREAD_MESSAGE};
 use cap_records::{RecordFault, SIGNED_HINT};
+use cmd_table::Table;
 use its_faults::{FaultKind, FrameFault, SecuredFault};
 use its_headers::{KINDS, Kind};
 use its_outside::StandardKind;

@@ -40,7 +40,6 @@ mod psids;
 pub mod replay;
 mod seconds;
 mod sources;
-mod table;
 mod traffic;
 
 pub use counting::{PrintedSources, stats_file};

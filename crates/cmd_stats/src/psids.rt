@@ -1,7 +1,7 @@
 //! The traffic of each PSID.
 
-use crate::table::Table;
 use crate::traffic::Traffic;
+use cmd_table::Table;
 use serde::Serialize;
 use std::alloc::{AllocError, Global};
 use std::collections::BTreeMap;

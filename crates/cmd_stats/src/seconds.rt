@@ -1,7 +1,7 @@
 //! The load of each second.
 
-use crate::table::Table;
 use cap_linklayers::airtime::air_time;
+use cmd_table::Table;
 use serde::Serialize;
 use std::alloc::{AllocError, Global};
 use std::collections::BTreeMap;

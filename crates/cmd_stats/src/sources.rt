@@ -2,8 +2,8 @@
 
 use crate::numbers::Numbers;
 use crate::own::{OWN_HEADS, OwnFrames, OwnKeys, Sending};
-use crate::table::Table;
 use cap_records::{OutsideFrame, RecordPlace};
+use cmd_table::Table;
 use its_linkframe::FrameView;
 use its_outside::ExtendedFields;
 use its_words::json_lines::Digits;

@@ -1,6 +1,6 @@
 //! How frames differ, and how many do.
 
-use crate::table::Table;
+use cmd_table::Table;
 use its_gnvalue::Mac;
 use serde::Serialize;
 use std::alloc::{AllocError, Global};

@@ -7,7 +7,7 @@ use std::io::Write;
 
 /// A table: a line of heads, and rows.
 #[derive(Drop)]
-pub(crate) struct Table {
+pub struct Table {
     /// The width of each column.
     widths: Vec<usize>,
     /// The words, row by row, one behind the other.
@@ -19,8 +19,8 @@ pub(crate) struct Table {
 }
 
 impl Table {
-    /// A table with these heads, and no row.
-    pub(crate) fn new(alloc: Global, heads: &[&str]) -> Result<Table, AllocError> {
+    /// Returns a table with these heads, and no row. `AllocError` if an allocation failed.
+    pub fn new(alloc: Global, heads: &[&str]) -> Result<Table, AllocError> {
         let mut table = Table {
             widths: Vec::new(alloc),
             text: String::new(alloc),
@@ -34,15 +34,15 @@ impl Table {
         Ok(table)
     }
 
-    /// Adds the next word.
-    pub(crate) fn add<T: Display>(&mut self, word: &T) -> Result<(), AllocError> {
+    /// Adds the next word, of the next column. `AllocError` if an allocation failed.
+    pub fn add<T: Display>(&mut self, word: &T) -> Result<(), AllocError> {
         let start = self.text.len();
         write!(self.text, "{word}").map_err(|_| AllocError)?;
         self.end(start)
     }
 
-    /// The same of octets, as hexadecimal digits in lower case.
-    pub(crate) fn add_digits(&mut self, octets: &[u8]) -> Result<(), AllocError> {
+    /// Adds octets as the next word, as hexadecimal digits in lower case.
+    pub fn add_digits(&mut self, octets: &[u8]) -> Result<(), AllocError> {
         let start = self.text.len();
         for octet in octets {
             write!(self.text, "{octet:02x}").map_err(|_| AllocError)?;
@@ -64,8 +64,9 @@ impl Table {
         Ok(())
     }
 
-    /// Writes it: the first column to the left, the others to the right, parted by two spaces.
-    pub(crate) fn write<W: Write>(&self, out: &mut W) -> io::Result<()> {
+    /// Writes the table. The first column is aligned to the left, the others to the right, with two
+    /// spaces between columns.
+    pub fn write<W: Write>(&self, out: &mut W) -> io::Result<()> {
         let mut start = 0;
         let mut column = 0;
         for end in self.ends.iter() {
