@@ -1,0 +1,224 @@
+//! The command `follow`.
+
+ghost use Rattle.std.specs.Prelude.{IfOk};
+ghost use Rattle.cmd_reporting.specs.Statuses.{IsCommandStatus};
+
+use crate::key::FollowBy;
+use crate::names::tap_names;
+use crate::packet::FollowedPacket;
+use crate::row::{FollowForm, RowPrinter};
+use crate::standard::StandardInput;
+use crate::summary::Summary;
+use crate::tables::Summed;
+use crate::tap::{Tap, TapCounts, next_packet};
+use crate::warnings::{report_tap, report_window};
+use crate::window::Window;
+use cap_pcap::RecordSource;
+use cap_records::{CaptureFile, Selection, open_records};
+use cmd_reporting::{Fault, Io, OutputFormat, Status, is_standard, open};
+use cmd_times::Time;
+use std::alloc::{AllocError, Global};
+use std::io::{Read, Write};
+use std::rt::Files;
+
+/// Which packets are followed over which captures, and how that is printed.
+#[derive(Drop)]
+pub struct FollowOptions<'a> {
+    /// The names of the captures. One of them may be standard input.
+    pub files: Vec<&'a str>,
+    /// Which records of each capture.
+    pub selection: Selection,
+    /// By what frames are copies of one packet.
+    pub by: FollowBy,
+    /// How long after its first frame a packet is followed, in milliseconds.
+    pub window: u64,
+    /// Whether a summary is printed instead of rows.
+    pub summary: bool,
+    /// How it is printed.
+    pub form: FollowForm,
+    /// How times are printed.
+    pub time: Time,
+}
+
+/// Follows each packet over several captures, and prints a row per packet and capture, or a
+/// summary. `input` is standard input.
+///
+/// `Refused` if a capture was refused. `Failed` if a file could not be read or standard output not
+/// written, or memory ran out.
+pub fn follow_files<R: Files + AllocGlobal, I: Read + Drop, W: Write, E: Write>(
+    rt: &R,
+    what: &FollowOptions<'_>,
+    input: I,
+    io: &mut Io<W, E>,
+) -> Status
+where
+    R::File: Read + Drop,
+    ensures { IsCommandStatus result }
+{
+    let ended = follow(rt, what, input, io);
+    io.status_of(ended)
+}
+
+/// Opens the captures, and follows their packets. The fault is what ends the command before it is
+/// done.
+fn follow<'a, R: Files + AllocGlobal, I: Read + Drop, W: Write, E: Write>(
+    rt: &R,
+    what: &FollowOptions<'a>,
+    input: I,
+    io: &mut Io<W, E>,
+) -> Result<Status, Fault<'a>>
+where
+    R::File: Read + Drop,
+    ensures { IfOk result IsCommandStatus }
+{
+    let alloc = rt.alloc();
+    let mut input = Some(input);
+    let mut taps = Vec::new(alloc);
+    for (number, file) in what.files.iter().enumerate() {
+        let input = StandardInput::of(file, &mut input)?;
+        let reader = open(rt, file, input)?;
+        let tap = match open_records(alloc, file, what.selection.format, reader)? {
+            CaptureFile::Source(source) => {
+                Tap::new(alloc, number, file, source, &what.selection, what.by)?
+            }
+            CaptureFile::Gzip => Tap::gzip(file),
+        };
+        taps.push(tap)?;
+    }
+    let names = tap_names(alloc, what.files.as_slice())?;
+    follow_taps(alloc, what, taps, names.as_slice(), io)
+}
+
+/// What is done with the packets.
+#[derive(Drop)]
+enum Output<'n> {
+    /// The rows of each are printed.
+    Rows(RowPrinter<'n>),
+    /// Each is counted.
+    Summary(Summary),
+}
+
+impl<'n> Output<'n> {
+    /// Returns what is done with the packets of taps with these names, and prints what comes before
+    /// them.
+    fn begin<'f, W: Write>(
+        alloc: Global,
+        what: &FollowOptions<'_>,
+        names: &'n [&'n str],
+        out: &mut W,
+    ) -> Result<Output<'n>, Fault<'f>> {
+        if what.summary {
+            return Ok(Output::Summary(Summary::new(alloc, names.len())?));
+        }
+        let rows = RowPrinter::new(alloc, what.form, what.time, names)?;
+        rows.begin(out)?;
+        Ok(Output::Rows(rows))
+    }
+
+    /// Prints or counts a packet that is complete.
+    fn put<'f, W: Write>(&mut self, packet: &FollowedPacket, out: &mut W) -> Result<(), Fault<'f>> {
+        match self {
+            Output::Rows(rows) => rows.put(packet, out),
+            Output::Summary(summary) => {
+                summary.add(packet)?;
+                Ok(())
+            }
+        }
+    }
+}
+
+/// Follows the packets of taps with these names.
+fn follow_taps<'a, 'n, S: RecordSource + Drop, W: Write, E: Write>(
+    alloc: Global,
+    what: &FollowOptions<'a>,
+    taps: Vec<Tap<'a, S>>,
+    names: &'n [&'n str],
+    io: &mut Io<W, E>,
+) -> Result<Status, Fault<'a>>
+    ensures { IfOk result IsCommandStatus }
+{
+    let mut taps = taps;
+    let mut window = Window::new(alloc, what.window);
+    let mut output = Output::begin(alloc, what, names, &mut io.out)?;
+    follow_packets(what, &mut taps, &mut window, &mut output, &mut io.out)?;
+    if let Output::Summary(summary) = &output {
+        let counts = counts_of(alloc, &taps)?;
+        let summed = Summed {
+            summary,
+            names,
+            counts: counts.as_slice(),
+        };
+        summed.print(alloc, what.form, &mut io.out)?;
+    }
+    let is_whole = report_taps(&taps, names, io.format, &mut io.err);
+    report_window(&window.counts, what.window, &mut io.err);
+    Ok(if is_whole {
+        Status::Done
+    } else {
+        Status::Refused
+    })
+}
+
+/// Reads all packets in the order of their times, and puts each that is complete.
+fn follow_packets<'a, S: RecordSource + Drop, W: Write>(
+    what: &FollowOptions<'a>,
+    taps: &mut Vec<Tap<'a, S>>,
+    window: &mut Window,
+    output: &mut Output<'_>,
+    out: &mut W,
+) -> Result<(), Fault<'a>> {
+    let waits = what.files.iter().any(|file| is_standard(file));
+    // The range is there so that the walk ends by its form. No file reaches its end.
+    for _ in 0..u64::MAX {
+        if waits {
+            out.flush()?;
+        }
+        let Some(seen) = next_packet(taps)? else {
+            break;
+        };
+        window.advance(seen.sighting.stamp);
+        for _ in 0..window.count() {
+            match window.take_over() {
+                Some(packet) => output.put(&packet, out)?,
+                None => break,
+            }
+        }
+        if let Some(packet) = window.take_crowding() {
+            output.put(&packet, out)?;
+        }
+        window.add(seen)?;
+    }
+    for _ in 0..window.count() {
+        if let Some(packet) = window.take_oldest() {
+            output.put(&packet, out)?;
+        }
+    }
+    Ok(())
+}
+
+/// The counts of the taps.
+fn counts_of<S: RecordSource + Drop>(
+    alloc: Global,
+    taps: &Vec<Tap<'_, S>>,
+) -> Result<Vec<TapCounts>, AllocError> {
+    let mut counts = Vec::new(alloc);
+    for tap in taps.iter() {
+        counts.push(tap.counts)?;
+    }
+    Ok(counts)
+}
+
+/// Reports what was not read of the taps with these names. Returns whether no capture was refused.
+fn report_taps<S: RecordSource + Drop, E: Write>(
+    taps: &Vec<Tap<'_, S>>,
+    names: &[&str],
+    format: OutputFormat,
+    err: &mut E,
+) -> bool {
+    let mut is_whole = true;
+    for (tap, name) in taps.iter().zip(names) {
+        report_tap(name, &tap.counts, tap.ended, format, err);
+        is_whole = is_whole && tap.ended.is_none();
+    }
+    is_whole
+}
