@@ -35,7 +35,7 @@ pub fn rule_of<'a>(matches: &ArgMatches<'a>) -> Result<Option<ContentionRule>, B
 }
 
 /// The number that an option spells in decimal digits, if it is given.
-fn number_of<'a>(
+pub(crate) fn number_of<'a>(
     matches: &ArgMatches<'a>,
     option: &'a str,
     least: u16,

@@ -12,8 +12,12 @@ enum Argument {
     Signed(&'static str, &'static str),
     /// Required, by position, unless the option of this name is given. Both together are refused.
     Unless(&'static str, &'static str, &'static str),
+    /// Required, by position, from one to this number of times.
+    Many(&'static str, usize, &'static str),
     /// An option without a value.
     Flag(&'static str, &'static str),
+    /// An option without a value. Together with the option of this name it is refused.
+    FlagUnless(&'static str, &'static str, &'static str),
     /// An option without a value, with a letter.
     LetterFlag(char, &'static str, &'static str),
     /// An option with a value, and the name of the value in the help.
@@ -257,6 +261,17 @@ const CHOOSING: &[Argument] = &[
     COUNT,
 ];
 
+/// The options that select frames, for a command that follows them over several captures.
+const CHOOSING_FRAMES: &[Argument] = &[
+    KIND,
+    SOURCE,
+    FROM_MAC,
+    PORT,
+    SINCE,
+    UNTIL,
+    NOT_GEONETWORKING,
+];
+
 /// The options that select records, for a command whose `--port` opens a port.
 const CHOOSING_TO_ANY_PORT: &[Argument] = &[
     KIND, SOURCE, FROM_MAC, TO_MAC, HOPS, CLASS, NUMBER, AREA, ANY, NOT, SINCE, UNTIL, REFUSED,
@@ -319,7 +334,7 @@ fn stations() -> &'static [Form] {
 }
 
 /// The commands that print what is in a capture.
-static READERS: [Form; 3] = [
+static READERS: [Form; 4] = [
     Form {
         name: "show",
         about: "Print a line for each record of a capture",
@@ -371,6 +386,49 @@ Example:
         example: "\
 Example:
   geostation stats first.cap",
+    },
+    Form {
+        name: "follow",
+        about: "Follow each packet over several captures",
+        arguments: &[
+            Argument::Many(
+                "CAPTURE",
+                16,
+                "Capture files, 1 to 16, one of which may be - for standard input",
+            ),
+            FORMAT,
+            Argument::Choice(
+                "by",
+                "WHAT",
+                &["packet", "payload"],
+                "What copies of a packet have in common: source, kind, number and time stamp, or source and payload [default: packet]",
+            ),
+            Argument::Value(
+                "window",
+                "MS",
+                "Time in which copies of a packet are looked for, 1 to 60000 ms [default: 10000]",
+            ),
+            Argument::Flag(
+                "summary",
+                "Print what the captures have in common instead of the packets",
+            ),
+            JSON,
+            Argument::FlagUnless("csv", "json", "Print rows of CSV"),
+            Argument::Choice(
+                "time",
+                "TIME",
+                &["raw", "utc"],
+                "How to print times: milliseconds or UTC [default: raw]",
+            ),
+            EXPLAIN,
+            NO_EXPLAIN,
+            SIGNED,
+            ALL_KINDS,
+        ],
+        choosing: CHOOSING_FRAMES,
+        example: "\
+Example:
+  geostation follow near.pcapng far.pcapng --summary",
     },
 ];
 
@@ -670,7 +728,14 @@ impl Argument {
                 .help(help)
                 .required_unless_present(other)?
                 .conflicts_with(other)?,
+            Argument::Many(name, most, help) => Arg::new(alloc, name)
+                .required(true)
+                .num_args(1..=most)
+                .help(help),
             Argument::Flag(name, help) => flag(alloc, name, help),
+            Argument::FlagUnless(name, other, help) => {
+                flag(alloc, name, help).conflicts_with(other)?
+            }
             Argument::LetterFlag(letter, name, help) => flag(alloc, name, help).short(letter),
             Argument::Value(name, value, help) => option(alloc, name, value, help),
             Argument::LetterValue(letter, name, value, help) => {

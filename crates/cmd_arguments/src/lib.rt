@@ -23,6 +23,7 @@ mod bad_argument;
 mod choosing;
 mod conditions;
 mod contention;
+mod following;
 mod forms;
 mod judging;
 mod station;
@@ -34,6 +35,7 @@ pub use choosing::{
     count_of, fields_of, ports_of, selection_of, selection_to_any_port, time_of, times_of,
 };
 pub use contention::rule_of;
+pub use following::following_of;
 pub use forms::{add_commands, command_named};
 pub use judging::{claims_of, duties_of, printing_of};
 pub use station::StationArguments;

@@ -1,6 +1,6 @@
 //! The frames that a source sent itself, and the times between them.
 
-use crate::table::Table;
+use cmd_table::Table;
 use serde::Serialize;
 use std::alloc::AllocError;
 use std::fmt;

@@ -11,6 +11,7 @@ use crate::subcommand::{Convert, Import, Replay, Show, Subcommand};
 use cmd_arguments::StationArguments;
 use cmd_arguments::terminal::{Console, Meter, Screen, ShownReading};
 use cmd_captures::{check_file, convert_file, import_file, show_file};
+use cmd_follow::follow_files;
 use cmd_mesh::mesh_file;
 use cmd_page::{Viewing, view_file};
 use cmd_pipe::{Ended, run_contending_station};
@@ -180,6 +181,7 @@ where
                 &mut io,
             )
         }
+        Subcommand::Follow(what) => { follow_files(rt, what, input, &mut Io { out, err, format }) }
         Subcommand::Convert(convert) => {
             convert_records(rt, convert, input, &mut Io { out, err, format })
         }

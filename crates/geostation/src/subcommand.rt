@@ -7,10 +7,12 @@ use cap_pcap::Format;
 use clap::ArgMatches;
 use cmd_arguments::terminal::{Coloring, Console, Painter};
 use cmd_arguments::{
-    BadArgument, StationArguments, against_of, claims_of, count_of, duties_of, fields_of, ports_of,
-    printing_of, rule_of, selection_of, selection_to_any_port, time_of, times_of,
+    BadArgument, StationArguments, against_of, claims_of, count_of, duties_of, fields_of,
+    following_of, ports_of, printing_of, rule_of, selection_of, selection_to_any_port, time_of,
+    times_of,
 };
 use cmd_captures::{Conversion, Field, Selection, Showing};
+use cmd_follow::FollowOptions;
 use cmd_mesh::MeshOptions;
 use cmd_page::Viewing;
 use cmd_reporting::{OutputFormat, Target, is_standard};
@@ -31,6 +33,8 @@ pub enum Subcommand<'a> {
     Check(ChosenRecords<'a>),
     /// To count records, and to tell of so many sources at most.
     Stats(ChosenRecords<'a>, PrintedSources),
+    /// To follow packets over captures.
+    Follow(FollowOptions<'a>),
     /// To write records to another file.
     Convert(Convert<'a>),
     /// To make a capture of lines.
@@ -179,6 +183,10 @@ pub(crate) fn subcommand_of<'a>(
                 Some(station) => Ok(Some(Subcommand::Station(station, rule))),
                 None => Ok(None),
             }
+        }
+        "follow" => {
+            let what = following_of(alloc, inner, format_of(inner, "format"))?;
+            Ok(Some(Subcommand::Follow(what)))
         }
         "replay" => replaying(inner),
         "verdict" => judging(inner),
