@@ -43,12 +43,13 @@ function print_option(indent, row,    at, count, forms, specification) {
 }
 
 # The call of `_arguments` for a command, or for the program itself.
-function print_arguments(indent, name,    row, position) {
+function print_arguments(indent, name,    row, position, place) {
     print indent "_arguments -C \\"
     for (row = 1; row <= rows; row++) if (command[row] == name) {
         if (is_option(row)) print_option(indent, row)
         if (is_argument(row)) {
-            print_specification(indent, ++position ":" escaped(text[row]) ":" action_of(row))
+            place = value[row] == ".." ? "*" : ++position
+            print_specification(indent, place ":" escaped(text[row]) ":" action_of(row))
         }
     }
     if (name == "-" && commands > 0) {
