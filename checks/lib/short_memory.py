@@ -17,7 +17,9 @@ from failing import DATA, NO_MEMORY, Run, make, map_all
 # So many of the first allocations fail in turn, and behind them as many more, evenly spread.
 FIRST = 200
 # These print as they go, so the first of their lines may stand there where memory runs out.
-STREAM = {"show", "check", "stats", "sim", "view", "mesh", "replay", "verdict", "station"}
+STREAM = {
+    "show", "check", "stats", "follow", "sim", "view", "mesh", "replay", "verdict", "station"
+}  # fmt: skip
 # These have all the memory that they need before they print the last line.
 EARLY = {"show", "check"}
 
@@ -106,6 +108,9 @@ RUNS = [
     Run("check data/refused.cap", status=1),
     Run("stats data/captured.pcapng"),
     Run("stats --json data/gbc.cap"),
+    Run("follow data/follow/near.pcap data/follow/far.pcap"),
+    Run("follow --json --by payload data/follow/near.pcap data/follow/far.pcap"),
+    Run("follow --summary data/follow/near.pcap data/follow/far.pcap"),
     Run("show --signed data/signed.pcap", DATA / "signed.show", 1),
     Run("show --signed --json --count 3 data/signed.pcap"),
     Run("stats --signed --json data/signed.pcap", DATA / "signed.stats.json"),
