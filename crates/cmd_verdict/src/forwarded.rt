@@ -46,9 +46,13 @@ pub(crate) struct FoundNone {
 }
 
 impl FoundNone {
-    /// Whether the capture has each earlier frame that counts.
-    pub(crate) fn is_known(&self, claims: &Claims) -> bool {
-        (claims.fresh || self.begins) && self.unread.is_none() && !self.too_many
+    /// It, by these claims.
+    pub(crate) fn earlier(&self, claims: &Claims) -> EarlierRelay {
+        let begins = claims.fresh || self.begins;
+        if begins && self.unread.is_none() && !self.too_many {
+            return EarlierRelay::Never;
+        }
+        EarlierRelay::NotSeen
     }
 }
 

@@ -15,14 +15,14 @@ use crate::relay_cases::{faithful_case, in_time_case};
 use crate::relays::{Relay, find_origin};
 use crate::repeats::{RETRY_TIME, Repeats};
 use crate::reporter::CaseSink;
-use crate::role::{Role, may_be_forwarded, may_be_own, role_of};
+use crate::unread_source::{may_be_forwarded, may_be_own};
 use crate::seen_record::SeenRecord;
 use crate::text::Text;
 use crate::unread::{UnreadRecord, UnreadRecords};
 use crate::waiting::{Waiting, WaitingFrames};
 use cmd_reporting::Fault;
 use its_duties::{
-    BeaconGap, Claims, Doubt, Duty, NumberStep, Verdict, doubt_between, judge_beacon,
+    BeaconGap, Claims, Doubt, Duty, NumberStep, Role, Verdict, doubt_between, judge_beacon,
     judge_faithful, judge_numbers, longest, slack, wait,
 };
 use its_headers::Kind;
@@ -184,7 +184,7 @@ impl Judge {
         self.unread.repeat(first, stamp)?;
         self.forwarded.repeat_unread(first, stamp)?;
         let frame = record.frame();
-        match (role_of(&self.claims, record.view(&frame)), &frame) {
+        match (record.role(&self.claims, &frame), &frame) {
             (Role::Heard, Ok(view)) => {
                 let (settled, oldest) = (self.settled(stamp), self.oldest_of_once(stamp));
                 self.forwarded
@@ -199,7 +199,7 @@ impl Judge {
         self.repeats.note(&record, record.number)?;
         let retried = record.is_retry();
         let frame = record.frame();
-        let role = role_of(&self.claims, record.view(&frame));
+        let role = record.role(&self.claims, &frame);
         let mut step = None;
         match (role, &frame) {
             (Role::Own, Ok(view)) => {
@@ -281,7 +281,7 @@ impl Judge {
         let unread = UnreadRecord {
             stamp: record.stamp,
             number: record.number,
-            despite_profile: role_of(&profile, record.view(frame)) != Role::Other,
+            despite_profile: record.role(&profile, frame) != Role::Other,
         };
         self.unread.add(unread, oldest)?;
         for stamp in record.repeats.iter() {

@@ -9,10 +9,9 @@
 //! # Only tested
 //!
 //! - `cases/verdict.md`: texts, objects, statuses, refused station files.
-//! - `checks/verdict`: that what the command finds in a capture is there: which records are the
-//!   station's and which it may have heard (`role_of`), the packet before (`IsBeaconAfter`,
-//!   `IsNumberStep`), what a forwarded packet was made from (`IsSearch`), whether it was forwarded
-//!   before (`IsRelayAgain`).
+//! - `checks/verdict`: that what the command finds in a capture is there: the packet before
+//!   (`IsBeaconAfter`, `IsNumberStep`), what a forwarded packet was made from (`IsSearch`), whether it
+//!   was forwarded before (`IsRelayAgain`).
 #![tactic(auto)]
 
 mod area_cases;
@@ -37,13 +36,13 @@ mod relay_cases;
 mod relays;
 mod repeats;
 mod reporter;
-mod role;
 mod seen_record;
 mod station_file;
 mod stretch;
 mod table_keys;
 mod text;
 mod unread;
+mod unread_source;
 mod waiting;
 
 pub use claim::{Claim, ClaimSet};

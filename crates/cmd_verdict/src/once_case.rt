@@ -4,7 +4,7 @@ use crate::case::{Case, Needs, is_fail};
 use crate::forwarded::{FoundAgain, FoundEarlier, FoundNone};
 use crate::heard_numbers::PacketId;
 use crate::text::Text;
-use its_duties::{AreaForwarding, Claims, Duty, EarlierRelay, Verdict, judge_once};
+use its_duties::{AreaForwarding, Claims, Duty, Verdict, judge_once};
 
 /// The room of a table that is as large as a claim can make it.
 const LARGEST: u32 = 4096;
@@ -19,7 +19,7 @@ pub(crate) fn once_case(claims: &Claims, packet: PacketId, found: &FoundEarlier)
 
 /// The verdict if no earlier frame was found.
 fn first_time_case(claims: &Claims, found: &FoundNone) -> Case {
-    let verdict = judge_once(claims, EarlierRelay::None(found.is_known(claims)));
+    let verdict = judge_once(claims, found.earlier(claims));
     let is_claimed = claims.sent && (claims.fresh || found.begins);
     let text = match found.unread {
         Some(unread) if is_claimed => Text::NotRead(unread.first),

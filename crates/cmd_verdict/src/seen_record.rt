@@ -1,10 +1,10 @@
 //! The records of a capture, as they are judged.
 
 use crate::link_header::LinkFrame;
-use crate::role::RecordView;
 use cap_linklayers::{LinkFault, LinkLayer, frame_start};
 use cap_pcap::RecordHeader;
 use cap_records::{RecordReader, Selection, read_from};
+use its_duties::{Claims, FrameSource, RecordFacts, Role, role_of};
 use its_linkframe::{FrameFault, FrameView, read_frame};
 use std::alloc::{AllocError, Global};
 
@@ -38,18 +38,18 @@ impl SeenRecord {
         read_frame(self.octets.as_slice())
     }
 
-    /// The record, as the duties see it, with the frame that it is.
-    pub(crate) fn view<'a>(
-        &'a self,
-        frame: &'a Result<FrameView<'a>, FrameFault>,
-    ) -> RecordView<'a> {
-        RecordView {
+    /// What it is to the station, with the frame that it is.
+    pub(crate) fn role(&self, claims: &Claims, frame: &Result<FrameView<'_>, FrameFault>) -> Role {
+        let facts = RecordFacts {
             interface: self.interface,
-            octets: self.octets.as_slice(),
             cut: self.cut,
             known_target: self.known_target,
-            frame,
-        }
+            frame: match frame {
+                Ok(frame) => FrameSource::Frame(frame.packet.vector().address()),
+                Err(fault) => FrameSource::NoFrame(*fault),
+            },
+        };
+        role_of(claims, &facts, self.octets.as_slice())
     }
 
     /// Whether it is of IEEE 802.11.

@@ -2,9 +2,8 @@
 
 use crate::own_packets::StepFrom;
 use crate::repeats::RETRY_TIME;
-use crate::role::Role;
 use crate::seen_record::SeenRecord;
-use its_duties::{Claims, doubt_between};
+use its_duties::{Claims, Role, doubt_between};
 use std::alloc::{AllocError, Global};
 use std::collections::VecDeque;
 
