@@ -15,10 +15,10 @@ use crate::relay_cases::{faithful_case, in_time_case};
 use crate::relays::{Relay, find_origin};
 use crate::repeats::{RETRY_TIME, Repeats};
 use crate::reporter::CaseSink;
-use crate::unread_source::{may_be_forwarded, may_be_own};
 use crate::seen_record::SeenRecord;
 use crate::text::Text;
 use crate::unread::{UnreadRecord, UnreadRecords};
+use crate::unread_source::{may_be_forwarded, may_be_own};
 use crate::waiting::{Waiting, WaitingFrames};
 use cmd_reporting::Fault;
 use its_duties::{

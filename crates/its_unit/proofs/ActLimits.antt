@@ -535,8 +535,7 @@ fresh_passes u next t message relayed brought answered owes =
     let fresh = no_echo_passed u.governor r next.now t message left.0 passes.0 passes.1 in
     let request : is_withheld u next ≡ false =
     ap (λ (b : Bool). b && is_over_rate u.governor u.station.clock next.now)
-    (no_request next.call t brought) in
-    (
+    (no_request next.call t brought) in (
       passes.0,
       ap (λ (b : Bool). (step_by_rate u next b).answer) request
           ∙ ap (λ (f : Option Transmission). answer_by

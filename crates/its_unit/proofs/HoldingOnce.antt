@@ -266,10 +266,13 @@ first_weighs w (suc most) address now b g frames =
     (frames_first most address now (after_drop b now)
     (after_due_frame g now (first_due now b.held) false)
     (frames_left (first_due now b.held) (place_due now b.held) frames))
-    (omega (arith, left_weighs w (first_due now b.held) (place_due now b.held) frames,
-    first_weighs w most address now (after_drop b now)
-    (after_due_frame g now (first_due now b.held) false)
-    (frames_left (first_due now b.held) (place_due now b.held) frames)))
+    (omega (
+      arith,
+      left_weighs w (first_due now b.held) (place_due now b.held) frames,
+      first_weighs w most address now (after_drop b now)
+          (after_due_frame g now (first_due now b.held) false)
+          (frames_left (first_due now b.held) (place_due now b.held) frames),
+    ))
   where
     by : (o : Option Waiting) (room : Bool) (rest : ReleasedFrame)
         → weigh w rest.frames + weigh_one w rest.sent ≤ weigh w frames
@@ -289,10 +292,13 @@ released_weighs w u now = by (moment_refusal u.unit.station now)
         weigh w r.frames + weigh_one w r.sent ≤ weigh w u.frames
     held_by None = omega arith
     held_by (Some b) =
-        omega (arith, weigh_kept w (λ (h : HeldFrame Waiting). nat_le now (h.due + late_after))
-        b.held u.frames,
-        first_weighs w (length (kept_at now b.held)) u.unit.station.address now (after_late b now)
-        u.unit.governor (frames_in_time now b u.frames))
+        omega (
+          arith,
+          weigh_kept w (λ (h : HeldFrame Waiting). nat_le now (h.due + late_after))
+              b.held u.frames,
+          first_weighs w (length (kept_at now b.held)) u.unit.station.address now (after_late b now)
+              u.unit.governor (frames_in_time now b u.frames),
+        )
 
     by : (o : Option Refusal)
         → let r = frames_released_by u now o in
@@ -364,8 +370,13 @@ released_keeps f e u at h = λ w.
     let units : total w (slice_set f.units e.unit new) + weigh w u.frames
     ≡ total w f.units + weigh w (frames_released u e.moment).frames =
     total_set w f.units e.unit u new at in
-    omega (arith, h w, weigh_more w f.sent (frames_released u e.moment).sent, units,
-    released_weighs w u e.moment))
+    omega (
+      arith,
+      h w,
+      weigh_more w f.sent (frames_released u e.moment).sent,
+      units,
+      released_weighs w u e.moment,
+    ))
 
 happened_keeps : (f : FleetModel HoldingUnit) (e : FleetEvent) (u : HoldingUnit) (what : FleetWhat)
     → slice_get f.units e.unit ≡ Some u → Weighs f → Weighs (happened holding_kind f e u what)
@@ -485,5 +496,9 @@ contenders_send_once units events =
         → ((eqb m n ≡ true) × (m ≡ n)) ⊎ ((eqb m n ≡ false) × (m ≢ n)) → m ≡ n
     by f weighs m n a b at_m at_n same (inl g) = g.1
     by f weighs m n a b at_m at_n same (inr g) =
-        absurd (omega (arith, weighs (is_of b.number), made_once f.made 0 b.number,
-        two_there f.sent m n b.number a b at_m at_n same refl g.1))
+        absurd (omega (
+          arith,
+          weighs (is_of b.number),
+          made_once f.made 0 b.number,
+          two_there f.sent m n b.number a b at_m at_n same refl g.1,
+        ))

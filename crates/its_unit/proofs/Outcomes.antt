@@ -79,9 +79,12 @@ at_once_settled : (g : Governor) (r : Receiver) (now : ℕ) (t : Transmission)
     (handed : Option Message) (relay : Transmission)
     → Settled g r now t relay None (model.Answer.Accepted handed (Some relay))
 at_once_settled g r now t handed relay =
-    inr (refl, passes_or_counts g now t handed relay
-    (passed_of g r now t (is_some handed) true).delivers (has_room_for g r now t)
-    (is_echo g.delivered now t))
+    inr (
+      refl,
+      passes_or_counts g now t handed relay
+          (passed_of g r now t (is_some handed) true).delivers (has_room_for g r now t)
+          (is_echo g.delivered now t),
+    )
 
 settled : (o : Option (Buffer Waiting)) (g : Governor) (s : StationModel) (r : Receiver) (now : ℕ)
     (t : Transmission) (handed : Option Message) (relay : Transmission)
@@ -228,13 +231,18 @@ answered_counts u c waiting senders t (model.Answer.Ignored model.Why.Duplicate)
         (cond (copy && not among) (t.link_source ∷ senders) senders)
     by false among is there = inl refl
     by true true is there = inl refl
-    by true false is there = inr (t.link_source, refl, there, record {
-      packet = t;
-      brought = brought;
-      from = refl;
-      duplicate = answered;
-      copy = is;
-    })
+    by true false is there = inr (
+      t.link_source,
+      refl,
+      there,
+      record {
+        packet = t;
+        brought = brought;
+        from = refl;
+        duplicate = answered;
+        copy = is;
+      },
+    )
 answered_counts u c waiting senders t (model.Answer.Ignored model.Why.NotForMe) brought answered =
     inl refl
 answered_counts u c waiting senders t (model.Answer.Ignored model.Why.OwnSource) brought answered =

@@ -88,8 +88,7 @@ act_holds : (events : List SignedEvent) (log : List SignedLine) (j : ℕ) (first
     → ((rule : ContentionRule) → PutIn (Waits events log j first) rule u a)
     → HoldsSealed events log j first u → HoldsSealed events log j first (after_act u a)
 act_holds events log j first u a put h =
-    let became = acted (Waits events log j first) u a h.0 h.1 (put h.0.rule) in
-    (
+    let became = acted (Waits events log j first) u a h.0 h.1 (put h.0.rule) in (
       became.0,
       became.1,
       subst (λ (b : Buffer Waiting). AllHeld (Waits events log j first) b.held) (sym became.2.1)
