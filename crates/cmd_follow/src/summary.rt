@@ -70,14 +70,28 @@ impl Pair {
         let Some(first) = packet.first_at(self.from) else {
             return Ok(());
         };
-        self.packets = self.packets.saturating_add(1);
         let Some(other) = packet.first_at(self.to) else {
+            self.count(false);
             return Ok(());
         };
-        self.received = self.received.saturating_add(1);
+        self.count(true);
         match other.stamp.checked_sub(first.stamp) {
             Some(nanos) => self.delays.add(nanos / 1000),
             None => Ok(()),
+        }
+    }
+
+    /// Counts a packet that the first tap has. None is counted after 2^64 - 1 packets.
+    fn count(&mut self, is_received: bool)
+        ensures { self.old.received ≤ self.old.packets
+            → self.new.received ≤ self.new.packets }
+    {
+        let Some(packets) = self.packets.checked_add(1) else {
+            return;
+        };
+        self.packets = packets;
+        if is_received {
+            self.received = self.received.saturating_add(1);
         }
     }
 }
