@@ -18,12 +18,11 @@ use crate::reporter::CaseSink;
 use crate::seen_record::SeenRecord;
 use crate::text::Text;
 use crate::unread::{UnreadRecord, UnreadRecords};
-use crate::unread_source::{may_be_forwarded, may_be_own};
 use crate::waiting::{Waiting, WaitingFrames};
 use cmd_reporting::Fault;
 use its_duties::{
     BeaconGap, Claims, Doubt, Duty, NumberStep, Role, Verdict, doubt_between, judge_beacon,
-    judge_faithful, judge_numbers, longest, slack, wait,
+    judge_faithful, judge_numbers, longest, may_be_own, may_be_relay, slack, wait,
 };
 use its_headers::Kind;
 use its_linkframe::{FrameFault, FrameView};
@@ -253,11 +252,10 @@ impl Judge {
             let oldest = self.oldest_of_once(record.stamp).min(oldest);
             self.add_unread_heard(record, frame, oldest)?;
         }
-        let is_sent = matches!(role, Role::SentUnread | Role::Untyped);
-        if is_sent && may_be_own(&self.claims, record.octets.as_slice()) {
+        if may_be_own(&self.claims, role, record.octets.as_slice()) {
             self.own.add_hidden(record, oldest)?;
         }
-        if is_sent && may_be_forwarded(&self.claims, record.octets.as_slice()) {
+        if may_be_relay(&self.claims, role, record.octets.as_slice()) {
             let oldest = self.oldest_of_once(record.stamp);
             self.forwarded.add_unread(record, oldest)?;
         }

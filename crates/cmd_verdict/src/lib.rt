@@ -42,7 +42,6 @@ mod stretch;
 mod table_keys;
 mod text;
 mod unread;
-mod unread_source;
 mod waiting;
 
 pub use claim::{Claim, ClaimSet};
