@@ -152,11 +152,18 @@ fn follow_taps<'a, 'n, S: RecordSource + Drop, W: Write, E: Write>(
     }
     let is_whole = report_taps(&taps, names, io.format, &mut io.err);
     report_window(&window.counts, what.window, &mut io.err);
-    Ok(if is_whole {
+    Ok(status_of(is_whole))
+}
+
+/// The status of a run over taps that were all read to their ends without an error, or not.
+fn status_of(are_whole: bool) -> Status
+    ensures { IsCommandStatus result }
+{
+    if are_whole {
         Status::Done
     } else {
         Status::Refused
-    })
+    }
 }
 
 /// Reads all packets in the order of their times, and puts each that is complete.
