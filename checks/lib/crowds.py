@@ -29,7 +29,7 @@ WAITING = 16_384  # so many records wait at most
 DOUBTFUL = 200  # packets that were never received
 SENT = 400_000  # own packets of the capture that is judged for its memory
 MOST_KIB = 64 * 1024
-QUIET = 30_000  # ms after which nothing is doubtful any more
+QUIET = 30_000  # ms after which nothing of before is doubtful any more
 
 
 def claims_with(skew: int) -> str:
@@ -43,11 +43,13 @@ def never(at: int, number: int) -> Sent:
 
 
 def crowd() -> list[Sent]:
-    """Packets that were never received, and more own ones than wait, all with one stamp. Then one
-    that was received, and one that was not."""
-    frames = [never(0, n) for n in range(DOUBTFUL)] + [shb(0, STATION)] * (WAITING + 1_000)
-    heard = gbc(QUIET, NEAR, 1)
-    return [*frames, heard, relay(heard, 2), never(QUIET + 1_000, 2), beacon(2 * QUIET, NEAR)]
+    """Long after the begin, packets that were never received, and more own ones than wait, all with
+    one stamp. Then one that was received, and one that was not."""
+    begin = beacon(0, NEAR)
+    unknown = [never(QUIET, n) for n in range(DOUBTFUL)]
+    own = [shb(QUIET, STATION)] * (WAITING + 1_000)
+    heard, late = gbc(2 * QUIET, NEAR, 1), never(2 * QUIET + 1_000, 2)
+    return [begin, *unknown, *own, heard, relay(heard, 2), late, beacon(3 * QUIET, NEAR)]
 
 
 def check_crowd(folder: Path, skew: int) -> int:

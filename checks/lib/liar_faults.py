@@ -360,7 +360,7 @@ TABLE = [
     Found(faults.SourceReplaced, "GBC-12", ("D3", "D4"), ("D20",)),
     Found(faults.SenderKept, "GBC-01", (), ("D20",)),
     Found(faults.EachCopy, "DPD-01", (), ("D15",)),
-    Found(TwoRelays, "GBC-01", (), ("D15",)),
+    Found(TwoRelays, "GBC-01", ("D15",), ("D15",)),
     Found(faults.ShortList, "DPD-02", (), ("D15",)),
     Found(faults.LongList, "DPD-02", (), ("D20",)),
     Found(faults.OneList, "DPD-03", (), ("D20",)),
