@@ -48,11 +48,11 @@ IEEE80211, RETRY = 105, 0x08  # a link type, and the retry bit
 
 def write_pcap(path: Path, records: list[tuple[int, bytes]], link: int = 1) -> None:
     """A pcap file of Ethernet or of this link type, with times in ms."""
-    octets = struct.pack("<IHHiIII", 0xA1B2C3D4, 2, 4, 0, 0, 65535, link)
-    for moment, frame in records:
-        head = struct.pack("<IIII", moment // 1000, moment % 1000 * 1000, len(frame), len(frame))
-        octets += head + frame
-    path.write_bytes(octets)
+    with path.open("wb") as file:
+        file.write(struct.pack("<IHHiIII", 0xA1B2C3D4, 2, 4, 0, 0, 65535, link))
+        for moment, frame in records:
+            seconds, left, size = moment // 1000, moment % 1000 * 1000, len(frame)
+            file.write(struct.pack("<IIII", seconds, left, size, size) + frame)
 
 
 def judge(folder: Path, capture: Path, claims: str, status: tuple[int, ...]) -> list[dict]:
