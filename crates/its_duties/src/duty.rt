@@ -68,7 +68,7 @@ impl Duty {
     }
 
     /// Whether the duty is asked of a record with this role, and with a packet of this kind if it is
-    /// read. Of a packet that was heard and of one that was forwarded, another verdict may be a
+    /// read. For a packet that was heard, and for one that was forwarded, another verdict may be a
     /// reason not to ask.
     pub fn is_asked(self, role: Role, kind: Option<Kind>) -> bool
         ensures { result ≡ is_asked self role kind }

@@ -35,8 +35,8 @@ pub fn nothing_is_left_out()
 /// On a wire (`IsWire`) a packet for an area is heard, and the station is a station of the model that
 /// has room for its source. What the capture has then is what this station gives, or a duty fails.
 ///
-/// - `missing`: the number is new, and the station gives a frame. If none is in the capture, the
-///   packet was owed.
+/// - `missing`: the number is new, and the station forwards the packet. If no frame is in the
+///   capture, the packet was owed.
 /// - `another`: the number isn't remembered. If a frame is in the capture that the station doesn't
 ///   give, not all duties hold of it.
 /// - `again`: the number was forwarded before, so near that it is remembered. If a frame is in the
