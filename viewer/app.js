@@ -60,6 +60,7 @@
       const kind = await files.kindOf(blob);
       if (kind === 'load') return void openLoad(await blob.text(), name);
       if (kind === 'net') return void openNet(await blob.text());
+      if (kind === 'report') return void openReport(await blob.text());
       const run = await reading.read(geostation.open.pieces(blob, tell), blob.size);
       if (mine === state.opening) begin(run, name);
     } catch (fault) {
@@ -86,6 +87,22 @@
     map.showStreets(read(text));
   }
 
+  /** Shows verdicts on a station of the run. @param {string} text */
+  function openReport(text) {
+    const {ReportFault, read} = geostation.report;
+    if (!state.run) throw new ReportFault('Verdicts go with a run. Open the run first.');
+    showVerdicts(new geostation.verdicts.Verdicts(state.run, read(text)));
+    showTotals();
+    listEvents();
+    go(state.at, state.note);
+  }
+
+  /** @param {import('./verdicts.js').Verdicts | undefined} verdicts none if undefined */
+  function showVerdicts(verdicts) {
+    Object.assign(state, {verdicts, fails: verdicts?.fails(), only: undefined});
+    geostation.tested.show(verdicts);
+  }
+
   /** Reports why a file can't be read. @param {string} name @param {string} why */
   function refuse(name, why) {
     byId('fault').textContent = `${name}: ${why}`;
@@ -100,6 +117,7 @@
     Object.assign(state, {run, name, at: 0, note: undefined, station: undefined, kind: '',
       result: '', rows: undefined, frames: {}, judgements: new Map(), loads: new Map()},
     ways.follow(run));
+    showVerdicts(undefined);
     state.total = ways.total(run);
     document.body.dataset.state = 'run';
     document.title = `${name}: geostation viewer`;
@@ -126,14 +144,16 @@
   function showTotals() {
     const count = (value, one, more = `${one}s`) =>
       `${grouped(value)} ${value === 1 ? one : more}`;
-    const {total, run} = state;
+    const {total, run, verdicts} = state;
     tell([count(run.stations.length, 'station'), count(total.events, 'event'),
       count(total.frames, 'frame'), count(total.deliveries, 'delivery', 'deliveries'),
       count(total.duplicates, 'duplicate'),
       count(total.ignored, 'ignored otherwise', 'ignored otherwise'),
       count(total.refused, 'refused', 'refused'),
       ...(run.air?.contends ? [count(total.held, 'held', 'held'),
-        count(total.cancelled, 'cancelled', 'cancelled')] : [])].join(' · '));
+        count(total.cancelled, 'cancelled', 'cancelled')] : []),
+      ...(verdicts ? [`verdicts: ${geostation.verdicts.countWords(verdicts.counts)}`] : []),
+    ].join(' · '));
   }
 
   function rowCount() {
@@ -167,8 +187,8 @@
     const event = run.events.at(state.at);
     state.frames = note === undefined ? {came: event?.frame, given: event?.sent ?? event?.waits}
       : {came: scene.frameOfNote(run, note)};
-    const told = note !== undefined ? words.ofNote(run, note)
-      : event ? words.ofEvent(run, event) : 'This run has no events.';
+    const told = (note !== undefined ? words.ofNote(run, note)
+      : event ? words.ofEvent(run, event) : 'This run has no events.') + verdictWords();
     byId('present').textContent = told;
     timeline.show(state.at, told);
     drawMap();
@@ -178,12 +198,19 @@
     if (!timeline.playing) nameEvent();
   }
 
+  /** The verdicts at the current event or note, in words. */
+  function verdictWords() {
+    const {at, note, verdicts} = state;
+    const found = (note === undefined ? verdicts?.ofEvent(at) : verdicts?.ofNote(note)) ?? [];
+    return found.length === 0 ? '' : `. Verdicts: ${geostation.verdicts.line(found)}`;
+  }
+
   /** Shows the present event in the lists, its packet and the load. */
   function showLists() {
     state.listed = performance.now();
     events.mark(presentRow());
     tree.mark(state.steps.findIndex((step) => step.event === state.at));
-    geostation.packet.show(byId('packet'), state.run, state.frames);
+    geostation.packet.show(byId('packet'), state.run, state.frames, state.verdicts);
     showPresentLoad();
   }
 
@@ -349,7 +376,7 @@
     const {run} = state;
     const {frame: came, sent, waits} = run.events.at(event);
     state.frames = {came: frame, given: came === frame ? sent ?? waits : undefined};
-    geostation.packet.show(byId('packet'), run, state.frames);
+    geostation.packet.show(byId('packet'), run, state.frames, state.verdicts);
     byId('packet').closest('section').scrollIntoView({block: 'nearest'});
   }
 
@@ -362,10 +389,10 @@
     drawMap();
   }
 
-  /** Lists the events that are chosen by station, kind and result. */
+  /** Lists the events that are chosen by station, kind and result, or only those with a fail. */
   function listEvents() {
-    const {run, station, kind, result} = state;
-    state.rows = filter.rows(run, {station, kind, result});
+    const {run, station, kind, result, only} = state;
+    state.rows = filter.rows(run, {station, kind, result, only});
     byId('all').hidden = state.rows === undefined;
     events.show(rowCount(), presentRow());
   }
@@ -376,7 +403,8 @@
   }
 
   function showAll() {
-    Object.assign(state, {kind: '', result: ''});
+    Object.assign(state, {kind: '', result: '', only: undefined});
+    byId('only-fails').checked = false;
     for (const id of ['kind', 'result']) byId(id).value = '';
     chooseStation(undefined);
   }
@@ -399,6 +427,10 @@
   /** The fields that choose which events are listed. */
   function listenToFilters() {
     byId('all').addEventListener('click', showAll);
+    byId('only-fails').addEventListener('change', () => {
+      state.only = byId('only-fails').checked ? state.fails : undefined;
+      listEvents();
+    });
     byId('station').addEventListener('input', () => {
       const typed = byId('station').value;
       chooseStation(state.run.find(typed.trim()));
@@ -440,6 +472,17 @@
   for (const key of document.querySelectorAll('.key [data-hold]')) {
     key.setAttribute('class', 'hold');
     key.setAttribute('d', geostation.shape.ringPath(key.dataset.hold, 4.6));
+  }
+  for (const key of document.querySelectorAll('.key [data-result]')) {
+    const {result} = key.dataset;
+    const sign = geostation.drawn.makeSign();
+    sign.children[1].setAttribute('d', geostation.shape.SIGNS[result]);
+    sign.setAttribute('class', `badge ${result}`);
+    sign.lastElementChild.remove();
+    key.replaceWith(sign);
+  }
+  for (const key of document.querySelectorAll('.key .tested')) {
+    key.setAttribute('d', geostation.shape.cornersPath(6));
   }
   byId('loading').remove();
   state.wanted = clock.eventOf(location.hash);

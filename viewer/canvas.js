@@ -3,7 +3,7 @@
 (function (geostation) {
   'use strict';
 
-  const {names, shape} = geostation;
+  const {badges, names, shape} = geostation;
   const {grouped} = geostation.dom;
   /** How near a click has to be, in pixels. */
   const NEAR = 9;
@@ -16,7 +16,8 @@
   const COLOURS = {idle: '--idle', reached: '--accepted', delivered: '--delivered',
     sender: '--sender', missed: '--red', accepted: '--accepted', duplicate: '--duplicate',
     other: '--duplicate', refused: '--refused', lost: '--red', chosen: '--accent',
-    active: '--text', ground: '--map', hold: '--held'};
+    active: '--text', ground: '--map', hold: '--held', pass: '--delivered', fail: '--red',
+    inconclusive: '--held', sign: '--on-dot'};
 
   class Painted {
     /** @param {HTMLCanvasElement} canvas @param {any} map that says what is where */
@@ -50,6 +51,7 @@
       this.drawLinks();
       this.drawRings();
       this.drawRoles();
+      this.drawTested();
       this.drawNames();
     }
 
@@ -146,14 +148,11 @@
     drawRings() {
       const {colours, context, radius} = this;
       const size = 1.4 * Math.max(LEAST_MARK, 1.5 * radius) + 3;
-      context.strokeStyle = colours.hold;
       context.lineWidth = 2;
       for (const [station, kind] of this.scene.holds) {
         if (station >= this.xs.length || this.presenceOf(station) === 'expected') continue;
-        context.save();
-        context.translate(this.xs[station], this.ys[station]);
-        context.stroke(new Path2D(shape.ringPath(kind, size)));
-        context.restore();
+        const place = {x: this.xs[station], y: this.ys[station]};
+        this.strokeAt(place, new Path2D(shape.ringPath(kind, size)), colours.hold);
       }
     }
 
@@ -176,6 +175,35 @@
       if (chosen !== undefined) this.ring(chosen, radius + 5, colours.chosen, 3);
     }
 
+    /** The corners around the station under test, and the signs of its verdicts. */
+    drawTested() {
+      const {context, colours, scene: {tested, badges: all}, radius} = this;
+      this.signs = [];
+      if (tested === undefined || this.presenceOf(tested) === 'expected') return;
+      const station = {x: this.xs[tested], y: this.ys[tested], radius};
+      this.signs = badges.placed(all, station, this.map.box.width);
+      context.lineWidth = 2;
+      const corners = shape.cornersPath(badges.reachOf(radius));
+      this.strokeAt(station, new Path2D(corners), colours.active);
+      for (const sign of this.signs) {
+        context.fillStyle = colours[sign.result];
+        context.beginPath();
+        context.arc(sign.x, sign.y, badges.RADIUS, 0, 7);
+        context.fill();
+        this.strokeAt(sign, new Path2D(shape.SIGNS[sign.result]), colours.sign);
+      }
+    }
+
+    /** @param {{x: number, y: number}} place @param {Path2D} path @param {string} colour */
+    strokeAt({x, y}, path, colour) {
+      const {context} = this;
+      context.save();
+      context.translate(x, y);
+      context.strokeStyle = colour;
+      context.stroke(path);
+      context.restore();
+    }
+
     /** The names of the stations in sight, where these are few, and as far as they have room. */
     drawNames() {
       const {context, colours, run} = this;
@@ -185,7 +213,8 @@
         return this.isAway(i) ? undefined : at;
       };
       this.named = names.inSight(this.xs.length, placeOf, this.map.box);
-      const places = names.placed((this.named ?? []).map((i) => this.itemOf(i)));
+      const places = names.placed((this.named ?? []).map((i) => this.itemOf(i)),
+        this.signs.map(badges.boxOf));
       this.unnamed = (this.named?.length ?? 0) - places.size;
       context.font = '600 11px system-ui, sans-serif';
       context.textAlign = 'center';
@@ -258,8 +287,10 @@
       context.stroke();
     }
 
-    /** What a click hits: the nearest station or, if no station is near, the nearest arc. */
+    /** What a click hits: a sign, or the nearest station or, if none is near, the nearest arc. */
     hit(_event, {x, y}) {
+      const sign = this.signs.find((one) => Math.hypot(one.x - x, one.y - y) <= badges.RADIUS);
+      if (sign) return {frame: sign.frame, event: sign.event};
       let [best, far] = [-1, NEAR];
       for (let i = 0; i < this.xs.length; i += 1) {
         const d = Math.hypot(this.xs[i] - x, this.ys[i] - y);

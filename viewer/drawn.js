@@ -4,7 +4,7 @@
   'use strict';
 
   const {svg, set, grouped, Pool} = geostation.dom;
-  const {names, shape} = geostation;
+  const {badges, names, shape} = geostation;
   const LONGEST_TRAIL = 200;
   /** With more than these, lines have no tips. */
   const MANY_LINKS = 120;
@@ -18,6 +18,8 @@
       this.links = new Pool(makeLink, layers.links);
       this.rings = new Pool(() => svg('path', {class: 'hold'}), layers.holds);
       this.labels = new Pool(makeLabel, layers.labels);
+      this.corners = new Pool(() => svg('path', {class: 'tested'}), layers.tested);
+      this.signs = new Pool(makeSign, layers.badges);
     }
 
     /** @param {import('./run.js').Run} run */
@@ -47,6 +49,7 @@
       this.scene = scene;
       this.expected = 0;
       this.stations.forEach((station, index) => this.drawStation(station, index, isAnew));
+      this.drawTested();
       this.drawLabels();
       this.drawLinks();
       this.drawRings();
@@ -59,7 +62,7 @@
       this.labelled = names.inSight(stations.length, placeOf, map.box);
       const items = (this.labelled ?? []).map((station) =>
         ({...stations[station], station, text: run.name(station)}));
-      const places = names.placed(items);
+      const places = names.placed(items, this.placedSigns.map(badges.boxOf));
       this.unnamed = items.length - places.size;
       this.labels.begin();
       for (const [station, {x, y, isInside}] of places) {
@@ -163,6 +166,23 @@
       this.rings.finish();
     }
 
+    /** The corners around the station under test, and the signs of its verdicts. */
+    drawTested() {
+      const {tested, badges: all} = this.scene;
+      const station = this.stations[tested];
+      const isShown = station?.isShown ?? false;
+      this.placedSigns = isShown ? badges.placed(all, station, this.map.box.width) : [];
+      this.corners.begin();
+      if (isShown) {
+        set(this.corners.next(), {d: shape.cornersPath(badges.reachOf(station.radius)),
+          transform: `translate(${station.x.toFixed(1)} ${station.y.toFixed(1)})`});
+      }
+      this.corners.finish();
+      this.signs.begin();
+      for (const sign of this.placedSigns) writeSign(this.signs.next(), sign);
+      this.signs.finish();
+    }
+
     /** What a click is at. @param {MouseEvent} event */
     hit(event) {
       const target = /** @type {Element} */ (event.target);
@@ -183,7 +203,7 @@
 
     clear() {
       for (const name of ['stations', 'sender', 'trails']) this.layers[name].replaceChildren();
-      for (const pool of [this.links, this.rings, this.labels]) {
+      for (const pool of [this.links, this.rings, this.labels, this.corners, this.signs]) {
         pool.begin();
         pool.finish();
       }
@@ -220,5 +240,21 @@
     return group;
   }
 
-  geostation.drawn = {Drawn, makeMarkers};
+  /** The sign of a verdict: a circle with a stroke of another shape for each result. */
+  function makeSign() {
+    const sign = svg('g');
+    sign.append(svg('circle', {r: badges.RADIUS}), svg('path'), svg('title'));
+    return sign;
+  }
+
+  /** @param {any} sign @param {import('./badges.js').Badge & {x: number, y: number}} badge */
+  function writeSign(sign, {frame, event, result, x, y}) {
+    const [, path, title] = sign.children;
+    set(sign, {class: `badge ${result}`, 'data-frame': frame, 'data-event': event,
+      transform: `translate(${x.toFixed(1)} ${y.toFixed(1)})`});
+    path.setAttribute('d', shape.SIGNS[result]);
+    write(title, `frame ${frame}: ${result}`);
+  }
+
+  geostation.drawn = {Drawn, makeMarkers, makeSign};
 })(globalThis.geostation ??= {});

@@ -1,10 +1,12 @@
-//! What a file is that is opened: a run, the load of a run, or a street net; and why one can't be
-//! read, in a sentence.
+//! What a file is that is opened: a run, or what goes with one: its load, a street net, verdicts; and
+//! why one can't be read, in a sentence.
 
 (function (geostation) {
   'use strict';
 
-  const {load, reading, streets} = geostation;
+  const {load, reading, report, streets} = geostation;
+  /** The errors whose message is a sentence for a person. */
+  const FAULTS = [reading.RunFault, report.ReportFault, streets.NetFault];
 
   /** What a page can't hold, by the keyword that `geostation view` wrote. */
   const TOO_LARGE = {
@@ -20,19 +22,18 @@
 
   /**
    * What a file is, by its first octets.
-   * @param {Blob} blob @returns {Promise<'load' | 'net' | 'run'>}
+   * @param {Blob} blob @returns {Promise<'load' | 'net' | 'report' | 'run'>}
    */
   async function kindOf(blob) {
     const head = await blob.slice(0, streets.HEAD).text();
     if (head.startsWith(load.HEAD)) return 'load';
+    if (report.isReport(head)) return 'report';
     return streets.isNet(head) ? 'net' : 'run';
   }
 
   /** Why a file can't be read, in a sentence. @param {any} fault */
   function reasonOf(fault) {
-    if (fault instanceof reading.RunFault || fault instanceof streets.NetFault) {
-      return fault.message;
-    }
+    if (FAULTS.some((kind) => fault instanceof kind)) return fault.message;
     if (fault instanceof RangeError) return 'The browser has too little memory for this file.';
     return `The browser can’t read this file: ${fault.message}.`;
   }

@@ -1,5 +1,5 @@
 //! Which events and notes are listed: by the kind of what was done, came or was lost, by its
-//! result, by station.
+//! result, by station, and of some only.
 
 (function (geostation) {
   'use strict';
@@ -14,6 +14,8 @@
     'cancelled'];
   /** The notes of a result. */
   const NOTES_OF = {sent: 'released', lost: 'lost'};
+
+  /** @typedef {{events?: Int32Array, notes?: Int32Array}} Places rising; all without them */
 
   /** The kind of an event. @param {import('./run.js').Run} run @param {number} index */
   function kind({events, frames}, index) {
@@ -61,20 +63,28 @@
   /**
    * The places of the events and notes that are listed, undefined for all.
    * @param {import('./run.js').Run} run
-   * @param {{station?: number, kind?: string, result?: string}} chosen
+   * @param {{station?: number, kind?: string, result?: string, only?: Places}} chosen
    * @returns {ArrayLike<number> | undefined}
    */
-  function rows(run, {station, kind: wanted, result}) {
-    if (!wanted && !result && station === undefined) return undefined;
+  function rows(run, {station, kind: wanted, result, only}) {
+    if (!wanted && !result && station === undefined && !only) return undefined;
     const {events, notes} = run;
-    const isAll = station === undefined;
-    const isEvent = (index) => (!result || has(events, index, result)) &&
-      (!wanted || kind(run, index) === wanted);
-    const isNote = (index) => (!result || notes.is(index, NOTES_OF[result])) &&
+    const isOfStation = (table, index) =>
+      station === undefined || table.station.values[index] === station;
+    const isEvent = (index) => isOfStation(events, index) &&
+      (!result || has(events, index, result)) && (!wanted || kind(run, index) === wanted);
+    const isNote = (index) => isOfStation(notes, index) &&
+      (!result || notes.is(index, NOTES_OF[result])) &&
       (!wanted || kindOfNote(run, index) === wanted);
-    return run.entries.merge(
-      choose(events.length, isAll ? undefined : run.byStation.of(station), isEvent),
-      choose(notes.length, isAll ? undefined : run.notesOf.of(station), isNote));
+    const own = only ?? placesOf(run, station);
+    return run.entries.merge(choose(events.length, own.events, isEvent),
+      choose(notes.length, own.notes, isNote));
+  }
+
+  /** The events and notes of a station, undefined for all. @returns {Places} */
+  function placesOf(run, station) {
+    if (station === undefined) return {};
+    return {events: run.byStation.of(station), notes: run.notesOf.of(station)};
   }
 
   geostation.filter = {KINDS, RESULTS, rows, kind, kindOfNote};

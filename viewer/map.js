@@ -33,6 +33,8 @@
    * @property {Map<number, string>} roles of stations: sender, delivered, reached, missed
    * @property {Map<number, 'held' | 'cancelled'>} holds of stations that contend
    * @property {{place: object, metres: number, isNew: boolean}[]} circles of range
+   * @property {number | undefined} tested the station under test
+   * @property {import('./badges.js').Badge[]} badges its verdicts on the frames that are shown
    * @property {string[]} unseen what can't be drawn
    */
 
@@ -52,8 +54,8 @@
       this.net = [];
       this.layers = {};
       root.append(geostation.drawn.makeMarkers());
-      for (const name of ['grid', 'areas', 'circles', 'trails', 'links', 'holds', 'stations', 'sender',
-        'labels', 'scale']) {
+      for (const name of ['grid', 'areas', 'circles', 'trails', 'links', 'holds', 'tested',
+        'stations', 'sender', 'labels', 'badges', 'scale']) {
         this.layers[name] = svg('g', {class: name});
         root.append(this.layers[name]);
       }
@@ -209,7 +211,8 @@
       this.painter.draw(this.scene, isAnew);
       this.drawAreas();
       this.drawCircles();
-      const unseen = [...this.scene.unseen, ...this.painter.unseen()];
+      const unseen = [...this.scene.unseen, ...geostation.badges.leftOut(this.scene.badges),
+      ...this.painter.unseen()];
       const words = unseen.length === 0 ? '' : `Not drawn: ${unseen.join('; ')}.`;
       const box = byId('unseen');
       if (box.textContent !== words) box.textContent = words;

@@ -77,13 +77,13 @@
 
   /**
    * Where names are written. A name without room is left out.
-   * @param {Item[]} items
+   * @param {Item[]} items @param {object[]} [boxes] that no name covers
    * @returns {Map<number, {x: number, y: number, isInside: boolean}>} by station
    */
-  function placed(items) {
+  function placed(items, boxes = []) {
     const marks = items.map((item) => ({station: item.station,
       box: boxAt(item.x, item.y, 2 * reach(item), 2 * reach(item))}));
-    const taken = [];
+    const taken = [...boxes];
     const found = new Map();
     const order = [...items].sort((a, b) => rank(a) - rank(b) || a.station - b.station);
     for (const item of order) {

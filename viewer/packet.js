@@ -137,34 +137,38 @@
    * A frame's part of the panel.
    * @param {import('./run.js').Run} run @param {number} number @param {string} title
    * @param {string[][]} before rows to compare its own with
+   * @param {import('./verdicts.js').Verdicts} [verdicts]
    */
-  function part(run, number, title, before) {
+  function part(run, number, title, before, verdicts) {
     const {rows, fault} = rowsOf(run, number);
     const body = fault ? element('p', 'quiet', `Not a valid packet: ${fault}.`)
       : table(rows, new Map(before));
     const code = element('code', 'octets', geostation.frame.toHex(run.frames.octets(number)));
     return element('div', 'frame', ...(title ? [element('h3', '', title)] : []),
-      element('p', 'fate', fate(run, number)), body, code);
+      element('p', 'fate', fate(run, number)), ...geostation.tested.listOf(verdicts, number), body,
+      code);
   }
 
   /**
    * Shows the frame that was received and the one that was forwarded, or that no frame exists.
    * @param {HTMLElement} box @param {import('./run.js').Run} run
    * @param {{came?: number, given?: number}} frames
+   * @param {import('./verdicts.js').Verdicts} [verdicts] on a station of the run
    */
-  function show(box, run, {came, given}) {
+  function show(box, run, {came, given}, verdicts) {
     box.scrollTop = 0;
     const isThere = (number) => number !== undefined && number < run.frames.length;
     if (isThere(came) && isThere(given)) {
       const {rows} = rowsOf(run, came);
-      box.replaceChildren(part(run, came, 'Received frame', []),
-        part(run, given, run.held.isSent(given) ? 'Forwarded frame' : 'Held frame', rows));
+      const title = run.held.isSent(given) ? 'Forwarded frame' : 'Held frame';
+      box.replaceChildren(part(run, came, 'Received frame', [], verdicts),
+        part(run, given, title, rows, verdicts));
       return;
     }
     const number = came ?? given;
     const why = number === undefined ? 'This event has no frame.'
       : `There is no frame ${number}.`;
-    box.replaceChildren(isThere(number) ? part(run, number, '', [])
+    box.replaceChildren(isThere(number) ? part(run, number, '', [], verdicts)
       : element('p', 'quiet', why));
   }
 

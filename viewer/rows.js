@@ -3,15 +3,29 @@
 (function (geostation) {
   'use strict';
 
-  const {reason, way: ways, words} = geostation;
+  const {reason, verdicts: judged, way: ways, words} = geostation;
   const {kindOf} = geostation.scene;
 
   /** @typedef {import('./list.js').Row} Row */
 
-  /** An event or a note. @param {any} state @param {number} place of it @returns {Row} */
-  function entry({run}, place) {
+  /** An event or a note, with its verdicts. @param {any} state @param {number} place of it */
+  function entry({run, verdicts}, place) {
     const {event, note} = run.entries.at(place);
-    return note === undefined ? ofEvent(run, run.events.at(event)) : ofNote(run, note);
+    if (note !== undefined) return withVerdicts(ofNote(run, note), verdicts?.ofNote(note));
+    return withVerdicts(ofEvent(run, run.events.at(event)), verdicts?.ofEvent(event));
+  }
+
+  /**
+   * A row with verdicts, if there are any.
+   * @param {Row} row @param {import('./report.js').Verdict[]} [verdicts] the worst first
+   * @returns {Row}
+   */
+  function withVerdicts(row, verdicts = []) {
+    if (verdicts.length === 0) return row;
+    const {result} = verdicts[0];
+    return {...row, kind: `${row.kind} judged`,
+      title: [row.title, ...verdicts.map(judged.words)].join('\n'),
+      cells: [...row.cells, [`verdict ${result}`, judged.line(verdicts)]]};
   }
 
   /** @param {import('./run.js').Run} run @param {import('./events.js').Event} event */

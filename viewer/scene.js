@@ -166,6 +166,20 @@
     return held.rings(own, at, noted);
   }
 
+  /**
+   * The verdicts on the frames that the map shows: of the chosen send so far or with an arc, and of
+   * the current event.
+   * @returns {import('./badges.js').Badge[]}
+   */
+  function badges({run, at, noted, chosen, frames, verdicts}, links) {
+    if (!verdicts) return [];
+    const shown = chosen ? chosen.numbers : links.map(({frame}) => frame);
+    const numbers = new Set([...shown, frames.came, frames.given]);
+    return [...numbers].filter((frame) => verdicts.worst(frame) && run.held.isSentBy(frame, at, noted))
+      .sort((a, b) => a - b)
+      .map((frame) => ({frame, event: run.frames.giver.values[frame], result: verdicts.worst(frame)}));
+  }
+
   /** The station of the current event or note, undefined without one. */
   function activeStation({run, at, note}) {
     if (note === undefined) return run.events.at(at)?.station;
@@ -195,6 +209,7 @@
     if (rings.length > mostCircles) unseen.push(`${rings.length - mostCircles} circles`);
     return {at, noted, active: activeStation(state), chosen: station, links: shown, circles: rings,
       unseen, areas: isEmpty ? [] : areas(state, shown), holds: holds(state),
+      tested: page.verdicts?.station, badges: badges(state, shown),
       roles: chosen ? why.roles(steps, judgement, at) : new Map()};
   }
 

@@ -73,6 +73,17 @@
     return `${ring}M-${far} -${far}L${far} ${far}M-${far} ${far}L${far} -${far}`;
   }
 
+  /** The four corners of a square around the origin. @param {number} radius half its side, in pixels */
+  function cornersPath(radius) {
+    const [far, near] = [radius.toFixed(1), (radius / 2).toFixed(1)];
+    const corner = ([x, y]) => `M${x}${far} ${y}${near}V${y}${far}H${x}${near}`;
+    return [['', ''], ['-', ''], ['-', '-'], ['', '-']].map(corner).join('');
+  }
+
+  /** The sign of each result of a verdict, in a circle of a radius of 8 pixels around the origin. */
+  const SIGNS = {pass: 'M-4 0.5L-1.2 3.5L4 -3', fail: 'M-3.2 -3.2L3.2 3.2M-3.2 3.2L3.2 -3.2',
+    inconclusive: 'M-2.6 -2.2A2.6 2.6 0 1 1 0.6 0.2Q0 0.6 0 1.8M0 3.7V4.6'};
+
   /**
    * The border of an area, in metres from its centre.
    * @param {import('./geo.js').Area} area @param {number} steps of a round one @returns {Point[]}
@@ -111,5 +122,6 @@
     return {x: a * x1 + b * cx + c * x2, y: a * y1 + b * cy + c * y2};
   }
 
-  geostation.shape = {markOf, markPath, ringPath, arc, pathOf, along, outline, roundLength};
+  geostation.shape = {SIGNS, markOf, markPath, ringPath, cornersPath, arc, pathOf, along, outline,
+    roundLength};
 })(globalThis.geostation ??= {});

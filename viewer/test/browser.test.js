@@ -13,6 +13,7 @@ const {pathToFileURL} = require('node:url');
 const {Page, findBrowser} = require('./devtools.js');
 const {TOP} = require('./load.js');
 const contending = require('./contending.js');
+const reports = require('./reports.js');
 const samples = require('./samples.js');
 const {elementOf, whole} = require('./whole.js');
 
@@ -776,6 +777,189 @@ test('a file of --load is shown with the run it goes with', async () => {
   await page.choose(file);
   await page.until('document.getElementById("load").title.includes("load.csv")');
   assert.match(await text('#load'), /^All · 10 frames\/s · channel busy 0\.30 % \(median\), 0\.90 % /);
+  noFault();
+});
+
+/** Writes a report and chooses it. @param {string} name @param {string} text of it */
+async function chooseReport(name, content) {
+  const file = path.join(room, name);
+  fs.writeFileSync(file, content);
+  await page.choose(file);
+}
+
+/** Opens a run and a report on it. @param {string} run its file @param {any[]} of `reports.textOf` */
+async function showReport(run, ...words) {
+  await show(run);
+  await chooseReport('verdicts.jsonl', reports.textOf(...words));
+  await page.until('!!geostation.app.state.verdicts');
+}
+
+/** The signs of verdicts on the map: the frame of each, and its classes. */
+function signs() {
+  return page.value(`[...document.querySelectorAll('g.badge[data-frame]')]
+    .filter(({style}) => style.display !== 'none')
+    .map((sign) => [Number(sign.dataset.frame), sign.getAttribute('class')])`);
+}
+
+test('verdicts: the station under test, signs, counts, the list and the packet', async () => {
+  await showReport(FOUR, reports.FOUR);
+  assert.match(await text('#totals'), / · verdicts: 1 pass, 1 fail, 1 inconclusive$/);
+  assert.equal(await text('#under-test'), 'Station 1 under test');
+  const at = (selector) => page.value(
+    `document.querySelector(${JSON.stringify(selector)}).getAttribute('transform')`);
+  assert.equal(await count('.tested[transform]'), 1);
+  assert.equal(await at('.tested[transform]'), await at('.station[data-station="1"]'));
+  assert.deepEqual(await signs(), [[1, 'badge fail']]);
+  const fail = '✗ fail D13: octet 60 of the packet is changed (#0) (EN 302 636-4-1 10.3.11.3)';
+  await page.click('g.badge[data-frame="1"]');
+  assert.equal(await page.value(`document.querySelector('#packet ul').getAttribute('aria-label')`),
+    'Verdicts on station 1, record 1 of its capture');
+  assert.deepEqual(await page.value(`[...document.querySelectorAll('#packet li')]
+    .map((item) => [item.className, item.textContent])`), [['verdict fail', fail],
+    ['verdict inconclusive', '? inconclusive D15: the first time (needs fresh, sent)'],
+    ['verdict pass', '✓ pass D14: a gbc']]);
+  // Frames without a verdict have neither.
+  await page.press('Home');
+  await page.press('ArrowRight');
+  assert.deepEqual(await signs(), []);
+  assert.equal(await count('#packet li'), 0);
+  await page.press('ArrowRight');
+  assert.equal(await text('#present'),
+    `Event 2, 1001 ms, station 1: deliver 0, accepted sent 1. Verdicts: ${fail}`);
+  assert.ok((await rows('events')).includes(`1001 1 deliver 0 accepted sent 1 ${fail}`));
+  noFault();
+});
+
+test('a verdict has a sign and a word as well as a colour, in the legend too', async () => {
+  await show(FOUR);
+  const entries = () => page.value(`[...document.querySelectorAll('.legend [data-tested]')]
+    .map((entry) => entry.hidden ? '' : entry.textContent.trim())`);
+  assert.deepEqual(await entries(), ['', '', '', '']);
+  assert.equal(await page.value('document.getElementById("verdicts").hidden'), true);
+  await showReport(FOUR, reports.FOUR);
+  assert.deepEqual(await entries(), ['under test', 'pass', 'fail', 'inconclusive']);
+  const keys = await page.value(`['pass', 'fail', 'inconclusive'].map((result) => {
+    const key = document.querySelector('.key .badge.' + result);
+    return [getComputedStyle(key.firstElementChild).fill, key.children[1].getAttribute('d')];
+  })`);
+  const [pass, fail, open] = keys.map(([fill]) => hue(fill));
+  assert.ok(pass > 120 && pass < 160 && fail < 10 && open > 30 && open < 60, `${keys}`);
+  assert.equal(new Set(keys.map(([, d]) => d)).size, 3);
+  const sign = `document.querySelector('g.badge[data-frame="1"]')`;
+  assert.equal(await page.value(`${sign}.children[1].getAttribute('d')`), keys[1][1]);
+  assert.equal(await page.value(`${sign}.querySelector('title').textContent`), 'frame 1: fail');
+  // The saved map has the sign, the corners and their entries of the legend.
+  const saved = await page.value(`geostation.saving.textOf(geostation.app.map, '')`);
+  assert.equal(saved.split(keys[1][1]).length, 3);
+  assert.match(saved, />under test<.*>inconclusive</);
+  noFault();
+});
+
+test('only fails: a box by the keyboard, and arrows from fail to fail', async () => {
+  await showReport(FOUR, [...reports.FOUR, reports.RECEIVED]);
+  const listed = 'document.querySelector("#events .row").getAttribute("aria-setsize")';
+  await page.value('document.getElementById("only-fails").focus()');
+  await page.press(' ', 0, {code: 'Space', windowsVirtualKeyCode: 32});
+  assert.equal(await page.value('document.getElementById("only-fails").checked'), true);
+  const moments = async () => (await rows('events')).map((row) => row.split(' ✗ fail ')[0]);
+  assert.deepEqual(await moments(), ['1001 1 deliver 0 accepted sent 1',
+    '1002 2 deliver 1 accepted sent 2', '1003 1 deliver 2 ignored duplicate']);
+  await page.value('document.activeElement.blur()');
+  await page.press('Home');
+  assert.match(await text('#present'), /^Event 2, .* ✗ fail D13: /);
+  await page.press('ArrowRight');
+  assert.match(await text('#present'), /^Event 4, .* ✗ fail D20: owed, but not forwarded /);
+  assert.deepEqual(await signs(), [[1, 'badge fail'], [2, 'badge fail']]);
+  await page.press('ArrowRight');
+  assert.match(await text('#present'), /^Event 5, /);
+  await pick('result', 'duplicate');
+  assert.equal((await rows('events')).length, 1);
+  await page.click('#all');
+  assert.equal(await page.value('document.getElementById("only-fails").checked'), false);
+  assert.equal(await page.value(listed), '8');
+  noFault();
+});
+
+test('a report with fails only says how many verdicts it leaves out', async () => {
+  await showReport(FOUR, reports.FOUR.slice(0, 1), reports.ADDRESSES[1], reports.FOUR);
+  assert.match(await text('#totals'), / · verdicts: 1 pass, 1 fail, 1 inconclusive$/);
+  assert.equal(await text('#under-test'),
+    'Station 1 under test: 1 of 3 verdicts. “verdict --all” prints all');
+  // Another run has no verdicts.
+  await show(ROAD);
+  assert.doesNotMatch(await text('#totals'), /verdicts/);
+  assert.equal(await page.value('document.getElementById("verdicts").hidden'), true);
+  assert.equal(await count('.tested[transform]'), 0);
+  assert.deepEqual(await signs(), []);
+  noFault();
+});
+
+test('a report without its run, or on another, gets a sentence and changes nothing', async () => {
+  const fault = async (name, content) => {
+    await chooseReport(name, content);
+    await page.until(`document.getElementById('fault').textContent.startsWith('${name}: ')`);
+    assert.equal(await page.value('document.getElementById("fault").hidden'), false);
+    return text('#fault');
+  };
+  assert.equal(await fault('first.jsonl', reports.textOf(reports.FOUR)),
+    'first.jsonl: Verdicts go with a run. Open the run first.');
+  await showReport(FOUR, reports.FOUR);
+  const totals = await text('#totals');
+  assert.match(await fault('station.jsonl', reports.textOf(reports.FOUR, '1400020000000009')),
+    /: The verdicts aren’t on this run: they are on station 1400020000000009, which /);
+  const late = reports.FOUR.map((verdict) => ({...verdict, moment: 1700000000000}));
+  assert.match(await fault('late.jsonl', reports.textOf(late)),
+    /record 1 is at 1700000000000 ms, that frame at 1001 ms/);
+  assert.match(await fault('cut.jsonl', reports.textOf(reports.FOUR).slice(0, -40)), /it’s cut\.$/);
+  assert.equal(await text('#totals'), totals);
+  assert.deepEqual(await signs(), [[1, 'badge fail']]);
+  noFault();
+});
+
+test('a frame that was held has its verdict at its release', async () => {
+  const file = path.join(room, 'held.jsonl');
+  fs.writeFileSync(file, contending.textOf(contending.AWAY));
+  await showReport(file, [{result: 'pass', duty: 'D14', moment: 1072, record: 2, reason: 'a gbc'}]);
+  await page.press('End');
+  assert.deepEqual(await signs(), [[1, 'badge pass']]);
+  await page.press('ArrowLeft');
+  assert.match(await text('#present'), /^Note, 1072 ms, .* Verdicts: ✓ pass D14$/);
+  assert.ok((await rows('events'))
+    .includes('1072 1 released 1 sends the frame that it held ✓ pass D14'));
+  assert.deepEqual(await signs(), [[1, 'badge pass']]);
+  await page.press('Home');
+  for (let i = 0; i < 4; i += 1) await page.press('ArrowRight');
+  assert.match(await text('#present'), /^Event 4, 1001 ms, station 1: .* waits 1 until 1072$/);
+  assert.deepEqual(await signs(), []);
+  noFault();
+});
+
+test('more than a thousand stations: the signs of verdicts are painted, and clicked', async () => {
+  const lines = samples.four().split('\n');
+  const first = JSON.parse(lines[0]);
+  for (let i = 4; i < 1100; i += 1) {
+    first.stations.push({address: `14000200${String(i).padStart(8, '0')}`, lat: 1000 * (i % 40),
+      lon: -40000 - 1000 * i});
+  }
+  const file = path.join(room, 'many.jsonl');
+  fs.writeFileSync(file, [JSON.stringify(first), ...lines.slice(1)].join('\n'));
+  await showReport(file, reports.FOUR);
+  await page.press('End');
+  assert.equal(await page.value('geostation.app.map.painter === geostation.app.map.painted'), true);
+  const [{x, y, frame, result}] = await page.value('geostation.app.map.painted.signs');
+  assert.deepEqual([frame, result], [1, 'fail']);
+  const colour = await page.value(`(() => {
+    const dense = window.devicePixelRatio;
+    const {data} = geostation.app.map.painted.context.getImageData(${x} * dense - 6, ${y} * dense, 1, 1);
+    return 'rgb(' + data.slice(0, 3).join() + ')';
+  })()`);
+  assert.ok(hue(colour) < 10, colour);
+  const [left, top] = await page.value(`(() => {
+    const box = document.getElementById('map').getBoundingClientRect();
+    return [box.x, box.y];
+  })()`);
+  await page.clickAt(left + x, top + y);
+  assert.equal(await count('#packet li'), 3);
   noFault();
 });
 

@@ -1,18 +1,20 @@
 //! The page's reading against the program itself, where it is built and knows `sim --json`: the
 //! events of each sample scenario against what `sim` prints, the ways and who wasn't reached
-//! against `sim --summary --explain`. GEOSTATION may name the program.
+//! against `sim --summary --explain`, and the frames of verdicts against the capture of the run.
+//! GEOSTATION may name the program.
 
 'use strict';
 
 const assert = require('node:assert/strict');
 const {spawnSync} = require('node:child_process');
 const fs = require('node:fs');
+const os = require('node:os');
 const path = require('node:path');
 const test = require('node:test');
 const {load, read, TOP} = require('./load.js');
 const samples = require('./samples.js');
 
-const {way, why, words} = load();
+const {report, verdicts: judged, way, why, words} = load();
 const CRATES = path.join(TOP, '..', 'crates');
 const PROGRAM = process.env.GEOSTATION ?? path.join(CRATES, 'geostation', 'out', 'geostation');
 const CASES = path.join(CRATES, '..', 'cases');
@@ -94,6 +96,42 @@ for (const {name, text} of [...SAMPLES, ...INSIDE]) {
       assert.deepEqual(judged.map((found) => found.inside.length), told.map(({inside}) => inside));
       assert.deepEqual(judged.map((found) => found.missed.map(({station, reason}) =>
         [station, reason])), told.map(({missed}) => missed));
+    });
+  }
+}
+
+/**
+ * The verdicts on a station in a capture, all of them and without claims.
+ * @param {string} folder @param {string} capture @param {string} address
+ */
+function judge(folder, capture, address) {
+  const file = path.join(folder, 'iut.toml');
+  fs.writeFileSync(file, `[station]\naddress = "${address}"\n`);
+  const args = ['verdict', '--all', '--json', file, capture];
+  const {status, stdout, stderr} = spawnSync(PROGRAM, args, {encoding: 'utf8', maxBuffer: 1 << 28});
+  assert.equal(status, 0, `station ${address}: ${stderr}`);
+  return report.read(stdout);
+}
+
+/** The runs with a radio model: their captures are in the order of time. */
+const RUNS = SAMPLES.filter(({text}) => /^\s*(\[air\]|air = )/m.test(text));
+
+for (const {name, text} of RUNS) {
+  for (const more of [[], ['--set', 'contention=true']]) {
+    test(`${name} ${more.join(' ')}: verdicts are on the frames of their station`, {skip}, async () => {
+      const folder = fs.mkdtempSync(path.join(os.tmpdir(), 'verdicts-'));
+      const capture = path.join(folder, 'run.pcapng');
+      const run = await read(print(text, '--json', '--notes', '--frames', capture, ...more));
+      run.stations.forEach(({address}, station) => {
+        const found = new judged.Verdicts(run, judge(folder, capture, address));
+        assert.equal(found.listed, found.counts.pass + found.counts.inconclusive);
+        const own = Array.from(run.frames.giver.values.subarray(0, run.frames.length), (giver, frame) =>
+          ({frame, giver})).filter(({frame, giver}) =>
+          run.held.isSent(frame) && run.events.station.values[giver] === station);
+        // Each frame that the station sent has a verdict.
+        assert.deepEqual(own.filter(({frame}) => found.of(frame).length === 0), []);
+      });
+      fs.rmSync(folder, {recursive: true});
     });
   }
 }
