@@ -61,6 +61,7 @@
       if (kind === 'load') return void openLoad(await blob.text(), name);
       if (kind === 'net') return void openNet(await blob.text());
       if (kind === 'report') return void openReport(await blob.text());
+      if (kind === 'capture') return void openCapture(await blob.arrayBuffer(), name, mine);
       const run = await reading.read(geostation.open.pieces(blob, tell), blob.size);
       if (mine === state.opening) begin(run, name);
     } catch (fault) {
@@ -85,6 +86,14 @@
     const {NetFault, read} = geostation.streets;
     if (!state.run) throw new NetFault('A street net goes with a run. Open the run first.');
     map.showStreets(read(text));
+  }
+
+  /** Shows a capture, and why it ends early if it does. @param {ArrayBuffer} buffer */
+  function openCapture(buffer, name, mine) {
+    if (mine !== state.opening) return;
+    const {run, fault} = geostation.capture.read(new Uint8Array(buffer));
+    begin(run, name);
+    if (fault !== undefined) refuse(name, `${fault} The page shows the records before it.`);
   }
 
   /** Shows verdicts on a station of the run. @param {string} text */
@@ -125,7 +134,8 @@
     for (const id of ['station', 'kind', 'result']) byId(id).value = '';
     byId('load').title = '';
     byId('all').hidden = true;
-    byId('away').hidden = !run.presence.isTold;
+    for (const entry of document.querySelectorAll('[data-run]')) entry.hidden = run.isCapture;
+    byId('away').hidden = run.isCapture || !run.presence.isTold;
     for (const kind of ['held', 'cancelled']) byId(kind).hidden = run.events.holds.length === 0;
     showTotals();
     timeline.begin(run.times, state.sends.map(({event}, i) =>
@@ -145,15 +155,19 @@
     const count = (value, one, more = `${one}s`) =>
       `${grouped(value)} ${value === 1 ? one : more}`;
     const {total, run, verdicts} = state;
-    tell([count(run.stations.length, 'station'), count(total.events, 'event'),
+    const told = verdicts ? [`verdicts: ${geostation.verdicts.countWords(verdicts.counts)}`] : [];
+    const stations = count(run.stations.length, 'station');
+    if (run.isCapture) {
+      return void tell([stations, count(total.events, 'record'), ...told].join(' · '));
+    }
+    tell([stations, count(total.events, 'event'),
       count(total.frames, 'frame'), count(total.deliveries, 'delivery', 'deliveries'),
       count(total.duplicates, 'duplicate'),
       count(total.ignored, 'ignored otherwise', 'ignored otherwise'),
       count(total.refused, 'refused', 'refused'),
       ...(run.air?.contends ? [count(total.held, 'held', 'held'),
         count(total.cancelled, 'cancelled', 'cancelled')] : []),
-      ...(verdicts ? [`verdicts: ${geostation.verdicts.countWords(verdicts.counts)}`] : []),
-    ].join(' · '));
+      ...told].join(' · '));
   }
 
   function rowCount() {
@@ -334,6 +348,7 @@
   /** Shows the load of the chosen station or of all, which is worked out once, in turns. */
   function showLoad() {
     const {run, station, loads} = state;
+    if (run.isCapture) return void showNoLoad();
     state.repeats = load.repeats(run, station);
     const who = station === undefined ? undefined : run.name(station);
     strip.show(run.times, loads.get(station), timeline.speed, who);
@@ -348,6 +363,13 @@
       showLoad();
     };
     turn();
+  }
+
+  /** A capture has no load: it does not say who received a frame. */
+  function showNoLoad() {
+    state.repeats = undefined;
+    strip.show(state.run.times, undefined, timeline.speed);
+    showPresentLoad();
   }
 
   /** The strip's figures at the present moment. */

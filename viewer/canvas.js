@@ -78,9 +78,9 @@
       if (to - from > this.xs.length) return void this.placeAll();
       const {events} = this.run;
       for (let i = from + 1; i <= to; i += 1) {
-        if (events.is(i, 'moved') && events.station.values[i] < this.xs.length) {
-          this.place(events.station.values[i]);
-        }
+        const station = events.station.values[i];
+        const mayMove = events.is(i, 'moved') || this.run.isCapture;
+        if (mayMove && station < this.xs.length) this.place(station);
       }
     }
 
@@ -310,7 +310,7 @@
       const {length} = this.run.stations;
       const parts = this.named ? 'trails' : 'names and trails';
       const away = this.away > 0 ? [`${grouped(this.away)} stations that are away`] : [];
-      return [...names.notCome(this.expected), ...away, ...names.leftOut(this.unnamed),
+      return [...names.notPlaced(this.run, this.expected), ...away, ...names.leftOut(this.unnamed),
         `the ${parts} of ${grouped(length)} stations`];
     }
 

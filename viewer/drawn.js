@@ -198,7 +198,7 @@
       const {length} = this.run.stations;
       const parts = this.labelled ? names.leftOut(this.unnamed)
         : [`the names of ${grouped(length)} stations`];
-      return [...names.notCome(this.expected), ...parts];
+      return [...names.notPlaced(this.run, this.expected), ...parts];
     }
 
     clear() {

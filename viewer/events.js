@@ -25,14 +25,18 @@
    * @property {number} [waits] the number of the frame that the station holds
    * @property {string} [until] the digits of the time at which that frame is due
    * @property {number[]} [cancels] the numbers of the held frames that a copy cancelled
+   * @property {string} [kind] of the packet in a record of a capture
    */
 
-  const DOS = ['move', 'open', 'close', 'restart', 'tick', 'shb', 'gbc', 'gac', 'deliver'];
+  const DOS_OF_RUNS = ['move', 'open', 'close', 'restart', 'tick', 'shb', 'gbc', 'gac', 'deliver'];
+  /** A record of a capture has the kind of its packet. No run has such an event. */
+  const DOS = [...DOS_OF_RUNS, 'record'];
+  const RECORD = DOS.length - 1;
   const RESULTS = ['moved', 'opened', 'closed', 'restarted', 'quiet', 'sent', 'ignored',
     'accepted', 'refused'];
   const NOTES = ['came', 'left', 'lost', 'absent', 'released', 'dropped'];
   /** The number of a word of `do`, of `result` and of a note. */
-  const DO = numbers(DOS);
+  const DO = numbers(DOS_OF_RUNS);
   const RESULT = numbers(RESULTS);
   const NOTE = numbers(NOTES);
   /** Whether a note of a kind is about a frame. */
@@ -119,6 +123,7 @@
       const {texts} = this.words;
       const word = texts[this.word.values[index]];
       if (event.do === 'deliver') event.frame = this.frame.values[index];
+      if (event.do === 'record') event.kind = word;
       if (event.do === 'move') {
         event.lat = this.lat.values[index];
         event.lon = this.lon.values[index];
@@ -331,6 +336,6 @@
     }
   }
 
-  geostation.events = {Events, Frames, Notes, Row, LONGEST, DOS, RESULTS, NOTES, DO, RESULT, NOTE,
+  geostation.events = {Events, Frames, Notes, Row, LONGEST, DOS, RESULTS, NOTES, DO, RECORD, RESULT, NOTE,
     IS_OF_FRAME};
 })(globalThis.geostation ??= {});

@@ -1,12 +1,12 @@
-//! What a file is that is opened: a run, or what goes with one: its load, a street net, verdicts; and
-//! why one can't be read, in a sentence.
+//! What a file is that is opened: a run or a capture, or what goes with one: its load, a street net,
+//! verdicts; and why one can't be read, in a sentence.
 
 (function (geostation) {
   'use strict';
 
-  const {load, reading, report, streets} = geostation;
+  const {load, reading, records, report, streets} = geostation;
   /** The errors whose message is a sentence for a person. */
-  const FAULTS = [reading.RunFault, report.ReportFault, streets.NetFault];
+  const FAULTS = [reading.RunFault, records.CaptureFault, report.ReportFault, streets.NetFault];
 
   /** What a page can't hold, by the keyword that `geostation view` wrote. */
   const TOO_LARGE = {
@@ -22,10 +22,12 @@
 
   /**
    * What a file is, by its first octets.
-   * @param {Blob} blob @returns {Promise<'load' | 'net' | 'report' | 'run'>}
+   * @param {Blob} blob @returns {Promise<'capture' | 'load' | 'net' | 'report' | 'run'>}
    */
   async function kindOf(blob) {
-    const head = await blob.slice(0, streets.HEAD).text();
+    const octets = new Uint8Array(await blob.slice(0, streets.HEAD).arrayBuffer());
+    if (records.isCapture(octets)) return 'capture';
+    const head = new TextDecoder().decode(octets);
     if (head.startsWith(load.HEAD)) return 'load';
     if (report.isReport(head)) return 'report';
     return streets.isNet(head) ? 'net' : 'run';

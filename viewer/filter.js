@@ -5,7 +5,7 @@
   'use strict';
 
   const {peek} = geostation;
-  const {DO, DOS, IS_OF_FRAME, NOTES, RESULT} = geostation.events;
+  const {DO, DOS, RECORD, IS_OF_FRAME, NOTES, RESULT} = geostation.events;
   const OWN = {tick: 'beacon', shb: 'shb', gbc: 'gbc', gac: 'gac'};
   /** The kinds that can be selected: packets, other requests to a station, notes of it. */
   const KINDS = ['beacon', 'shb', 'gbc', 'gac', 'guc', 'tsb', 'ls-request', 'ls-reply', 'move', 'open',
@@ -21,6 +21,7 @@
   function kind({events, frames}, index) {
     const what = events.do.values[index];
     if (what === DO.deliver) return peek.kind(frames, events.frame.values[index]);
+    if (what === RECORD) return events.wordOf(index);
     return OWN[DOS[what]] ?? DOS[what];
   }
 

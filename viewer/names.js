@@ -109,5 +109,11 @@
     return count > 0 ? [`${stations(count)} that ${count === 1 ? 'has' : 'have'} not come`] : [];
   }
 
-  geostation.names = {MOST, inSight, placed, overlap, leftOut, notCome};
+  /** Why stations have no mark: they have not come, or a capture has no position of them yet. */
+  function notPlaced(run, count) {
+    if (!run.isCapture || count === 0) return notCome(count);
+    return [`${stations(count)} of unknown position`];
+  }
+
+  geostation.names = {MOST, inSight, placed, overlap, leftOut, notPlaced};
 })(globalThis.geostation ??= {});

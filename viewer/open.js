@@ -109,7 +109,7 @@
    */
   async function openAll(open, list) {
     const kinds = await Promise.all(Array.from(list, async (file) =>
-      ({file, isRun: (await files.kindOf(file).catch(() => 'run')) === 'run'})));
+      ({file, isRun: /^(run|capture)$/.test(await files.kindOf(file).catch(() => 'run'))})));
     const sorted = [...kinds.filter(({isRun}) => isRun), ...kinds.filter(({isRun}) => !isRun)];
     for (const {file} of sorted) await open(file, file.name);
   }

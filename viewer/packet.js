@@ -105,6 +105,7 @@
    * @param {import('./run.js').Run} run @param {number} number
    */
   function fate(run, number) {
+    if (run.isCapture) return `Record ${number}, ${sending(run, number)}.`;
     const deliveries = Array.from(run.deliveries.of(number));
     const count = (result) => deliveries.filter((index) => run.events.is(index, result)).length;
     const lost = run.lost.of(number).length;

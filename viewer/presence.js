@@ -25,7 +25,7 @@
     /** Whether a station is away at some time. */
     get isTold() {
       const {changes, never, stations} = this;
-      return changes.members.length > 0 || never.size > 0 || (stations.at(-1)?.born ?? 0) > 0;
+      return changes.members.length > 0 || never.size > 0 || stations.some(({born}) => born > 0);
     }
 
     /**

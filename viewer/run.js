@@ -46,6 +46,8 @@
       this.ids = new Map();
       /** The lines of `--summary` behind the run, by the event of their send. */
       this.summaries = new Map();
+      /** Whether it is a capture: it has no receptions. */
+      this.isCapture = false;
     }
 
     /** Puts events and notes into groups, once all are there. */

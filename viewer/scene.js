@@ -146,7 +146,8 @@
     const numbers = new Set(links.map(({frame}) => sendOf[frame]));
     for (const frame of [frames.came, frames.given]) numbers.add(sendOf[frame] ?? -1);
     numbers.delete(-1);
-    const packets = [...numbers].slice(-MOST_AREAS).map((i) => way.packetOf(run, sends[i]));
+    const packets = run.isCapture ? [geostation.frame.read(run.frames.octets(frames.given)).packet]
+      : [...numbers].slice(-MOST_AREAS).map((i) => way.packetOf(run, sends[i]));
     return packets.map((packet) => packet?.area).filter((found) => found);
   }
 

@@ -1,6 +1,7 @@
-//! The verdicts on a station of a run: which frame each is about, and where it is listed. Record N
-//! of a capture that `sim --frames` wrote is the frame that went out after N others, at the time of
-//! its event or of its release. A report in which one record is not so is rejected as a whole.
+//! The verdicts on a station of a run or of a capture: which frame each is about, and where it is
+//! listed. Record N of a capture that `sim --frames` wrote is the frame that went out after N others, at
+//! the time of its event or of its release. A report in which one record is not so is rejected as a
+//! whole.
 
 (function (geostation) {
   'use strict';
@@ -18,14 +19,8 @@
     return number === 20 || number === 21 ? 'received' : 'relay';
   }
 
-  /** @param {string} why @returns {never} */
-  function refuse(why) {
-    throw new ReportFault(`The verdicts aren’t on this run: ${why}. ` +
-      'Judge the capture that “sim --frames” wrote together with the run.');
-  }
-
   /**
-   * The frames in the order in which they went out.
+   * The frame of each record: the frames in the order in which they went out.
    * @param {import('./run.js').Run} run
    * @throws {ReportFault} if the run does not say when a held frame went out
    */
@@ -45,13 +40,44 @@
 
   /** Finds the frames of records. */
   class Matching {
-    /** @param {import('./run.js').Run} run @param {string} address of the station under test */
-    constructor(run, address) {
+    /**
+     * @param {import('./run.js').Run} run @param {string} address of the station under test
+     * @param {Verdict[]} verdicts
+     */
+    constructor(run, address, verdicts) {
       this.run = run;
       this.address = address;
-      this.station = run.stations.findIndex((station) => station.address === address);
-      if (this.station < 0) refuse(`they are on station ${address}, which the run doesn’t have`);
       this.order = inOrder(run);
+      this.station = this.find(verdicts);
+      if (this.station < 0) this.refuse(`they are on station ${address}, which it doesn’t have`);
+    }
+
+    /**
+     * The station under test. In a capture it is the sender of the frames that are judged as its
+     * own or forwarded ones, whatever its link address is.
+     * @param {Verdict[]} verdicts
+     */
+    find(verdicts) {
+      const {address, order, run} = this;
+      const known = run.stations.findIndex((station) => station.address === address);
+      const first = verdicts.find(({duty}) => kindOf(duty) !== 'received');
+      const frame = first && order[first.record];
+      return run.isCapture && frame !== undefined ? this.senderOf(frame) : known;
+    }
+
+    /** @param {number} frame */
+    senderOf(frame) {
+      const {events, frames} = this.run;
+      return events.station.values[frames.giver.values[frame]];
+    }
+
+    /** @param {string} why @returns {never} */
+    refuse(why) {
+      const {isCapture} = this.run;
+      const what = isCapture ? 'The verdicts aren’t on this capture' : 'The verdicts aren’t on this run';
+      const advice = isCapture ? ''
+        : ' Judge the capture that “sim --frames” wrote together with the run.';
+      throw new ReportFault(`${what}: ${why}.${advice}`);
     }
 
     /** The frame that a verdict judges. @param {Verdict} verdict @throws {ReportFault} */
@@ -60,11 +86,11 @@
       const {moment, record, others} = verdict;
       const missing = [record, ...others].find((number) => number >= order.length);
       if (missing !== undefined) {
-        refuse(`they name record ${missing}, and the run sent ${order.length} frames`);
+        this.refuse(`they name record ${missing}, and it has ${order.length} frames`);
       }
       const frame = order[record];
       const sent = run.held.digits(frame);
-      if (moment !== sent) refuse(`record ${record} is at ${moment} ms, that frame at ${sent} ms`);
+      if (moment !== sent) this.refuse(`record ${record} is at ${moment} ms, that frame at ${sent} ms`);
       this.checkKind(verdict, frame);
       return frame;
     }
@@ -72,15 +98,15 @@
     /** Rejects a verdict whose duty does not judge such a frame. @param {Verdict} verdict */
     checkKind({duty, record}, frame) {
       const {address, run, station} = this;
-      const sender = run.events.station.values[run.frames.giver.values[frame]];
+      const sender = this.senderOf(frame);
       const kind = kindOf(duty);
       if ((sender === station) === (kind === 'received')) {
-        refuse(`${duty} doesn’t judge record ${record}, which station ${run.name(sender)} sent`);
+        this.refuse(`${duty} doesn’t judge record ${record}, which station ${run.name(sender)} sent`);
       }
       if (kind === 'received') return;
       const {packet} = geostation.frame.read(run.frames.octets(frame));
       const fits = packet ? (packet.address === address) === (kind === 'own') : duty === 'D1';
-      if (!fits) refuse(`${duty} doesn’t judge such a packet as that of record ${record}`);
+      if (!fits) this.refuse(`${duty} doesn’t judge such a packet as that of record ${record}`);
     }
   }
 
@@ -106,7 +132,7 @@
      * @throws {ReportFault} if it is not on this run
      */
     constructor(run, {station, verdicts, counts}) {
-      const matching = new Matching(run, station);
+      const matching = new Matching(run, station, verdicts);
       this.run = run;
       this.station = matching.station;
       this.counts = counts;

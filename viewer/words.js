@@ -7,11 +7,12 @@
 
   /** What was done, as `sim` prints it. @param {Event} event */
   function doing(event) {
-    return event.do === 'deliver' ? `deliver ${event.frame}` : event.do;
+    return event.do === 'deliver' ? `deliver ${event.frame}` : event.kind ?? event.do;
   }
 
   /** The result, as `sim` prints it. @param {Event} event */
   function entry(event) {
+    if (event.kind !== undefined) return `record ${event.index}`;
     const words = [event.result];
     if (event.why !== undefined) words.push(event.why);
     if (event.code !== undefined) words.push(event.code);
@@ -28,6 +29,10 @@
   /** @param {import('./run.js').Run} run @param {Event} event */
   function ofEvent(run, event) {
     const because = event.reason ? ` (${event.reason})` : '';
+    if (event.kind !== undefined) {
+      return `Record ${event.index}, ${run.moment(event.index)} ms, station ` +
+        `${run.name(event.station)}: ${event.kind}`;
+    }
     return `Event ${event.index}, ${run.moment(event.index)} ms, station ` +
       `${run.name(event.station)}: ${doing(event)}, ${entry(event)}${because}`;
   }

@@ -963,6 +963,66 @@ test('more than a thousand stations: the signs of verdicts are painted, and clic
   noFault();
 });
 
+test('a capture and verdicts on it are dropped together', async () => {
+  const capture = fs.readFileSync(path.join(TOP, '..', 'cases', 'data', 'verdict', 'iut.cap'));
+  const own = {moment: 8000, record: 9};
+  const report = reports.textOf([
+    {result: 'pass', duty: 'D4', ...own, reason: 'hops 10 of 10'},
+    {result: 'inconclusive', duty: 'D3', ...own, needs: ['mobile'], reason: 'mobile is not given'},
+    {result: 'fail', duty: 'D14', moment: 9500, record: 11, rule: 'EN 302 636-4-1 10.3',
+      reason: 'a beacon of 1400020000000201 was forwarded'}], '1400020000000100');
+  await page.value(`(() => {
+    const data = new DataTransfer();
+    data.items.add(new File([${JSON.stringify(report)}], 'verdicts.jsonl'));
+    data.items.add(new File([new Uint8Array([${capture.join()}])], 'iut.cap'));
+    document.dispatchEvent(new DragEvent('drop', {dataTransfer: data, bubbles: true}));
+  })()`);
+  await page.until('!!geostation.app?.state.verdicts');
+  assert.equal(await text('#totals'),
+    '2 stations · 24 records · verdicts: 1 pass, 1 fail, 1 inconclusive');
+  assert.equal(await text('#under-test'), 'Station 020000000100 under test');
+  // The run begins before the station has sent a packet of its own.
+  assert.equal(await text('#present'), 'Record 0, 0 ms, station 020000000200: beacon');
+  assert.equal(await text('#unseen'), 'Not drawn: 1 station of unknown position.');
+  assert.deepEqual(await signs(), []);
+  for (let i = 0; i < 9; i += 1) await page.press('ArrowRight');
+  assert.equal(await text('#present'), 'Record 9, 8000 ms, station 020000000100: gbc. ' +
+    'Verdicts: ? inconclusive D3: mobile is not given (needs mobile)');
+  assert.deepEqual(await signs(), [[9, 'badge inconclusive']]);
+  assert.equal(await count('.tested[transform]'), 1);
+  assert.equal(await count('path.area'), 1);
+  assert.equal(await text('#packet .fate'), 'Record 9, sent by station 020000000100 at 8000 ms.');
+  // What needs receptions is not shown.
+  assert.deepEqual(await rows('sends'), ['All frames, in order']);
+  assert.equal(await text('#load'), '');
+  assert.deepEqual(await page.value(`[...document.querySelectorAll('.legend li')]
+    .filter(({hidden}) => !hidden).map((entry) => entry.textContent.trim())`),
+  ['under test', 'pass', 'fail', 'inconclusive']);
+  await page.click('#only-fails');
+  assert.deepEqual(await rows('events'), ['9500 020000000100 beacon record 11 ✗ fail D14: a beacon of ' +
+    '1400020000000201 was forwarded (EN 302 636-4-1 10.3)']);
+  noFault();
+});
+
+test('a capture that is cut shows the records before, and says so', async () => {
+  const capture = fs.readFileSync(path.join(TOP, '..', 'cases', 'data', 'gbc.cap'));
+  const file = path.join(room, 'cut.cap');
+  fs.writeFileSync(file, capture.subarray(0, capture.length - 1));
+  await show(file);
+  assert.equal(await text('#totals'), '1 station · 1 record');
+  const legend = 'getComputedStyle(document.querySelector(".legend")).display';
+  assert.equal(await page.value(legend), 'none');
+  assert.equal(await text('#fault'), 'cut.cap: The capture is cut in record 1. The page shows the ' +
+    'records before it.');
+  assert.equal(await page.value('document.getElementById("fault").hidden'), false);
+  // A run after it has its load and its legend again.
+  await show(FOUR);
+  assert.equal(await page.value(legend), 'block');
+  await page.until('document.getElementById("load").textContent.startsWith("All")');
+  assert.equal(await page.value('document.getElementById("fault").hidden'), true);
+  noFault();
+});
+
 test('handles resize the panels, by drag and by key', async () => {
   await show(FOUR);
   const wide = () => page.value('document.querySelector(".side").getBoundingClientRect().width');

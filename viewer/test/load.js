@@ -9,10 +9,10 @@ const vm = require('node:vm');
 
 const TOP = path.join(__dirname, '..');
 const NAMES = ['dom', 'geo', 'columns', 'events', 'frame', 'secured', 'outside', 'peek', 'scan',
-  'line', 'hearing', 'presence', 'entries', 'held', 'run', 'reading', 'words', 'report',
-  'verdicts', 'way', 'why', 'reason', 'clock', 'filter', 'tables', 'load', 'shape', 'streets',
-  'names', 'badges', 'drawn', 'canvas', 'ground', 'map', 'saving', 'scene', 'rows', 'split',
-  'packet', 'tested', 'files', 'open'];
+  'line', 'hearing', 'presence', 'entries', 'held', 'run', 'reading', 'links', 'records',
+  'capture', 'words', 'report', 'verdicts', 'way', 'why', 'reason', 'clock', 'filter', 'tables',
+  'load', 'shape', 'streets', 'names', 'badges', 'drawn', 'canvas', 'ground', 'map', 'saving',
+  'scene', 'rows', 'split', 'packet', 'tested', 'files', 'open'];
 
 /** @returns {any} the namespace `geostation`, with the parts that are tested by node */
 function load() {

@@ -118,8 +118,8 @@ test('verdicts that are not on the run are rejected with what differs', async ()
       return true;
     });
   };
-  await fails(FAIL, /they are on station 1400020000000009, which/, '1400020000000009');
-  await fails({...FAIL, record: 4}, /they name record 4, and the run sent 4 frames/);
+  await fails(FAIL, /they are on station 1400020000000009, which it doesn’t have/, '1400020000000009');
+  await fails({...FAIL, record: 4}, /they name record 4, and it has 4 frames/);
   await fails({...FAIL, cause: 9}, /they name record 9/);
   await fails({...FAIL, others: [1, 5]}, /they name record 5/);
   await fails({...FAIL, moment: 1002}, /record 1 is at 1002 ms, that frame at 1001 ms/);
@@ -161,7 +161,7 @@ test('held frames are records in the order in which they were released', async (
   assert.deepEqual([...first.fails().events], []);
   await assert.rejects(on(contending.AWAY, 1, relay(1072, 1)), /record 1 is at 1072 ms, .* 1062 ms/);
   // A frame that was cancelled or dropped never went out.
-  await assert.rejects(on(contending.CANCELLED, 1, relay(1072, 2)), /name record 2, .* sent 2 frames/);
+  await assert.rejects(on(contending.CANCELLED, 1, relay(1072, 2)), /name record 2, .* has 2 frames/);
   assert.equal((await on(contending.RESTARTED, 2, relay(1168, 2))).worst(3), 'pass');
 });
 
