@@ -101,9 +101,21 @@
     const {ReportFault, read} = geostation.report;
     if (!state.run) throw new ReportFault('Verdicts go with a run. Open the run first.');
     showVerdicts(new geostation.verdicts.Verdicts(state.run, read(text)));
+    timeline.markFails(failMarks());
     showTotals();
     listEvents();
     go(state.at, state.note);
+  }
+
+  /** The marks of the events and notes with a fail. */
+  function failMarks() {
+    const {run, fails, verdicts} = state;
+    const nameOf = (moment, found) => `At ${moment} ms: ${geostation.verdicts.line(found)}`;
+    const ofEvents = Array.from(fails.events, (event) =>
+      ({event, name: nameOf(run.moment(event), verdicts.ofEvent(event))}));
+    const ofNotes = Array.from(fails.notes, (note) => ({event: run.notes.after.values[note], note,
+      name: nameOf(run.noteMoment(note), verdicts.ofNote(note))}));
+    return [...ofEvents, ...ofNotes];
   }
 
   /** @param {import('./verdicts.js').Verdicts | undefined} verdicts none if undefined */

@@ -5,12 +5,12 @@
 
   const {byId, element} = geostation.dom;
   const {clock} = geostation;
-  /** More marks would be one band. */
+  /** More marks of a kind would be one band. */
   const MOST_MARKS = 400;
 
   class Timeline {
     /**
-     * @param {(at: number) => void} go to an event @param {(step: number) => void} stepBy
+     * @param {(at: number, note?: number) => void} go to an event or a note @param {(step: number) => void} stepBy
      * @param {(warning: number) => void} pick the mark of a warning was clicked
      */
     constructor(go, stepBy, pick) {
@@ -20,6 +20,7 @@
       this.playing = false;
       this.times = new Float64Array(0);
       this.marked = [];
+      this.failed = [];
       this.slider = byId('slider');
       this.slider.max = String(clock.STEPS);
       this.button = byId('play');
@@ -40,6 +41,7 @@
       this.pause();
       this.times = times;
       this.marked = marks;
+      this.failed = [];
       this.at = 0;
       this.drawMarks();
     }
@@ -59,24 +61,43 @@
       this.changed?.();
     }
 
+    /**
+     * Marks the events with a fail, and the notes after an event.
+     * @param {{event: number, note?: number, name: string}[]} fails
+     */
+    markFails(fails) {
+      this.failed = fails;
+      this.drawMarks();
+    }
+
     drawMarks() {
-      const {length} = this.marked;
+      const some = [...this.few(this.marked, 'warnings'), ...this.few(this.failed, 'fails')];
+      byId('marks').title = some.join('. ');
+      const warnings = thinned(this.marked).map((mark) =>
+        this.makeMark(mark, 'mark', '', () => this.pick(mark.number)));
+      const fails = thinned(this.failed).map((mark) =>
+        this.makeMark(mark, 'mark fail', '✗', () => this.go(mark.event, mark.note)));
+      byId('marks').replaceChildren(...warnings, ...fails);
+    }
+
+    /** That not all are marked, as a list of one sentence or none. */
+    few({length}, what) {
       const every = Math.ceil(length / MOST_MARKS);
-      byId('marks').title = every > 1 ? `One of ${every} among ${length} warnings is marked` : '';
-      const numbered = this.marked.map((mark, number) => ({...mark, number}));
-      const marks = numbered.filter((_, i) => i % every === 0).map(({event, name, number}) => {
-        const mark = element('button', 'mark');
-        mark.type = 'button';
-        mark.tabIndex = -1;
-        mark.title = name;
-        mark.style.left = `${100 * clock.fraction(this.times, event, this.speed)}%`;
-        mark.addEventListener('click', () => {
-          this.pause();
-          this.pick(number);
-        });
-        return mark;
+      return every > 1 ? [`One of ${every} among ${length} ${what} is marked`] : [];
+    }
+
+    /** @param {{event: number, name: string}} mark @param {() => void} pick */
+    makeMark({event, name}, className, sign, pick) {
+      const mark = element('button', className, sign);
+      mark.type = 'button';
+      mark.tabIndex = -1;
+      mark.title = name;
+      mark.style.left = `${100 * clock.fraction(this.times, event, this.speed)}%`;
+      mark.addEventListener('click', () => {
+        this.pause();
+        pick();
       });
-      byId('marks').replaceChildren(...marks);
+      return mark;
     }
 
     slide() {
@@ -164,6 +185,12 @@
       else return;
       event.preventDefault();
     }
+  }
+
+  /** As many of some marks as there is room for, with their numbers. */
+  function thinned(marks) {
+    const every = Math.ceil(marks.length / MOST_MARKS);
+    return marks.map((mark, number) => ({...mark, number})).filter((_, i) => i % every === 0);
   }
 
   geostation.timeline = {Timeline};

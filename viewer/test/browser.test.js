@@ -887,6 +887,7 @@ test('a report with fails only says how many verdicts it leaves out', async () =
     'Station 1 under test: 1 of 3 verdicts. “verdict --all” prints all');
   // Another run has no verdicts.
   await show(ROAD);
+  assert.equal(await count('.mark.fail'), 0);
   assert.doesNotMatch(await text('#totals'), /verdicts/);
   assert.equal(await page.value('document.getElementById("verdicts").hidden'), true);
   assert.equal(await count('.tested[transform]'), 0);
@@ -920,6 +921,7 @@ test('a frame that was held has its verdict at its release', async () => {
   const file = path.join(room, 'held.jsonl');
   fs.writeFileSync(file, contending.textOf(contending.AWAY));
   await showReport(file, [{result: 'pass', duty: 'D14', moment: 1072, record: 2, reason: 'a gbc'}]);
+  assert.equal(await count('.mark.fail'), 0);
   await page.press('End');
   assert.deepEqual(await signs(), [[1, 'badge pass']]);
   await page.press('ArrowLeft');
@@ -931,6 +933,12 @@ test('a frame that was held has its verdict at its release', async () => {
   for (let i = 0; i < 4; i += 1) await page.press('ArrowRight');
   assert.match(await text('#present'), /^Event 4, 1001 ms, station 1: .* waits 1 until 1072$/);
   assert.deepEqual(await signs(), []);
+  // A fail of a held frame has its cross at the release.
+  await chooseReport('fail.jsonl', reports.textOf([{result: 'fail', duty: 'D16', moment: 1072,
+    record: 2, cause: 0, reason: 'late: 72 ms after #0'}]));
+  await page.until('!!document.querySelector(".mark.fail")');
+  await page.click('.mark.fail');
+  assert.match(await text('#present'), /^Note, 1072 ms, station 1: .* ✗ fail D16: late: 72 ms /);
   noFault();
 });
 
@@ -998,6 +1006,12 @@ test('a capture and verdicts on it are dropped together', async () => {
   assert.deepEqual(await page.value(`[...document.querySelectorAll('.legend li')]
     .filter(({hidden}) => !hidden).map((entry) => entry.textContent.trim())`),
   ['under test', 'pass', 'fail', 'inconclusive']);
+  // A cross above the slider leads to each fail.
+  assert.deepEqual(await page.value(`[...document.querySelectorAll('.mark')].map((mark) =>
+    [mark.className, mark.textContent, mark.title])`), [['mark fail', '✗', 'At 9500 ms: ✗ fail D14: ' +
+    'a beacon of 1400020000000201 was forwarded (EN 302 636-4-1 10.3)']]);
+  await page.click('.mark.fail');
+  assert.match(await text('#present'), /^Record 11, 9500 ms, /);
   await page.click('#only-fails');
   assert.deepEqual(await rows('events'), ['9500 020000000100 beacon record 11 ✗ fail D14: a beacon of ' +
     '1400020000000201 was forwarded (EN 302 636-4-1 10.3)']);
