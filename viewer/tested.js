@@ -39,7 +39,8 @@
     const title = `Verdicts on station ${verdicts.run.name(verdicts.station)}, ` +
       `record ${own[0].record} of its capture`;
     const list = element('ul', 'verdict-list',
-      ...own.map((verdict) => element('li', `verdict ${verdict.result}`, judged.words(verdict))));
+      ...own.map((verdict) => element('li', `verdict ${verdict.result}`,
+        judged.words(verdict) + verdicts.otherFrames(verdict))));
     list.setAttribute('aria-label', title);
     return [element('h3', '', title), list];
   }

@@ -135,6 +135,7 @@
       const matching = new Matching(run, station, verdicts);
       this.run = run;
       this.station = matching.station;
+      this.order = matching.order;
       this.counts = counts;
       this.listed = verdicts.length;
       /** The verdicts on each frame, the worst first. @type {Map<number, Verdict[]>} */
@@ -149,6 +150,16 @@
     /** The verdicts on a frame. @param {number | undefined} frame @returns {Verdict[]} */
     of(frame) {
       return this.byFrame.get(frame) ?? NONE;
+    }
+
+    /**
+     * Which frames the other records are that a reason names, if their numbers differ.
+     * @param {Verdict} verdict
+     */
+    otherFrames({others}) {
+      const named = others.filter((record) => this.order[record] !== record)
+        .map((record) => `#${record} is frame ${this.order[record]}`);
+      return named.length === 0 ? '' : `; ${named.join(', ')}`;
     }
 
     /** The worst result of a frame. @param {number} frame @returns {string | undefined} */

@@ -10,7 +10,7 @@ const test = require('node:test');
 const {load, TOP} = require('./load.js');
 const reports = require('./reports.js');
 
-const {capture, files, filter, frame, packet, records, report, rows, scene, words} = load();
+const {capture, files, filter, frame, links, packet, records, report, rows, scene, words} = load();
 const {verdicts: judged} = load();
 const CASES = path.join(TOP, '..', 'cases');
 const DATA = path.join(CASES, 'data');
@@ -85,19 +85,26 @@ test('a capture is told from other files by its first octets', async () => {
   assert.equal(await files.kindOf(new Blob(['abc'])), 'run');
 });
 
-/** Compares the records of a capture with lines of `show`: times, kinds and senders. */
+/** A record as a line of `show` has it: time, sender, target and kind, or that it isn't read. */
+function shownRecord(line) {
+  const [moment, from, to, kind] = line.replace(/ outside .*? (?=[0-9a-f]{12} )/, ' ').split(' ');
+  if (from !== 'refused') return [moment, from, to, kind];
+  // The page shows the kind of some packets and cut frames that `show` rejects.
+  return /^(P4|L3|L5)$/.test(to) ? [moment, 'rejected'] : [moment, 'unread'];
+}
+
+/** Compares the records of a capture with lines of `show`. */
 function compare(file, lines) {
   const {run, fault} = capture.read(file);
   assert.equal(fault, undefined);
-  const shown = lines.map((line) => {
-    const [moment, ...parts] = line.replace(/ outside .*? (?=[0-9a-f]{12} )/, ' ').split(' ');
-    return parts[0] === 'refused' ? [moment, 'unread'] : [moment, parts[2], parts[0]];
+  const shown = lines.map(shownRecord);
+  const found = run.events.map(({index, kind, station}) => {
+    const moment = run.moment(index);
+    if (shown[index]?.[1] === 'rejected') return [moment, 'rejected'];
+    const target = frame.toHex(run.frames.octets(index).subarray(0, 6));
+    return kind === 'unread' ? [moment, kind] : [moment, run.name(station), target, kind];
   });
-  const found = run.events.map((event) => [run.moment(event.index), event.kind,
-    ...(event.kind === 'unread' ? [] : [run.name(event.station)])]);
-  // `show` reads a frame that was cut only with --partial, and no packet that it rejects.
-  assert.deepEqual(found.map((item, i) => (shown[i]?.[1] === 'unread' ? [item[0], 'unread'] : item)),
-    shown);
+  assert.deepEqual(found, shown);
 }
 
 for (const name of ['beacon.cap', 'shb.cap', 'gbc.cap', 'gac.cap', 'refused.cap', 'captured.pcapng',
@@ -126,6 +133,19 @@ for (const file of ['links.md', 'cooked.md']) {
     test(`each link layer: records of ${name} of ${file} are those of show`, () => compare(whole, lines));
   }
 }
+
+test('the flags of radiotap come after all its words of presence and an aligned time', () => {
+  const [beacon] = [...records.of(sample('beacon.cap'))].map((record) => Array.from(record.octets));
+  // A QoS header of 26 octets, which the flags say is padded to 28.
+  const wireless = [0x88, 0, 0, 0, ...beacon.slice(0, 12), ...Array(6).fill(255), 0, 0, 0, 0, 0, 0,
+    0xaa, 0xaa, 3, 0, 0, 0, ...beacon.slice(12)];
+  const radiotap = [0, 0, 25, 0, 3, 0, 0, 0x80, 0, 0, 0, 0, 0, 0, 0, 0, ...Array(8).fill(0), 0x20];
+  assert.deepEqual([...links.frameOf(127, new Uint8Array([...radiotap, ...wireless]))], beacon);
+  const others = [[1, 0, 25], [0, 0, 7], [0, 0, 255]].map((begin) =>
+    links.frameOf(127, new Uint8Array([...begin, ...radiotap.slice(3), ...wireless])));
+  assert.deepEqual(others, [undefined, undefined, undefined]);
+  assert.equal(links.frameOf(147, new Uint8Array(beacon)), undefined);
+});
 
 test('stations are where their own packets say, from then on', () => {
   const {run} = capture.read(sample('verdict/iut.cap'));

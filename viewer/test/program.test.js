@@ -14,7 +14,7 @@ const test = require('node:test');
 const {load, read, TOP} = require('./load.js');
 const samples = require('./samples.js');
 
-const {report, verdicts: judged, way, why, words} = load();
+const {capture, report, verdicts: judged, way, why, words} = load();
 const CRATES = path.join(TOP, '..', 'crates');
 const PROGRAM = process.env.GEOSTATION ?? path.join(CRATES, 'geostation', 'out', 'geostation');
 const CASES = path.join(CRATES, '..', 'cases');
@@ -135,6 +135,18 @@ for (const {name, text} of RUNS) {
     });
   }
 }
+
+test('verdicts on the sample of verdict are on the records of its capture', {skip}, () => {
+  const [iut, file] = ['iut.toml', 'iut.cap'].map((name) => path.join(CASES, 'data', 'verdict', name));
+  const {status, stdout, stderr} =
+    spawnSync(PROGRAM, ['verdict', '--all', '--json', iut, file], {encoding: 'utf8'});
+  assert.equal(status, 1, stderr);
+  const {run} = capture.read(new Uint8Array(fs.readFileSync(file)));
+  const found = new judged.Verdicts(run, report.read(stdout));
+  const {pass, fail, inconclusive} = found.counts;
+  assert.equal(found.listed, pass + fail + inconclusive);
+  assert.equal(run.stations[found.station].address, '1400020000000100');
+});
 
 for (const [name, file] of [['loss', 'road-loss.toml'], ['comers', 'comers.toml']]) {
   test(`the kept run ${name} is the program’s`, {skip}, () => {

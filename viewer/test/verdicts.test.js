@@ -10,7 +10,7 @@ const {load, read} = require('./load.js');
 const reports = require('./reports.js');
 const samples = require('./samples.js');
 
-const {badges, files, filter, report, rows, scene, shape, verdicts: judged, way, why} = load();
+const {badges, files, filter, names, report, rows, scene, shape, verdicts: judged, way, why} = load();
 const {ADDRESSES, FOUR, RECEIVED, RELAY} = reports;
 const [FAIL, PASS, OPEN] = FOUR;
 
@@ -160,6 +160,10 @@ test('held frames are records in the order in which they were released', async (
   assert.deepEqual([...first.fails().notes], [1]);
   assert.deepEqual([...first.fails().events], []);
   await assert.rejects(on(contending.AWAY, 1, relay(1072, 1)), /record 1 is at 1072 ms, .* 1062 ms/);
+  // Record 1, which a reason may name, is frame 2; record 0 is frame 0.
+  const named = {others: [1, 0]};
+  assert.equal(first.otherFrames(named), '; #1 is frame 2');
+  assert.equal(first.otherFrames({others: [0]}), '');
   // A frame that was cancelled or dropped never went out.
   await assert.rejects(on(contending.CANCELLED, 1, relay(1072, 2)), /name record 2, .* has 2 frames/);
   assert.equal((await on(contending.RESTARTED, 2, relay(1168, 2))).worst(3), 'pass');
@@ -242,6 +246,15 @@ test('signs lie in a row above the station, toward the middle, the latest eight'
   assert.equal(east - west, 2 * badges.RADIUS);
   assert.deepEqual(badges.leftOut(many), ['the verdicts on 2 frames']);
   assert.deepEqual(badges.leftOut(many.slice(0, 8)), []);
+});
+
+test('no name covers a sign', () => {
+  const item = {station: 0, text: 'a long name', x: 100, y: 100, radius: 8, role: ''};
+  const free = names.placed([item]).get(0);
+  const [sign] = badges.placed([{frame: 0, event: 0, result: 'pass'}], {x: 100, y: 100, radius: 8}, 400);
+  const box = badges.boxOf({...sign, x: 100});
+  assert.ok(names.overlap(free.box, box));
+  assert.ok(!names.overlap(names.placed([item], [box]).get(0).box, box));
 });
 
 test('the three signs and the corners have shapes of their own', () => {
