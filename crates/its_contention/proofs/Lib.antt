@@ -1,3 +1,4 @@
 pub mod Roots
+pub mod Keys
 pub mod Sorting
 pub mod Counting

@@ -17,6 +17,7 @@ ghost use Rattle.its_contention.specs.Waiting.{longest};
 use crate::buffer::HeldFrames;
 use crate::counts::ContentionCounts;
 use crate::fate::RelayFate;
+use crate::key::KeyedOctets;
 use crate::longest::longest;
 use crate::place::sender_place;
 use crate::rule::ContentionRule;
@@ -24,7 +25,6 @@ use crate::waiting::WaitingFrame;
 use its_geometry::contains;
 use its_gnvalue::{Mac, NoMemory};
 use its_headers::Kind;
-use its_linkframe::is_copy;
 use its_loctable::LocationStore;
 use its_station::{LAST_MOMENT, ReceivedFrame, Station};
 use std::alloc::Global;
@@ -140,8 +140,8 @@ impl Contention {
         ensures state { self.new ≡ after_duplicate self.old own octets.now sender }
         ensures count { result ≡ length self.new.left }
     {
-        self.held
-            .hear(sender, |held| is_copy(held.octets(), octets, own))
+        let came = KeyedOctets::new(octets);
+        self.held.hear(sender, |held| held.is_copied(&came, own))
     }
 
     /// Drops all frames, since the station restarted, and returns how many.

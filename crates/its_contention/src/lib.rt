@@ -65,6 +65,7 @@ mod counts;
 mod due;
 mod fate;
 mod held;
+mod key;
 pub mod laws;
 mod longest;
 mod place;

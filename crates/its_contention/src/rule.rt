@@ -142,7 +142,7 @@ impl ContentionRule {
     }
 
     /// How much shorter than the greatest wait a frame waits, by the squared distance of its
-    /// sender.
+    /// sender. A search by halves needs no quotient and no root of 128 bits.
     fn shorter(&self, span: u16, distance2: u64) -> u16
         requires span { span ≡ self.now.max_wait - self.now.min_wait }
         requires distance { distance2 < 2 ^ 63 }
@@ -150,8 +150,19 @@ impl ContentionRule {
         ensures bound { result ≤ span }
     {
         let reach = CENTIMETRES * u128::from(self.range);
-        let part = u128::from(span) * u128::from(span) * u128::from(distance2) / (reach * reach);
-        u128::from(span).min(part.isqrt()) as u16
+        let whole = u128::from(span) * u128::from(span) * u128::from(distance2);
+        let mut fits = 0;
+        let mut over = span + 1;
+        while over - fits > 1 {
+            let middle = fits + (over - fits) / 2;
+            let part = u128::from(middle) * reach;
+            if part * part <= whole {
+                fits = middle;
+            } else {
+                over = middle;
+            }
+        }
+        fits
     }
 }
 

@@ -1,8 +1,11 @@
 //! A frame that waits, as a station sends it.
 
 ghost use Rattle.std.specs.Prelude.{◌≡◌};
+ghost use Rattle.its_linkframe.specs.Copies.{is_copy};
 
-use its_gnvalue::GnAddress;
+use crate::key::{KeyedOctets, key_of};
+use its_gnvalue::{GnAddress, Mac};
+use its_linkframe::is_copy;
 use std::marker::Model;
 
 /// A frame that waits to be sent, with what the limits of a station ask of its packet when it is
@@ -10,12 +13,15 @@ use std::marker::Model;
 #[derive(Drop)]
 pub struct WaitingFrame {
     octets: Vec<u8>,
+    key: u64,
     source: GnAddress,
     number: Option<u16>,
     knew_source: bool,
 }
 
 impl Model for WaitingFrame {
+    ghost use Rattle.std.specs.Prelude.{◌≡◌};
+    ghost use Rattle.its_contention.specs.Key.{key_of};
     ghost use Rattle.its_contention.specs.Waiting.{Waiting};
 
     ghost Value = { Waiting };
@@ -26,6 +32,8 @@ impl Model for WaitingFrame {
       number = f.number;
       knew_source = f.knew_source;
     } };
+
+    ghost invariant = { λ f. f.key ≡ key_of f.octets.items };
 }
 
 impl WaitingFrame {
@@ -44,8 +52,10 @@ impl WaitingFrame {
           knew_source = knew_source;
         } }
     {
+        let key = key_of(octets.as_slice());
         WaitingFrame {
             octets,
+            key,
             source,
             number,
             knew_source,
@@ -57,6 +67,14 @@ impl WaitingFrame {
         ensures { result.now ≡ self.now.octets }
     {
         self.octets.as_slice()
+    }
+
+    /// Whether octets that came are a copy of it, by `is_copy`, for the station with this link
+    /// address. A frame with another key is none.
+    pub(crate) fn is_copied(&self, came: &KeyedOctets<'_>, own: Mac) -> bool
+        ensures { result ≡ is_copy own self.now.octets came.now.octets.now }
+    {
+        self.key == came.key() && is_copy(self.octets(), came.octets(), own)
     }
 
     /// Its octets, as they are sent.

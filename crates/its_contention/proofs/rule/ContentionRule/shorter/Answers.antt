@@ -1,16 +1,15 @@
-use Rattle.std.proofs.Common.{ap, sym, ◌∙◌, ◌≤◌, subst, min}
+use Rattle.std.proofs.Common.{◌≡◌, ◌+◌, ◌*◌, ap, refl, arith, ◌∙◌}
 use Rattle.its_model.specs.Contention.{ContentionRule as Rule}
-use Rattle.its_contention.proofs.Roots.{shorter-quotient}
+use Rattle.its_contention.proofs.Roots.{shorter-found, at_end}
 use Rattle.its_contention.proofs.rule.ContentionRule.shorter.Goals as goal
 
 pub returns-clause-value : goal.returns-clause-value
 returns-clause-value c =
-    c.min.ensures
-    ∙ ap (λ n. min n c.isqrt.result) c.from-4.ensures
-    ∙ sym (shorter-quotient c.args.self.now c.args.distance2 c.args.span c.isqrt.result
-    c.from.result c.from-2.result c.from-3.result c.from-reach.result
-    c.from.ensures c.from-2.ensures c.from-3.ensures
-    (c.from-reach.ensures ∙ ap (λ (r : Rule). r.range) c.self.view_is)
-    c.requires.span
-    (subst (λ (r : Rule). 1 ≤ r.range) c.self.view_is c.self.invariant.some_range)
-    c.isqrt.ensures.square_le c.isqrt.ensures.next_square_gt)
+    let inv = c.loop-over.invariant in
+    let next : c.loop-over.over ≡ c.loop-over.fits + 1 = omega arith in
+    shorter-found c.args.self.now c.args.distance2 c.args.span c.loop-over.fits c.from.result
+    c.from-2.result c.from-3.result (100 * c.from-reach.result) _ c.from.ensures c.from-2.ensures
+    c.from-3.ensures
+    (ap (λ n. 100 * n) (c.from-reach.ensures ∙ ap (λ (r : Rule). r.range) c.self.view_is))
+    c.requires.span refl inv.below
+    (at_end c.loop-over.fits c.loop-over.over c.args.span _ _ next inv.above) (omega arith)
