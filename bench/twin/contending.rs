@@ -1,5 +1,5 @@
 //! A station that contends, as `Unit` is one.
-use crate::contention::{HeldFrames, Rule, contends_for, is_copy};
+use crate::contention::{HeldFrames, Rule, Waiting, contends_for, key_of};
 use crate::packets::read_frame;
 use crate::station::{Outcome, Refused, Station, Why};
 
@@ -16,7 +16,7 @@ pub struct Reaction<'a> {
 pub struct Contending {
     station: Station,
     rule: Option<Rule>,
-    held: HeldFrames<Vec<u8>>,
+    held: HeldFrames<Waiting>,
 }
 
 impl Contending {
@@ -31,7 +31,8 @@ impl Contending {
         let outcome = match (outcome, &self.rule) {
             (Outcome::Ignored(Why::Duplicate), Some(rule)) => {
                 let own = self.station.mid();
-                let is_copy = |held: &Vec<u8>| is_copy(held, octets, own);
+                let key = key_of(octets);
+                let is_copy = |held: &Waiting| held.is_copied(key, octets, own);
                 cancelled = self.held.hear(frame.from, rule.copies, is_copy) > 0;
                 Outcome::Ignored(Why::Duplicate)
             }
@@ -39,7 +40,7 @@ impl Contending {
                 if self.held.has_room() && contends_for(&self.station, &frame) =>
             {
                 let at = now + rule.wait(&self.station, now, &frame);
-                self.held.hold(relay, at);
+                self.held.hold(Waiting::new(relay), at);
                 due = Some(at);
                 Outcome::Accepted { handed, sent: None }
             }
@@ -50,6 +51,6 @@ impl Contending {
 
     /// Drops late frames, and takes out the one that is due first.
     pub fn release(&mut self, now: u64) -> Option<Vec<u8>> {
-        self.held.release(now, LATE)
+        self.held.release(now, LATE).map(|frame| frame.octets)
     }
 }

@@ -39,6 +39,34 @@ impl Rule {
     }
 }
 
+/// A frame that waits, with its key.
+pub struct Waiting {
+    pub octets: Vec<u8>,
+    key: u64,
+}
+
+impl Waiting {
+    pub fn new(octets: Vec<u8>) -> Waiting {
+        let key = key_of(&octets);
+        Waiting { octets, key }
+    }
+
+    /// Whether octets that came with this key are a copy of it.
+    pub fn is_copied(&self, key: u64, frame: &[u8], own: u64) -> bool {
+        self.key == key && is_copy(&self.octets, frame, own)
+    }
+}
+
+/// A number that copies of a frame share, of its sequence number, source and last octets.
+pub fn key_of(frame: &[u8]) -> u64 {
+    if frame.len() < LIFETIME + 1 + 21 {
+        return 0;
+    }
+    let word = |at: usize| u64::from_be_bytes(frame[at..at + 8].try_into().expect("eight octets"));
+    let [number, address, last] = [LIFETIME + 10, LIFETIME + 14, frame.len() - 8].map(word);
+    number.wrapping_add(address).wrapping_add(last)
+}
+
 /// Whether a station contends for what it forwards of a frame: it is inside the area.
 pub fn contends_for(station: &Station, frame: &Frame<'_>) -> bool {
     match &frame.packet.kind {
