@@ -118,6 +118,7 @@ impl Governor {
 
     /// What passes of a packet that a station accepted: whether it is delivered, and whether it is
     /// forwarded. A packet that is remembered as delivered passes neither way.
+    #[inline(always)]
     pub fn judge<'a, F: ReceivedFrame<'a>>(
         &mut self,
         now: u64,
@@ -145,7 +146,9 @@ impl Governor {
         let is_repeated = self.is_echo(now, frame);
         let forwards = accepted.sent && !is_repeated && self.has_room_for(now, receiver, frame);
         let delivers = accepted.handed && !is_repeated;
-        self.note_forwarding(now, frame.vector().address(), accepted.sent, forwards);
+        if accepted.sent {
+            self.note_forwarding(now, frame.vector().address(), forwards);
+        }
         self.note_delivery(now, frame, is_repeated, delivers);
         Passed {
             delivers,
@@ -185,7 +188,7 @@ impl Governor {
         ensures source { IsDrawOf self.old.sources source result now self.new.sources }
     {
         let forwards = self.has_room_of(now, receiver, source, number);
-        self.note_forwarding(now, source, true, forwards);
+        self.note_forwarding(now, source, forwards);
         forwards
     }
 
@@ -247,18 +250,22 @@ impl Governor {
     }
 
     /// Whether a packet was delivered before, and is remembered.
+    #[inline(always)]
     fn is_echo<'a, F: ReceivedFrame<'a>>(&self, now: u64, frame: &F) -> bool
         ensures { result ≡ is_echo self.now.delivered now (F.frame frame.now) }
     {
-        match (&self.delivered, id_of(frame)) {
-            (Some(delivered), Some(id)) => delivered.holds(&id, now),
-            _ => false,
+        let Some(delivered) = &self.delivered else {
+            return false;
+        };
+        match id_of(frame) {
+            Some(id) => delivered.holds(&id, now),
+            None => false,
         }
     }
 
     /// Takes a frame that is forwarded out of its buckets, and counts one that isn't.
-    fn note_forwarding(&mut self, now: u64, source: GnAddress, sent: bool, forwards: bool)
-        ensures { self.new ≡ after_forwarding self.old now source sent forwards }
+    fn note_forwarding(&mut self, now: u64, source: GnAddress, forwards: bool)
+        ensures { self.new ≡ after_forwarding self.old now source true forwards }
     {
         if forwards {
             let pressed = self.is_pressed(now);
@@ -273,12 +280,13 @@ impl Governor {
                     pressed,
                 });
             }
-        } else if sent {
+        } else {
             self.counts.suppressed = self.counts.suppressed.saturating_add(1);
         }
     }
 
     /// Remembers a packet that is delivered, and counts one that was delivered before.
+    #[inline(always)]
     fn note_delivery<'a, F: ReceivedFrame<'a>>(
         &mut self,
         now: u64,
@@ -300,7 +308,10 @@ impl Governor {
     fn remember<'a, F: ReceivedFrame<'a>>(&mut self, now: u64, frame: &F)
         ensures { self.new ≡ after_delivery self.old now (F.frame frame.now) true true }
     {
-        if let (Some(delivered), Some(id)) = (&mut self.delivered, id_of(frame)) {
+        let Some(delivered) = &mut self.delivered else {
+            return;
+        };
+        if let Some(id) = id_of(frame) {
             delivered.note(id, now.saturating_add(frame.lifetime().millis()));
         }
     }
@@ -339,15 +350,13 @@ impl Governor {
 fn id_of<'a, F: ReceivedFrame<'a>>(frame: &F) -> Option<PacketId>
     ensures { result ≡ id_of (F.frame frame.now) }
 {
+    let number = frame.number()?;
     let vector = frame.vector();
-    match frame.number() {
-        Some(number) => Some(PacketId {
-            source: vector.address(),
-            number,
-            timestamp: vector.tst(),
-        }),
-        None => None,
-    }
+    Some(PacketId {
+        source: vector.address(),
+        number,
+        timestamp: vector.tst(),
+    })
 }
 
 /// Whether a frame of a packet keeps the rules of a bucket under pressure.
