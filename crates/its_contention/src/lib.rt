@@ -57,6 +57,11 @@
 //!
 //! - `test_units::contention`: a station with a `Contention` beside it, and units that contend,
 //!   row by row; that calls succeed if memory is there.
+//!
+//! # By review
+//!
+//! As no proof speaks of cost: `Contention::hear` compares the octets of a duplicate only with a
+//! held frame that has its key (`key_of`), a number of 64 bits. A wait takes at most 10 halvings.
 #![tactic(auto)]
 
 mod buffer;
