@@ -70,7 +70,7 @@ impl WaitingFrame {
     }
 
     /// Whether octets that came are a copy of it, by `is_copy`, for the station with this link
-    /// address. A frame with another key is none.
+    /// address. A frame with another key is not one.
     pub(crate) fn is_copied(&self, came: &KeyedOctets<'_>, own: Mac) -> bool
         ensures { result ≡ is_copy own self.now.octets came.now.octets.now }
     {
