@@ -31,16 +31,17 @@
     }
 
     /** @param {import('./records.js').CaptureRecord} record */
-    take({moment, octets: whole, link}) {
+    take({moment, octets: whole, link, isCut}) {
       const {events, frames: kept} = this.run;
       const frame = link === undefined ? whole : links.frameOf(link, whole);
       const octets = frame ?? whole;
-      const packet = frame && packetOf(frame);
+      const packet = isCut || !frame ? undefined : packetOf(frame);
       const row = new Row();
       row.moment = Number(moment);
       if (!Number.isSafeInteger(row.moment)) events.exact.set(events.length, String(moment));
       Object.assign(row, {do: RECORD, result: RESULT.sent, sent: kept.length});
-      row.word = events.words.number(packet?.kind ?? 'unread');
+      const isOfLink = link === undefined || links.isKnown(link);
+      row.word = events.words.number(isCut && isOfLink ? 'cut' : packet?.kind ?? 'unread');
       const hasAddresses = frame !== undefined && frame.length >= 12;
       row.station = this.stationOf(hasAddresses ? frames.toHex(frame.subarray(6, 12)) : UNKNOWN);
       this.place(row, packet);

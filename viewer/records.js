@@ -11,6 +11,7 @@
    * @typedef {object} CaptureRecord
    * @property {bigint} moment @property {Uint8Array} octets
    * @property {number | undefined} link the number of its link layer; undefined if it is the frame
+   * @property {boolean} isCut whether the frame was longer than what the capture has of it
    */
 
   /** The first four octets of a classic pcap file: whether it is little-endian, units per ms. */
@@ -55,11 +56,15 @@
       return this.view.getUint32(at, this.isLittle);
     }
 
-    /** A record with these octets. @param {bigint} moment @returns {CaptureRecord} */
-    record(moment, at, length, link) {
+    /**
+     * A record with these octets.
+     * @param {bigint} moment @param {number} length @param {number} whole length of its frame
+     * @param {number} [link] @returns {CaptureRecord}
+     */
+    record(moment, at, length, whole, link) {
       this.need(at, length);
       this.count += 1;
-      return {moment, link, octets: this.octets.subarray(at, at + length)};
+      return {moment, link, isCut: length < whole, octets: this.octets.subarray(at, at + length)};
     }
   }
 
@@ -69,7 +74,7 @@
       const moment = (BigInt(source.u32(at)) << 32n) | BigInt(source.u32(at + 4));
       const length = source.u16(at + 8);
       if (length < 1 || length > 1468) refuse(`Record ${source.count} has an invalid length`);
-      yield source.record(moment, at + 10, length);
+      yield source.record(moment, at + 10, length, length);
       at += 10 + length;
     }
   }
@@ -79,9 +84,9 @@
     const link = source.u32(20) & 0xffff;
     if (!geostation.links.isKnown(link)) refuse(`The page doesn’t read link layer ${link}`);
     for (let at = 24; at < source.length;) {
-      const [seconds, part, length] = [0, 4, 8].map((more) => source.u32(at + more));
-      source.need(at, 16);
-      yield source.record(1000n * BigInt(seconds) + BigInt(part) / units, at + 16, length, link);
+      const [seconds, part, length, whole] = [0, 4, 8, 12].map((more) => source.u32(at + more));
+      const moment = 1000n * BigInt(seconds) + BigInt(part) / units;
+      yield source.record(moment, at + 16, length, whole, link);
       at += 16 + length;
     }
   }
@@ -114,13 +119,14 @@
     if (!about) refuse(`Record ${source.count} names an interface that is missing`);
     const ticks = (BigInt(source.u32(at + 4)) << 32n) | BigInt(source.u32(at + 8));
     const moment = 1000n * about.offset + (1000n * ticks) / about.perSecond;
-    return source.record(moment, at + 20, source.u32(at + 12), about.link);
+    return source.record(moment, at + 20, source.u32(at + 12), source.u32(at + 16), about.link);
   }
 
   /** The record of a Simple Packet Block, which has no time. @param {Source} source */
   function simple(source, at, length, [about]) {
     if (!about) refuse(`Record ${source.count} names an interface that is missing`);
-    return source.record(0n, at + 4, Math.min(source.u32(at), length), about.link);
+    const whole = source.u32(at);
+    return source.record(0n, at + 4, Math.min(whole, length), whole, about.link);
   }
 
   /** The byte order of a section. @param {Source} source @param {number} at its block */

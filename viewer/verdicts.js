@@ -105,7 +105,8 @@
       }
       if (kind === 'received') return;
       const {packet} = geostation.frame.read(run.frames.octets(frame));
-      const fits = packet ? (packet.address === address) === (kind === 'own') : duty === 'D1';
+      const isCut = run.isCapture && run.events.wordOf(frame) === 'cut';
+      const fits = packet && !isCut ? (packet.address === address) === (kind === 'own') : duty === 'D1';
       if (!fits) this.refuse(`${duty} doesn’t judge such a packet as that of record ${record}`);
     }
   }

@@ -89,8 +89,9 @@ test('a capture is told from other files by its first octets', async () => {
 function shownRecord(line) {
   const [moment, from, to, kind] = line.replace(/ outside .*? (?=[0-9a-f]{12} )/, ' ').split(' ');
   if (from !== 'refused') return [moment, from, to, kind];
-  // The page shows the kind of some packets and cut frames that `show` rejects.
-  return /^(P4|L3|L5)$/.test(to) ? [moment, 'rejected'] : [moment, 'unread'];
+  if (to === 'P4') return [moment, 'cut'];
+  // The page shows the kind of some packets that `show` rejects.
+  return /^(L3|L5)$/.test(to) ? [moment, 'rejected'] : [moment, 'unread'];
 }
 
 /** Compares the records of a capture with lines of `show`. */
@@ -102,7 +103,7 @@ function compare(file, lines) {
     const moment = run.moment(index);
     if (shown[index]?.[1] === 'rejected') return [moment, 'rejected'];
     const target = frame.toHex(run.frames.octets(index).subarray(0, 6));
-    return kind === 'unread' ? [moment, kind] : [moment, run.name(station), target, kind];
+    return /^(unread|cut)$/.test(kind) ? [moment, kind] : [moment, run.name(station), target, kind];
   });
   assert.deepEqual(found, shown);
 }
@@ -264,6 +265,23 @@ test('a station with another link address than its MID is the sender of its fram
   const verdict = {result: 'pass', duty: 'D4', moment: 3000, record: 1, reason: 'hops 1 of 1'};
   const found = new judged.Verdicts(run, report.read(reports.textOf([verdict], '1400020000000100')));
   assert.equal(run.name(found.station), '020000000177');
+});
+
+test('a cut record has D1 alone, even if its packet is whole', () => {
+  const n = (value) => octets(value, 4, true);
+  const frame_ = [...FIRST, 0, 0];
+  const file = (whole) => new Uint8Array([...pcap(0xd4c3b2a1, true, 1e6).subarray(0, 24), ...n(1), ...n(0),
+    ...n(FIRST.length), ...n(whole), ...frame_.slice(0, FIRST.length)]);
+  const on = (whole, verdict) => new judged.Verdicts(capture.read(file(whole)).run,
+    report.read(reports.textOf([{result: 'inconclusive', moment: 1000, record: 0, reason: 'cut', ...verdict}],
+      '1400020000000099')));
+  assert.equal(on(FIRST.length + 2, {duty: 'D1'}).worst(0), 'inconclusive');
+  assert.throws(() => on(FIRST.length + 2, {duty: 'D13'}), /D13 doesn’t judge such a packet/);
+  assert.throws(() => on(FIRST.length, {duty: 'D1'}), /D1 doesn’t judge such a packet/);
+  assert.equal(on(FIRST.length, {duty: 'D13'}).worst(0), 'inconclusive');
+  // It says no position either.
+  assert.deepEqual([2, 0].map((more) =>
+    capture.read(file(FIRST.length + more)).run.presence.stateOf(0, 0, 0)), ['expected', 'there']);
 });
 
 test('words of a record: its number, its kind and its sender', () => {
