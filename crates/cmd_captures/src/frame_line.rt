@@ -101,6 +101,11 @@ impl<'a> FrameLine<'a> {
         self.keys.message.is_some() && has(self.cut, Field::Payload)
     }
 
+    /// Whether it has no media-dependent data but zeros.
+    pub(crate) fn has_zero_media(&self) -> bool {
+        are_zeros(&self.media)
+    }
+
     /// Adds its words to a text, with a line feed after them.
     pub(crate) fn add_to(&self, text: &mut Text) -> Result<(), AllocError> {
         text.moment(self.moment)?;

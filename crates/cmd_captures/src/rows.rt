@@ -91,6 +91,14 @@ impl Row<'_> {
         }
     }
 
+    /// Whether its frame has no media-dependent data but zeros.
+    fn has_zero_media(&self) -> bool {
+        match &self.line {
+            RecordLine::Frame(frame) => frame.has_zero_media(),
+            RecordLine::Outside(_) | RecordLine::Refused(_) => false,
+        }
+    }
+
     /// Whether the record has a value of this key that may be an empty text.
     fn has_payload(&self) -> bool {
         match &self.line {
@@ -119,6 +127,8 @@ pub(crate) enum RowForm {
     Csv,
     /// As an object in JSON.
     Object,
+    /// As the object of a frame that was cut, which has no media-dependent data of zeros.
+    CutObject,
 }
 
 /// A row of values, or an object, for each record.
@@ -181,7 +191,7 @@ impl Rows {
         self.text.clear();
         match self.form {
             RowForm::Csv => self.add_row(&row)?,
-            RowForm::Object => self.add_object(&row)?,
+            RowForm::Object | RowForm::CutObject => self.add_object(&row)?,
         }
         out.write_all(self.text.as_bytes())?;
         Ok(())
@@ -202,6 +212,9 @@ impl Rows {
     fn add_object(&mut self, row: &Row<'_>) -> Result<(), AllocError> {
         let mut part = FIRST;
         for field in self.fields.iter() {
+            if *field == Field::Media && self.form == RowForm::CutObject && row.has_zero_media() {
+                continue;
+            }
             part = add_key(*field, row, part, &mut self.value, &mut self.text)?;
         }
         self.text.word(if part == FIRST { "{}\n" } else { "}\n" })

@@ -215,8 +215,9 @@ fn show_lines<'a, S: Source + Drop, W: Write, E>(
 fn rows_of_cut(alloc: Global, clock: Clock) -> Result<Rows, AllocError> {
     let mut fields = Vec::new(alloc);
     fields.extend_from_slice(&FIELDS[..FRAME_FIELDS])?;
+    fields.push(Field::Media)?;
     fields.push(Field::Cut)?;
-    Rows::new(alloc, fields.as_slice(), RowForm::Object, clock)
+    Rows::new(alloc, fields.as_slice(), RowForm::CutObject, clock)
 }
 
 /// An object for each record, and one of what is wrong with the file.
