@@ -119,9 +119,10 @@ ArePorts (text ∷ texts) (port ∷ ports) = IsWhole 16 text port × ArePorts te
 -- how times are printed, by a word; in milliseconds if it is another one
 abbrev pub time_of_word : List ℕ → Time
 time_of_word word =
-    cond (pointwise nat_eq word (codes "utc")) times.Utc
+    cond (pointwise nat_eq word (codes "exact")) times.Exact
+    (cond (pointwise nat_eq word (codes "utc")) times.Utc
     (cond (pointwise nat_eq word (codes "relative")) times.Relative
-    (cond (pointwise nat_eq word (codes "delta")) times.Delta times.Raw))
+    (cond (pointwise nat_eq word (codes "delta")) times.Delta times.Raw)))
 
 -- the same by the value of an option, which may not be given
 abbrev pub time_named : Option (List ℕ) → Time

@@ -394,6 +394,7 @@ pub fn time_of(matches: &ArgMatches<'_>) -> Time
     ensures { result ≡ time_named (value_in matches.now (codes "time")) }
 {
     match matches.get_str("time") {
+        Some("exact") => Time::Exact,
         Some("utc") => Time::Utc,
         Some("relative") => Time::Relative,
         Some("delta") => Time::Delta,

@@ -183,8 +183,8 @@ const COUNT: Argument = Argument::Value("count", "N", "Stop after this many sele
 const TIME: Argument = Argument::Choice(
     "time",
     "TIME",
-    &["raw", "utc", "relative", "delta"],
-    "How to print times: milliseconds, UTC, seconds since the first or the previous record [default: raw]",
+    &["raw", "exact", "utc", "relative", "delta"],
+    "How to print times: milliseconds, the same with decimals, UTC, seconds since the first or the previous record [default: raw]",
 );
 
 const FIELDS: Argument = Argument::Value(
@@ -477,6 +477,12 @@ Example:
                 "Capture to write, or - for standard output",
             ),
             OUTPUT,
+            Argument::Choice(
+                "to",
+                "FORMAT",
+                &["capture", "pcap", "pcapng"],
+                "Format of OUT [default: capture]",
+            ),
             EXPLAIN,
             NO_EXPLAIN,
             QUIET,

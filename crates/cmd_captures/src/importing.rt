@@ -8,11 +8,15 @@ ghost use Rattle.cmd_captures.specs.Lines.{HasFrame};
 ghost use Rattle.cmd_reporting.specs.FileNames.{is_standard as names_standard};
 ghost use Rattle.cmd_reporting.specs.Statuses.{IsCommandStatus, IsStopped};
 
+use crate::timed_frame::{Step, TimedFrame};
+use cap_linklayers::LinkLayer;
+use cap_pcap::{AnySink, Format, RecordSink};
 use cmd_reporting::{
-    CommandFault, Fault, Io, OutputFormat, Status, WriterFault, create_output, keep_apart, open,
+    CommandFault, Fault, Io, OutputFormat, Status, Target, WriterFault, create_output, keep_apart,
+    open,
 };
 use cmd_text::lines::{Line, Passed, are_digits};
-use its_linkframe::{CaptureWriter, Counted, LONGEST_FRAME, Record};
+use its_linkframe::{Counted, LONGEST_FRAME};
 use its_words::frames::Explanation;
 use std::alloc::{AllocError, AllocFailed, Global};
 use std::io::{BufRead, Read, Write};
@@ -23,13 +27,18 @@ use thiserror::Error;
 /// The most digits of a moment.
 const LONGEST_MOMENT: usize = 20;
 
-/// The most octets of a line that is a record: a moment, a space, and the digits of a frame.
-const LONGEST_LINE: usize = LONGEST_MOMENT + 1 + 2 * LONGEST_FRAME;
+/// The most digits after its point: nanoseconds.
+const LONGEST_FRACTION: usize = 6;
+
+/// The most octets of a line that is a record: a moment, a point and its digits, a space, and the
+/// digits of a frame.
+const LONGEST_LINE: usize = LONGEST_MOMENT + 1 + LONGEST_FRACTION + 1 + 2 * LONGEST_FRAME;
 
 /// Why a line is no record, in the order in which it is checked.
 #[derive(Clone, Copy, Debug, PartialEq, Eq, Error)]
 pub enum LineFault {
-    /// No decimal moment of 1 to 20 digits that fits 64 bits stands before a space.
+    /// No decimal moment of 1 to 20 digits that fits 64 bits stands before a space, or it goes on
+    /// with something else than a point and 1 to 6 digits.
     #[error("moment")]
     Moment,
     /// What follows the space is no even number of hexadecimal digits.
@@ -38,6 +47,9 @@ pub enum LineFault {
     /// The digits are those of no octet, or of more than 1468.
     #[error("length")]
     Length,
+    /// The file has no place for the moment.
+    #[error("no place")]
+    NoPlace,
 }
 
 impl LineFault {
@@ -45,10 +57,13 @@ impl LineFault {
     pub(crate) fn sentence(self) -> &'static str {
         match self {
             LineFault::Moment => {
-                "the line does not begin with a time in ms, below 2^64, and a space"
+                "the line does not begin with a time in ms, below 2^64, with at most 6 decimals, and a space"
             }
             LineFault::Hex => "the frame does not have an even number of hexadecimal digits",
             LineFault::Length => "the frame has 0 octets, or more than 1468",
+            LineFault::NoPlace => {
+                "the output format cannot hold this time: use --to pcap or pcapng for decimals"
+            }
         }
     }
 }
@@ -134,6 +149,32 @@ impl<T: Drop> From<AllocFailed<T>> for LinesFault<'_> {
     }
 }
 
+/// Reads a moment: milliseconds, and the nanoseconds below them that a point and 1 to 6 digits say.
+fn read_time(text: &[u8]) -> Option<(u64, u32)> {
+    let Some(point) = text.iter().position(|octet| *octet == b'.') else {
+        return Some((read_moment(text)?, 0));
+    };
+    let (whole, rest) = text.split_at(point);
+    Some((read_moment(whole)?, read_nanos(&rest[1..])?))
+}
+
+/// The nanoseconds that 1 to 6 decimals of a millisecond say.
+fn read_nanos(decimals: &[u8]) -> Option<u32> {
+    if decimals.is_empty() || decimals.len() > LONGEST_FRACTION {
+        return None;
+    }
+    let mut nanos: u32 = 0;
+    for place in 0..LONGEST_FRACTION {
+        let digit = match decimals.get(place) {
+            Some(octet) if octet.is_ascii_digit() => u32::from(octet.checked_sub(b'0')?),
+            Some(_) => return None,
+            None => 0,
+        };
+        nanos = nanos.checked_mul(10)?.checked_add(digit)?;
+    }
+    Some(nanos)
+}
+
 /// Reads 1 to 20 decimal digits that fit 64 bits: a sign is no digit.
 fn read_moment(digits: &[u8]) -> Option<u64> {
     if digits.len() > LONGEST_MOMENT || !digits.iter().all(|digit| digit.is_ascii_digit()) {
@@ -179,8 +220,8 @@ fn fault_of_long(digits: &[u8], passed: Passed) -> LineFault
     }
 }
 
-/// Reads a line: a moment, one space, and the digits of 1 to 1468 octets.
-fn read_line(alloc: Global, line: &Line) -> Result<Record, LineError>
+/// Reads the line of this number: a moment, one space, and the digits of 1 to 1468 octets.
+fn read_line(alloc: Global, number: u64, line: &Line) -> Result<TimedFrame, LineError>
     ensures frame { IfOk result HasFrame }
     ensures long { IsTrue line.now.passed.any → IsErr result }
 {
@@ -189,7 +230,7 @@ fn read_line(alloc: Global, line: &Line) -> Result<Record, LineError>
         return Err(LineError::Refused(LineFault::Moment));
     };
     let (digits, rest) = start.split_at(space);
-    let Some(moment) = read_moment(digits) else {
+    let Some((moment, nanos)) = read_time(digits) else {
         return Err(LineError::Refused(LineFault::Moment));
     };
     let passed = line.passed();
@@ -197,11 +238,17 @@ fn read_line(alloc: Global, line: &Line) -> Result<Record, LineError>
         return Err(LineError::Refused(fault_of_long(&rest[1..], passed)));
     }
     let frame = parse_frame(alloc, &rest[1..])?;
-    Ok(Record { moment, frame })
+    Ok(TimedFrame {
+        line: number,
+        moment,
+        nanos,
+        frame,
+    })
 }
 
-/// Makes the capture `target` of the lines in the file. All lines are read before it is created; a
-/// target `-` is standard output. `input` is standard input.
+/// Makes the capture `target` of the lines in the file: geostation's own if nothing says another
+/// format, whatever its name. All lines are read before it is created; a target `-` is standard
+/// output. `input` is standard input.
 ///
 /// `BadArguments` if the target is the file itself, before a line is read. `Refused` for a bad line,
 /// `Failed` if a file could not be read, created or written, or memory ran out.
@@ -209,12 +256,12 @@ pub fn import_file<R: Files + AllocGlobal, I: Read + Drop, W: Write, E: Write>(
     rt: &R,
     file: &str,
     input: I,
-    target: &str,
+    target: Target<'_>,
     io: &mut Io<W, E>,
 ) -> Status
 where
     R::File: Read + Write + Drop,
-    ensures { names_standard target.now ≡ true → IsCommandStatus result }
+    ensures { names_standard target.entry.name.now ≡ true → IsCommandStatus result }
 {
     let ended = import_to(rt, file, input, target, &mut io.out);
     io.status_of(ended)
@@ -225,30 +272,44 @@ fn import_to<'a, R: Files + AllocGlobal, I: Read + Drop, W: Write>(
     rt: &R,
     file: &'a str,
     input: I,
-    target: &'a str,
+    target: Target<'a>,
     out: &mut W,
 ) -> Result<Status, WriterFault<'a, LinesFault<'a>>>
 where
     R::File: Read + Write + Drop,
     ensures done { IfOk result (λ status. status ≡ Status.Done) }
-    ensures standard { names_standard target.entry.now ≡ true → IfErr result IsStopped }
+    ensures standard { names_standard target.entry.name.now ≡ true → IfErr result IsStopped }
 {
+    let format = target.to.unwrap_or(Format::Capture);
     let reader = open(rt, file, input)?;
-    keep_apart(rt, target, file)?;
-    let records = read_lines(rt.alloc(), file, reader)?;
-    let writer = create_output(rt, target, out)?;
-    Ok(write_records(target, records.as_slice(), writer)?)
+    keep_apart(rt, target.name, file)?;
+    let frames = read_lines(rt.alloc(), file, reader)?;
+    has_places(frames.as_slice(), format)?;
+    let writer = create_output(rt, target.name, out)?;
+    Ok(write_frames(target.name, format, frames.as_slice(), writer)?)
+}
+
+/// Whether a file of this format has a place for the times of all frames. The fault is that of the
+/// first line for whose time it has none.
+fn has_places<'a>(frames: &[TimedFrame], format: Format) -> Result<(), LinesFault<'a>> {
+    let step = Step::of(frames);
+    for timed in frames {
+        if timed.stamp(format, step).is_none() {
+            return Err(LinesFault::Line(timed.line, LineFault::NoPlace));
+        }
+    }
+    Ok(())
 }
 
 /// Reads all lines that the reader gives. `file` is their name. Empty lines are passed over. A line
-/// is checked as a whole, and no more of it is kept than the 2957 octets of the longest record.
+/// is checked as a whole, and no more of it is kept than the 2964 octets of the longest record.
 ///
 /// The fault is that of the first line that is bad, or that a read failed or memory ran out.
 pub fn read_lines<'a, R: BufRead + Drop>(
     alloc: Global,
     file: &'a str,
     mut reader: R,
-) -> Result<Vec<Record>, LinesFault<'a>>
+) -> Result<Vec<TimedFrame>, LinesFault<'a>>
     ensures { IfOk result (λ records. All HasFrame records.items) }
 {
     let mut line = Line::new(alloc, LONGEST_LINE)?;
@@ -268,7 +329,7 @@ fn add_record<'a>(
     alloc: Global,
     number: u64,
     line: &Line,
-    records: &mut Vec<Record>,
+    records: &mut Vec<TimedFrame>,
 ) -> Result<(), LinesFault<'a>>
     requires { All HasFrame records.old.items }
     ensures { All HasFrame records.new.items }
@@ -276,34 +337,40 @@ fn add_record<'a>(
     if line.is_empty() {
         return Ok(());
     }
-    match read_line(alloc, line) {
+    match read_line(alloc, number, line) {
         Ok(record) => Ok(records.push(record)?),
         Err(error) => Err(error.at_line(number)),
     }
 }
 
-/// Writes the records as a capture, and flushes it. `file` is the name of what the writer makes,
-/// `-` that of standard output.
+/// Writes the frames as a file of this format, and flushes it. `file` is the name of what the writer
+/// makes, `-` that of standard output. In pcapng they are of one interface without a name.
 ///
-/// `CannotWrite` where a write or the flush failed, `NoOutput` where that is standard output.
-pub fn write_records<'a, W: Write + Drop>(
+/// `CannotWrite` where a write or the flush failed or a time has no place in the file, `NoOutput`
+/// where that is standard output.
+pub fn write_frames<'a, W: Write + Drop>(
     file: &'a str,
-    records: &[Record],
+    format: Format,
+    frames: &[TimedFrame],
     out: W,
 ) -> Result<Status, Fault<'a>>
     ensures { IfOk result (λ status. status ≡ Status.Done) }
 {
-    match write_capture(records, out) {
+    match put_frames(format, frames, out) {
         Some(()) => Ok(Status::Done),
         None => Err(Fault::of_target(file)),
     }
 }
 
-/// Writes the records, one after the other: `None` where one was not written.
-fn write_capture<W: Write + Drop>(records: &[Record], out: W) -> Option<()> {
-    let mut capture = CaptureWriter::new(Counted::new(out));
-    for record in records {
-        capture.put(record.moment, record.frame.as_slice()).ok()?;
+/// Writes the frames, one after the other: `None` where one was not written.
+fn put_frames<W: Write + Drop>(format: Format, frames: &[TimedFrame], out: W) -> Option<()> {
+    let step = Step::of(frames);
+    let mut sink = AnySink::new(Counted::new(out), format);
+    sink.start_on(LinkLayer::Ethernet, step.unit()).ok()?;
+    sink.add_interface_on(step.head(), &[]).ok()?;
+    for timed in frames {
+        let stamp = timed.stamp(format, step)?;
+        sink.put_frame(0, stamp, timed.frame.as_slice()).ok()?;
     }
-    capture.into_inner().flush().ok()
+    sink.into_inner().into_inner().flush().ok()
 }

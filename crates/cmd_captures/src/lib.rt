@@ -11,7 +11,7 @@
 //!   only if a record was left out or the file has a fault. If a write failed, nothing is said of
 //!   the file. With `--signed`, the frame inside a secured one is written (`IsFrameText`), or
 //!   nothing if its message can't be read (`IsUnreadIn`).
-//! - `import` keeps the first 2957 octets of a line. A line with more is no record (`read_line`),
+//! - `import` keeps the first 2964 octets of a line. A line with more is no record (`read_line`),
 //!   and has bad digits if and only if one of its characters is not a digit or their number is odd
 //!   (`fault_of_long`).
 //!
@@ -41,6 +41,7 @@ mod rows;
 mod secured_keys;
 mod showing;
 mod text;
+mod timed_frame;
 mod utc;
 mod written;
 
@@ -49,6 +50,7 @@ pub use checking::check_file;
 pub use cmd_times::Time;
 pub use converting::{Conversion, convert_file};
 pub use field::{FIELDS, Field};
-pub use importing::{LineFault, LinesFault, import_file, read_lines, write_records};
+pub use importing::{LineFault, LinesFault, import_file, read_lines, write_frames};
 pub use showing::{Showing, show_file};
+pub use timed_frame::TimedFrame;
 pub use utc::utc_moment;

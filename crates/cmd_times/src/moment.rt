@@ -7,8 +7,10 @@ use std::fmt;
 /// How the times of records are printed.
 #[derive(Clone, Copy, Debug, PartialEq, Eq)]
 pub enum Time {
-    /// In milliseconds, as the file has them.
+    /// In whole milliseconds.
     Raw,
+    /// In milliseconds, with the decimals that the file has.
+    Exact,
     /// As date and time of UTC.
     Utc,
     /// In seconds since the first record of the file.
@@ -54,8 +56,10 @@ const NANOS_OF_SECOND: u128 = 1_000_000_000;
 /// A time as it is printed.
 #[derive(Clone, Copy)]
 pub enum Moment {
-    /// Milliseconds.
+    /// Whole milliseconds.
     Raw(u64),
+    /// Milliseconds and what is below them.
+    Exact(Instant),
     /// The time since 1970, as date and time.
     Utc(Instant),
     /// Seconds from one time to another, which may be before it.
@@ -63,9 +67,9 @@ pub enum Moment {
 }
 
 impl Moment {
-    /// Whether it is printed as a number with a fraction.
+    /// Whether it is printed as a number that may have a fraction.
     pub fn is_fraction(&self) -> bool {
-        matches!(self, Moment::Between(_, _))
+        matches!(self, Moment::Exact(_) | Moment::Between(_, _))
     }
 
     /// Whether it is a text in JSON: a date.
@@ -78,9 +82,23 @@ impl fmt::Display for Moment {
     fn fmt<W: fmt::Write>(&self, f: &mut fmt::Formatter<W>) -> fmt::Result {
         match *self {
             Moment::Raw(moment) => write!(f, "{moment}"),
+            Moment::Exact(time) => write_exact(time, f),
             Moment::Utc(time) => write_utc(time, f),
             Moment::Between(from, to) => write_between(from.in_nanos(), to.in_nanos(), f),
         }
+    }
+}
+
+/// Milliseconds with no, three or six decimals: the fewest that lose nothing.
+fn write_exact<W: fmt::Write>(time: Instant, f: &mut fmt::Formatter<W>) -> fmt::Result {
+    let nanos = time.nanos % 1_000_000;
+    write!(f, "{}", time.millis)?;
+    if nanos == 0 {
+        Ok(())
+    } else if nanos % 1000 == 0 {
+        write!(f, ".{:03}", nanos / 1000)
+    } else {
+        write!(f, ".{nanos:06}")
     }
 }
 
@@ -153,6 +171,7 @@ impl Clock {
         self.last = Some(time);
         match self.time {
             Time::Raw => Moment::Raw(time.millis),
+            Time::Exact => Moment::Exact(time),
             Time::Utc => Moment::Utc(time),
             Time::Relative => Moment::Between(first, time),
             Time::Delta => Moment::Between(last, time),

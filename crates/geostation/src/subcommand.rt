@@ -89,7 +89,7 @@ pub struct Import<'a> {
     /// The file of the lines.
     pub file: &'a str,
     /// The capture that is made.
-    pub target: &'a str,
+    pub target: Target<'a>,
     /// Whether it shows how far it is.
     pub progress: bool,
 }
@@ -307,11 +307,14 @@ fn converting<'a>(
 
 /// `import`.
 fn importing<'a>(file: &'a str, matches: &ArgMatches<'a>, console: Console) -> Option<Import<'a>> {
-    let target = output_of(matches)?;
+    let name = output_of(matches)?;
     Some(Import {
         file,
-        target,
-        progress: shows_progress(matches, console, target),
+        target: Target {
+            name,
+            to: format_of(matches, "to"),
+        },
+        progress: shows_progress(matches, console, name),
     })
 }
 
