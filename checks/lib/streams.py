@@ -191,7 +191,7 @@ TEXTS = [
     (f"7 {'0' * (3 * DIGITS + 1)}\n", Left(1, err=b"geostation: line 1: hex\n")),
 ]
 # A piece ends at the end of a line, or where no more of a line is kept, or nearby.
-PIECES = [1, 2, 4, 5, 6, 2956, 2957, 2958, 2962, 2963, 9000]
+PIECES = [1, 2, 4, 5, 6, 2957, 2962, 2963, 2964, 2965, 2968, 9000]
 
 
 def tries_of_pieces():

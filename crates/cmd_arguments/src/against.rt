@@ -1,13 +1,14 @@
-//! With what a station sent a replay is compared, by its options.
+//! Whether limits apply to a replay, and with what a station sent it is compared, by its options.
 
-ghost use Rattle.std.specs.Prelude.{IfOk, IfSome, codes};
+ghost use Rattle.std.specs.Prelude.{◌≡◌, IfOk, IfSome, codes};
 ghost use Rattle.std.specs.Option.{option_map};
-ghost use Rattle.cmd_arguments.specs.Options.{IsGiven, IsGivenOr, IsMac, IsWhole, value_in};
+ghost use Rattle.cmd_arguments.specs.Options.{IsFlagged, IsGiven, IsGivenOr, IsMac, IsWhole};
+ghost use Rattle.cmd_arguments.specs.Options.{value_in};
 
 use crate::bad_argument::BadArgument;
 use crate::choosing::{MAC, MacDigits, value_of};
 use clap::ArgMatches;
-use cmd_stats::replay::Against;
+use cmd_stats::replay::{Against, Limiting};
 use its_gnvalue::Mac;
 
 /// What an option has to be.
@@ -38,6 +39,16 @@ pub fn against_of<'a>(matches: &ArgMatches<'a>) -> Result<Option<Against>, BadAr
         })),
         None => Ok(None),
     }
+}
+
+/// Whether the default limits of a unit apply to a replay: by `--limits`.
+pub fn limiting_of(matches: &ArgMatches<'_>) -> Limiting
+    ensures { IsFlagged matches.now (codes "limits") → result ≡ Limiting.Within }
+{
+    if matches.get_flag("limits") {
+        return Limiting::Within;
+    }
+    Limiting::Past
 }
 
 /// The link address that `--against` spells, if it is given.

@@ -614,6 +614,15 @@ static STATIONS: [Form; 3] = [
                 "N",
                 "Open this port at the start; it doesn't select frames",
             ),
+            Argument::Flag(
+                "limits",
+                "Apply the default limits of the daemon: hops, rates, one delivery per packet",
+            ),
+            Argument::Value(
+                "moves",
+                "FILE",
+                "Move the station by the rows of this file, which have one id",
+            ),
             Argument::Value(
                 "against",
                 "HEX12",

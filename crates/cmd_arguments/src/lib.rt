@@ -29,7 +29,7 @@ mod judging;
 mod station;
 pub mod terminal;
 
-pub use against::against_of;
+pub use against::{against_of, limiting_of};
 pub use bad_argument::BadArgument;
 pub use choosing::{
     count_of, fields_of, ports_of, selection_of, selection_to_any_port, time_of, times_of,

@@ -6,45 +6,53 @@ use Rattle.cap_records.specs.declared.choosing.Choice.{Choice}
 use Rattle.cap_records.specs.declared.counts.RecordCounts.{RecordCounts}
 use Rattle.cap_records.specs.declared.selection.Selection.{Selection}
 use Rattle.its_model.specs.Calls as model
-use Rattle.its_model.specs.Station.{StationModel, station_step}
 use Rattle.cap_pcap.specs.declared.fault.SourceFault.{SourceFault}
 use Rattle.cap_pcap.specs.declared.record.RecordHeader.{RecordHeader}
 use Rattle.cap_pcap.specs.declared.record.Step.{Step}
 use Rattle.cap_pcap.specs.declared.record.Step.TheVariants as steps
-use Rattle.its_station.specs.Receiving.{IsFrameCall, IsVerifiedCall, VerifiedCall, verified_step}
-use Rattle.its_station.specs.Answers.{TellsAnswer}
-use Rattle.its_station.specs.State.{StationState, RepresentsStation}
+use Rattle.its_station.specs.Receiving.{IsFrameCall, IsVerifiedCall, VerifiedCall}
+use Rattle.its_unit.specs.Unit.{RepresentsUnit, UnitModel, UnitState, step_by}
+use Rattle.its_unit.specs.Unit.UnitCall.{Receive, ReceiveVerified}
+use Rattle.its_unit.specs.declared.limiting.Limiting.{Limiting}
 use Rattle.cmd_stats.specs.OnAir.{AnswersChoice, IsOnAir, IsSource, is_sent}
+use Rattle.cmd_stats.specs.Listening.{Listening, Represents, moved}
+use Rattle.cmd_stats.specs.Replies.{TellsReply}
 use Rattle.cmd_stats.specs.declared.replay.heard.Heard.{Heard}
 use Rattle.cmd_stats.specs.declared.replay.heard.Heard.TheVariants as heards
+use Rattle.cmd_stats.specs.declared.replay.listener.Listener.{Listener}
+use Rattle.cmd_stats.specs.declared.replay.listener.Rules.{Rules}
 use Rattle.cmd_stats.specs.declared.replay.on_air.OnAir.{OnAir}
 use Rattle.cmd_stats.specs.declared.replay.on_air.OnAir.TheVariants as airs
 use Rattle.cmd_stats.specs.declared.replay.secured_octets.SecuredOctets.{SecuredOctets}
 
--- The station receives these octets at the moment: the reply is the answer of that very step of the
--- model, and the station is the one after it.
-abbrev pub TellsReceived : StationModel → ℕ → Heard → StationModel → Type 0
-TellsReceived s moment (heards.Received at frame reply) next =
+-- The unit receives these octets at the moment, within its limits or past them: the reply is the
+-- answer of that very step of the model, and the unit is the one after it.
+abbrev pub TellsReceived : Limiting → UnitModel → ℕ → Heard → UnitModel → Type 0
+TellsReceived limiting u moment (heards.Received at frame reply) next =
     (at ≡ moment) × ((call : model.Call) × IsFrameCall frame.items call
-    × TellsAnswer reply (station_step s moment call).answer
-    × (next ≡ (station_step s moment call).station))
-TellsReceived s moment (heards.Nothing at fault) next = (at ≡ moment) × (next ≡ s)
-TellsReceived s moment (heards.Sent at frame source) next = ⊥
+    × TellsReply reply (step_by limiting u moment (Receive call)).answer
+    × (next ≡ (step_by limiting u moment (Receive call)).unit))
+TellsReceived limiting u moment (heards.Nothing at fault) next = (at ≡ moment) × (next ≡ u)
+TellsReceived limiting u moment (heards.Sent at frame source) next = ⊥
 
--- The station receives these octets with the plain part of a secured frame, as
--- `Station::receive_verified` does; the step is that of the model.
-abbrev pub TellsVerified : StationModel → ℕ → Heard → StationModel → Type 0
-TellsVerified s moment (heards.Received at frame reply) next =
+-- The unit receives these octets with the plain part of a secured frame, as `Unit::receive_verified`
+-- does; the step is that of the model.
+abbrev pub TellsVerified : Limiting → UnitModel → ℕ → Heard → UnitModel → Type 0
+TellsVerified limiting u moment (heards.Received at frame reply) next =
     (at ≡ moment) × ((plain : List ℕ) × (call : VerifiedCall)
-    × IsVerifiedCall frame.items plain call × (next ≡ (verified_step s moment call).station))
-TellsVerified s moment (heards.Nothing at fault) next = (at ≡ moment) × (next ≡ s)
-TellsVerified s moment (heards.Sent at frame source) next = ⊥
+    × IsVerifiedCall frame.items plain call
+    × (next ≡ (step_by limiting u moment (ReceiveVerified call)).unit))
+TellsVerified limiting u moment (heards.Nothing at fault) next = (at ≡ moment) × (next ≡ u)
+TellsVerified limiting u moment (heards.Sent at frame source) next = ⊥
 
 -- what was on the air is received
-abbrev pub TellsAir : OnAir → StationModel → ℕ → Heard → StationModel → Type 0
-TellsAir (airs.Octets octets) s moment heard next = TellsReceived s moment heard next
-TellsAir (airs.Secured secured) s moment heard next = TellsVerified s moment heard next
-TellsAir (airs.Nothing fault) s moment heard next = TellsReceived s moment heard next
+abbrev pub TellsAir : Limiting → OnAir → UnitModel → ℕ → Heard → UnitModel → Type 0
+TellsAir limiting (airs.Octets octets) u moment heard next =
+    TellsReceived limiting u moment heard next
+TellsAir limiting (airs.Secured secured) u moment heard next =
+    TellsVerified limiting u moment heard next
+TellsAir limiting (airs.Nothing fault) u moment heard next =
+    TellsReceived limiting u moment heard next
 
 -- what is told is of what the record has on the air: its octets, or why there are none
 abbrev pub IsToldOf : List ℕ → Heard → Type 0
@@ -79,28 +87,32 @@ TellsSent air moment (heards.Nothing at fault) = (at ≡ moment) × (air ≡ air
 TellsSent air moment (heards.Received at frame reply) = ⊥
 
 -- What came of what was on the air: it was received, unless the station under test sent it.
-abbrev pub TellsBy : Bool → OnAir → StationModel → ℕ → Heard → StationModel → Type 0
-TellsBy true air s moment heard next = TellsSent air moment heard × (next ≡ s)
-TellsBy false air s moment heard next = IsTold air heard × TellsAir air s moment heard next
+abbrev pub TellsBy : Bool → Limiting → OnAir → UnitModel → ℕ → Heard → UnitModel → Type 0
+TellsBy true limiting air u moment heard next = TellsSent air moment heard × (next ≡ u)
+TellsBy false limiting air u moment heard next =
+    IsTold air heard × TellsAir limiting air u moment heard next
 
--- so with this link address of the station under test, if there is one
-abbrev pub Tells : Option ℕ → OnAir → StationModel → ℕ → Heard → StationModel → Type 0
-Tells against air s moment heard next = TellsBy (is_sent against air) air s moment heard next
+-- so by these rules
+abbrev pub Tells : Rules → OnAir → UnitModel → ℕ → Heard → UnitModel → Type 0
+Tells rules air u moment heard next =
+    TellsBy (is_sent rules.against air) rules.limiting air u moment heard next
 
--- The record is chosen, by what there is of it to hear, and received at its moment, unless the
--- station under test sent it.
-pub record TellsHeard (choice : Choice) (signed : Bool) (against : Option ℕ) (head : RecordHeader)
-    (w : List ℕ) (s : StationModel) (told : List Heard) (next : StationModel) : Type 0 where
+-- The record is chosen, by what there is of it to hear. The moves up to its moment are made, and then
+-- it is received, unless the station under test sent it.
+pub record TellsHeard (choice : Choice) (signed : Bool) (rules : Rules) (head : RecordHeader)
+    (w : List ℕ) (s : Listening) (told : List Heard) (next : Listening) : Type 0 where
   pub air : OnAir
   pub on_air : IsOnAir signed head w air
   pub chosen : AnswersChoice air choice head.moment true
   pub heard : Heard
+  pub after : UnitModel
   pub told_is : told ≡ heard ∷ []
-  pub tells : Tells against air s head.moment heard next
+  pub tells : Tells rules air (moved head.moment s).unit head.moment heard after
+  pub next_is : next ≡ record { unit = after; moves = (moved head.moment s).moves }
 
 -- The record isn't chosen, by what there is of it to hear: it is as if it weren't there.
 pub record TellsPassed (choice : Choice) (signed : Bool) (head : RecordHeader) (w : List ℕ)
-    (s : StationModel) (told : List Heard) (next : StationModel) : Type 0 where
+    (s : Listening) (told : List Heard) (next : Listening) : Type 0 where
   pub air : OnAir
   pub on_air : IsOnAir signed head w air
   pub passed : AnswersChoice air choice head.moment false
@@ -108,34 +120,34 @@ pub record TellsPassed (choice : Choice) (signed : Bool) (head : RecordHeader) (
   pub next_is : next ≡ s
 
 -- what is told of a record, and the station afterwards
-abbrev pub TellsRecord : Choice → Bool → Option ℕ → RecordHeader → List ℕ → StationModel
-    → List Heard → StationModel → Type 0
-TellsRecord choice signed against head w s told next =
+abbrev pub TellsRecord : Choice → Bool → Rules → RecordHeader → List ℕ → Listening
+    → List Heard → Listening → Type 0
+TellsRecord choice signed rules head w s told next =
     TellsPassed choice signed head w s told next
-    ⊎ TellsHeard choice signed against head w s told next
+    ⊎ TellsHeard choice signed rules head w s told next
 
 -- the same of what a call for the next record gives, with these octets: only a record is received
-abbrev pub TellsStep : Choice → Bool → Option ℕ → List ℕ → Result Step SourceFault → StationModel
-    → List Heard → StationModel → Type 0
-TellsStep choice signed against w (Ok (steps.Record head)) s told next =
-    TellsRecord choice signed against head w s told next
-TellsStep choice signed against w (Ok steps.Interface) s told next = (told ≡ []) × (next ≡ s)
-TellsStep choice signed against w (Ok steps.Passed) s told next = (told ≡ []) × (next ≡ s)
-TellsStep choice signed against w (Ok steps.End) s told next = (told ≡ []) × (next ≡ s)
-TellsStep choice signed against w (Err fault) s told next = (told ≡ []) × (next ≡ s)
+abbrev pub TellsStep : Choice → Bool → Rules → List ℕ → Result Step SourceFault → Listening
+    → List Heard → Listening → Type 0
+TellsStep choice signed rules w (Ok (steps.Record head)) s told next =
+    TellsRecord choice signed rules head w s told next
+TellsStep choice signed rules w (Ok steps.Interface) s told next = (told ≡ []) × (next ≡ s)
+TellsStep choice signed rules w (Ok steps.Passed) s told next = (told ≡ []) × (next ≡ s)
+TellsStep choice signed rules w (Ok steps.End) s told next = (told ≡ []) × (next ≡ s)
+TellsStep choice signed rules w (Err fault) s told next = (told ≡ []) × (next ≡ s)
 
 -- The file gave these, one after the other, and was left so: what was told of them, and the station
 -- afterwards.
 abbrev pub TellsSteps : {S : Type 0} → (S → S → List ℕ → Result Step SourceFault → Type 0)
-    → Choice → Bool → Option ℕ → S → StationModel → List Given → List Heard → S → StationModel
+    → Choice → Bool → Rules → S → Listening → List Given → List Heard → S → Listening
     → Type 0
-TellsSteps gives choice signed against file s [] told left end =
+TellsSteps gives choice signed rules file s [] told left end =
     (told ≡ []) × (left ≡ file) × (end ≡ s)
-TellsSteps {S} gives choice signed against file s (given ∷ more) told left end =
-    (first : List Heard) × (rest : List Heard) × (then : S) × (next : StationModel)
+TellsSteps {S} gives choice signed rules file s (given ∷ more) told left end =
+    (first : List Heard) × (rest : List Heard) × (then : S) × (next : Listening)
     × (told ≡ first ++ rest) × gives file then given.octets given.step
-    × TellsStep choice signed against given.octets given.step s first next
-    × TellsSteps gives choice signed against then next more rest left end
+    × TellsStep choice signed rules given.octets given.step s first next
+    × TellsSteps gives choice signed rules then next more rest left end
 
 -- why one call gave no step, and the first such fault of many
 abbrev pub fault_of_step : Result Step SourceFault → Option SourceFault
@@ -161,16 +173,16 @@ pub record AreCounts (counts : RecordCounts) (fault : Option SourceFault) (given
 -- their order and each at its moment: what was told of them was taken, and it represents the station
 -- of the model after these very receptions.
 pub record IsReplayed {S : Type 0} (gives : S → S → List ℕ → Result Step SourceFault → Type 0)
-    (choice : Choice) (signed : Bool) (against : Option ℕ) (file : S) (s : StationModel) (left : S)
-    (station : StationState) (counts : RecordCounts) (fault : Option SourceFault)
+    (choice : Choice) (signed : Bool) (rules : Rules) (file : S) (s : Listening) (left : S)
+    (station : Listener) (counts : RecordCounts) (fault : Option SourceFault)
     (Took : List Heard → Type 0) : Type 0 where
   pub given : List Given
   pub told : List Heard
-  pub end : StationModel
+  pub end : Listening
   pub counted : AreCounts counts fault given told
-  pub tells : TellsSteps gives choice signed against file s given told left end
+  pub tells : TellsSteps gives choice signed rules file s given told left end
   pub took : Took told
-  pub stands : RepresentsStation station end
+  pub stands : Represents station end
 
 -- the last call found the end of the file
 abbrev pub IsAtEnd : List Given → Type 0
@@ -186,11 +198,11 @@ EndsFile count counts fault given =
 -- The same, and the file was read to its end, to its fault, or to as many chosen records as are
 -- wanted: so it was left.
 pub record IsReplayedWhole {S : Type 0} (gives : S → S → List ℕ → Result Step SourceFault → Type 0)
-    (choice : Choice) (count : Option ℕ) (signed : Bool) (against : Option ℕ) (file : S)
-    (s : StationModel) (station : StationState) (counts : RecordCounts) (fault : Option SourceFault)
+    (choice : Choice) (count : Option ℕ) (signed : Bool) (rules : Rules) (file : S)
+    (s : Listening) (station : Listener) (counts : RecordCounts) (fault : Option SourceFault)
     (Took : List Heard → Type 0) : Type 0 where
   pub left : S
-  pub replayed : IsReplayed gives choice signed against file s left station counts fault Took
+  pub replayed : IsReplayed gives choice signed rules file s left station counts fault Took
   pub ended : EndsFile count counts fault replayed.given
 
 -- ---- words of private functions
@@ -205,49 +217,50 @@ ReadsAir selection head w after None =
 
 -- The steps so far, none of which was the last, with so many steps left.
 abbrev pub IsReplaying : {S : Type 0} → (S → S → List ℕ → Result Step SourceFault → Type 0)
-    → Selection → Option ℕ → S → StationModel → S → StationState → RecordCounts
+    → Selection → Rules → S → Listening → S → Listener → RecordCounts
     → (List Heard → Type 0) → Type 0
-IsReplaying gives selection against file s left station counts Took =
-    (r : IsReplayed gives selection.choice selection.signed against file s left station counts None
+IsReplaying gives selection rules file s left station counts Took =
+    (r : IsReplayed gives selection.choice selection.signed rules file s left station counts None
     Took)
     × (counts.left + length r.given ≡ 2 ^ 64 - 1)
 
--- what came of what was on the air was taken after what is in the log
-pub record IsHeard (against : Option ℕ) (air : OnAir) (moment : ℕ) (s : StationModel)
-    (log : List Heard) (station : StationState) (Took : List Heard → Type 0) : Type 0 where
+-- What came of what was on the air, after the moves up to the moment, was taken after what is in the
+-- log.
+pub record IsHeard (rules : Rules) (air : OnAir) (moment : ℕ) (m : Listening)
+    (log : List Heard) (listener : Listener) (Took : List Heard → Type 0) : Type 0 where
   pub heard : Heard
-  pub next : StationModel
-  pub tells : Tells against air s moment heard next
+  pub after : UnitModel
+  pub tells : Tells rules air (moved moment m).unit moment heard after
   pub took : Took (log ++ heard ∷ [])
-  pub stands : RepresentsStation station next
+  pub stands : Represents listener (record { unit = after; moves = (moved moment m).moves })
 
 -- these octets were received at the moment
-pub record TellsOctets (octets : List ℕ) (moment : ℕ) (s : StationModel) (heard : Heard)
-    (station : StationState) : Type 0 where
+pub record TellsOctets (limiting : Limiting) (octets : List ℕ) (moment : ℕ) (u : UnitModel)
+    (heard : Heard) (unit : UnitState) : Type 0 where
   pub told : IsToldOf octets heard
-  pub next : StationModel
-  pub received : TellsReceived s moment heard next
-  pub stands : RepresentsStation station next
+  pub next : UnitModel
+  pub received : TellsReceived limiting u moment heard next
+  pub stands : RepresentsUnit unit next
 
--- the same of a secured frame
-pub record TellsSecured (secured : SecuredOctets) (moment : ℕ) (s : StationModel) (heard : Heard)
-    (station : StationState) : Type 0 where
+-- so of a secured frame
+pub record TellsSecured (limiting : Limiting) (secured : SecuredOctets) (moment : ℕ)
+    (u : UnitModel) (heard : Heard) (unit : UnitState) : Type 0 where
   pub told : IsToldOfSecured secured heard
-  pub next : StationModel
-  pub received : TellsVerified s moment heard next
-  pub stands : RepresentsStation station next
+  pub next : UnitModel
+  pub received : TellsVerified limiting u moment heard next
+  pub stands : RepresentsUnit unit next
 
 -- what was on the air was received at the moment
-pub record TellsOnAir (air : OnAir) (moment : ℕ) (s : StationModel) (heard : Heard)
-    (station : StationState) : Type 0 where
+pub record TellsOnAir (limiting : Limiting) (air : OnAir) (moment : ℕ) (u : UnitModel)
+    (heard : Heard) (unit : UnitState) : Type 0 where
   pub told : IsTold air heard
-  pub next : StationModel
-  pub received : TellsAir air s moment heard next
-  pub stands : RepresentsStation station next
+  pub next : UnitModel
+  pub received : TellsAir limiting air u moment heard next
+  pub stands : RepresentsUnit unit next
 
 -- what came of what was on the air at the moment
-pub record TellsWhat (against : Option ℕ) (air : OnAir) (moment : ℕ) (s : StationModel)
-    (heard : Heard) (station : StationState) : Type 0 where
-  pub next : StationModel
-  pub tells : Tells against air s moment heard next
-  pub stands : RepresentsStation station next
+pub record TellsWhat (rules : Rules) (air : OnAir) (moment : ℕ) (u : UnitModel)
+    (heard : Heard) (unit : UnitState) : Type 0 where
+  pub next : UnitModel
+  pub tells : Tells rules air u moment heard next
+  pub stands : RepresentsUnit unit next

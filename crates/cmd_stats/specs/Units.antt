@@ -1,11 +1,14 @@
 -- The station to which a capture is replayed.
-use Rattle.std.specs.Prelude.{ℕ, ◌≤◌, List, map, take}
+use Rattle.std.specs.Prelude.{◌≡◌, ℕ, ◌≤◌, List, None, map, take}
+use Rattle.its_governor.specs.declared.rate.Limits.{Limits}
+use Rattle.its_governor.specs.Governing.{IsNewGovernor}
 use Rattle.its_model.specs.Calls.{Own}
 use Rattle.its_model.specs.Calls.OwnCall.{Open}
 use Rattle.its_model.specs.Isolation.{TimedCall, station_run}
 use Rattle.its_model.specs.Station.{StationModel, new_station}
+use Rattle.its_unit.specs.Unit.{RepresentsUnit, UnitModel, UnitState}
 use Rattle.cmd_stats.specs.declared.replay.unit.PortList.{PortList}
-use Rattle.cmd_stats.specs.declared.replay.unit.Unit.{Unit as ReplayUnit}
+use Rattle.cmd_stats.specs.declared.replay.unit.ReplayUnit.{ReplayUnit}
 
 -- the ports of a list
 abbrev pub listed : PortList → List ℕ
@@ -28,3 +31,13 @@ with_open s ports = station_run s (map opening ports)
 abbrev pub begun : ReplayUnit → StationModel
 begun unit = with_open (new_station unit.address unit.place unit.capacity unit.remember)
     (listed unit.ports)
+
+-- A unit that begins with this station and these limits, and that doesn't contend.
+pub record IsNewUnit (limits : Limits) (s : StationModel) (u : UnitModel) : Type 0 where
+  pub station : u.station ≡ s
+  pub contention : u.contention ≡ None
+  pub governor : IsNewGovernor limits u.governor
+
+-- so it is represented
+abbrev pub BeginsUnit : Limits → StationModel → UnitState → Type 0
+BeginsUnit limits s state = (u : UnitModel) × IsNewUnit limits s u × RepresentsUnit state u

@@ -5,12 +5,16 @@
 //!
 //! The row of a kind or a refusal is one of the 44 of its table.
 //!
-//! The octets that the station receives (`AreHeard`) are the record's own in a capture of this
+//! The octets that the unit receives (`AreHeard`) are the record's own in a capture of this
 //! program, otherwise the frame that its link layer gives (`IsFrameIn`), without padding. A record
 //! without a frame is reported with the first rule that doesn't hold (`HasNothing`). A record is
 //! received if and only if the choice selects it (`TellsHeard`, `TellsPassed`).
 //!
-//! With `--signed`, a secured frame is a step of `Station::receive_verified`.
+//! With `--signed`, a secured frame is a step of `Unit::receive_verified`.
+//!
+//! The unit begins with the limits of `Limits::CHANNEL` (`BeginsUnit`). Each step is within them with
+//! `--limits`, otherwise past them (`step_by`). Each move is made at its time, before the first
+//! selected record that is not earlier (`moved`).
 //!
 //! With `--against`, a frame from the link address of the station under test is not received
 //! (`is_sent`, `Tells`). What it sent answers the first frame that waits and equals it but for the

@@ -1,4 +1,4 @@
-//! The command `replay`: what one station would have done with the frames of a capture.
+//! The command `replay`: what one unit would have done with the frames of a capture.
 
 mod against;
 mod air_octets;
@@ -8,10 +8,15 @@ mod compared_line;
 mod comparison;
 mod differences;
 mod heard;
+mod inputs;
 mod lines;
+mod listener;
+mod moves;
+mod moves_fault;
 mod on_air;
 mod printing;
 mod replaying;
+mod reply;
 mod secured;
 mod secured_octets;
 mod unit;
@@ -21,5 +26,9 @@ pub use awaited::Awaited;
 pub use command::{ReplayOptions, replay_file};
 pub use comparison::{Compared, Comparison};
 pub use heard::{Heard, HeardSink};
+pub use its_unit::Limiting;
+pub use listener::{Listener, Rules};
+pub use moves::Move;
 pub use replaying::replay_records;
-pub use unit::{PortList, Unit};
+pub use reply::UnitReply;
+pub use unit::{PortList, ReplayUnit};

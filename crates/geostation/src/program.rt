@@ -17,7 +17,7 @@ use cmd_page::{Viewing, view_file};
 use cmd_pipe::{Ended, run_contending_station};
 use cmd_quoting::Quoted;
 use cmd_reporting::{CommandFault, Fault, Io, OutputFormat, ProgressWriter, Status};
-use cmd_stats::replay::{PortList, ReplayOptions, Unit, replay_file};
+use cmd_stats::replay::{PortList, ReplayOptions, ReplayUnit, replay_file};
 use cmd_stats::stats_file;
 use cmd_verdict::verdict_file;
 use its_contention::ContentionRule;
@@ -281,6 +281,8 @@ where
                 file: replay.records.file,
                 selection: replay.records.selection,
                 unit,
+                limiting: replay.limiting,
+                moves: replay.moves,
                 against: replay.against,
             };
             replay_file(rt, &options, input, replay.frames, io)
@@ -311,11 +313,11 @@ fn serve<I: Read + Drop, W: Write, E: Write>(
 fn unit_of<'f>(
     station: &'f StationArguments<'_>,
     ports: PortList,
-) -> Result<Unit, ArgumentFault<'f>>
+) -> Result<ReplayUnit, ArgumentFault<'f>>
     ensures { IfOk result IsUnit }
 {
     let config = config_of(station)?;
-    Ok(Unit {
+    Ok(ReplayUnit {
         address: config.address,
         place: config.place,
         capacity: config.capacity,

@@ -8,8 +8,8 @@ use clap::ArgMatches;
 use cmd_arguments::terminal::{Coloring, Console, Painter};
 use cmd_arguments::{
     BadArgument, StationArguments, against_of, claims_of, count_of, duties_of, fields_of,
-    following_of, ports_of, printing_of, rule_of, selection_of, selection_to_any_port, time_of,
-    times_of,
+    following_of, limiting_of, ports_of, printing_of, rule_of, selection_of, selection_to_any_port,
+    time_of, times_of,
 };
 use cmd_captures::{Conversion, Field, Selection, Showing};
 use cmd_follow::FollowOptions;
@@ -17,7 +17,7 @@ use cmd_mesh::MeshOptions;
 use cmd_page::Viewing;
 use cmd_reporting::{OutputFormat, Target, is_standard};
 use cmd_stats::PrintedSources;
-use cmd_stats::replay::{Against, PortList};
+use cmd_stats::replay::{Against, Limiting, PortList};
 use cmd_verdict::VerdictOptions;
 use its_contention::ContentionRule;
 use sim_runs::{ResultFiles, RunFiles, RunOptions, VERSION};
@@ -125,6 +125,10 @@ pub struct Replay<'a> {
     pub ports: PortList,
     /// The file of the frames that it passes on, where they are written.
     pub frames: Option<Target<'a>>,
+    /// Whether the limits of a unit apply.
+    pub limiting: Limiting,
+    /// The file with its moves, if it moves.
+    pub moves: Option<&'a str>,
     /// With what a station sent it is compared, if it is.
     pub against: Option<Against>,
 }
@@ -334,6 +338,8 @@ fn replaying<'a>(matches: &ArgMatches<'a>) -> Result<Option<Subcommand<'a>>, Bad
         station,
         ports: ports_of(matches)?,
         frames: frames_of(matches),
+        limiting: limiting_of(matches),
+        moves: matches.get_str("moves"),
         against: against_of(matches)?,
     })))
 }

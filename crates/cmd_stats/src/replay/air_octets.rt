@@ -1,25 +1,27 @@
-//! Octets that a station receives, which are read once.
+//! Octets that a unit receives, which are read once.
 
 ghost use Rattle.std.specs.Prelude.{◌≡◌, IfOk, IfSome, IfNone};
 ghost use Rattle.its_faults.specs.declared.frame.FrameFault.{FrameFault as Fault};
 ghost use Rattle.its_model.specs.Calls.{Call};
-ghost use Rattle.its_model.specs.Station.{StationModel, station_step};
 ghost use Rattle.its_linkframe.specs.FrameFaults.{IsFrameFault};
 ghost use Rattle.its_linkframe.specs.Frames.{EncodesFrame, transmission_of};
-ghost use Rattle.its_station.specs.Answers.{IsAnswerTo};
 ghost use Rattle.its_station.specs.Receiving.{DeliversEndOf, IsFrameCall, Tells};
-ghost use Rattle.its_station.specs.State.{RepresentsStation};
-ghost use Rattle.its_station.specs.Steps.{IsStepOf};
+ghost use Rattle.its_unit.specs.Steps.{IsReactionOf, WherePassed};
+ghost use Rattle.its_unit.specs.Unit.{RepresentsUnit, UnitModel, step_by};
+ghost use Rattle.its_unit.specs.Unit.UnitCall.{Receive};
 ghost use Rattle.cmd_stats.specs.Readings.{IsReading};
+ghost use Rattle.cmd_stats.specs.Replies.{IsReplyBy};
 
+use crate::replay::reply::UnitReply;
 use its_gnvalue::NoMemory;
 use its_linkframe::{FrameFault, FrameView};
 use its_loctable::SortedTable;
-use its_station::{Outcome, Refused, Station, StationAnswer, make_room};
+use its_station::{Refused, make_room};
+use its_unit::{Limiting, Reaction, Unit};
 use std::alloc::Global;
 use std::marker::Model;
 
-/// Octets that a station receives, and whether they are a frame. They were read before, so a frame
+/// Octets that a unit receives, and whether they are a frame. They were read before, so a frame
 /// is not checked again.
 #[derive(Drop)]
 pub(crate) struct AirOctets {
@@ -60,38 +62,42 @@ impl AirOctets {
         }
     }
 
-    /// The reply of a station that receives the octets at a moment. `NoMemory` if an allocation
-    /// failed. The station is unchanged then.
+    /// The reply of a unit that receives the octets at a moment, within its limits or past them.
+    /// `NoMemory` if an allocation failed. The unit is unchanged then, but for its counts.
     pub(crate) fn receive(
         &self,
         alloc: Global,
-        station: &mut Station<SortedTable>,
+        unit: &mut Unit<SortedTable>,
+        limiting: Limiting,
         moment: u64,
-    ) -> Result<StationAnswer, NoMemory>
+    ) -> Result<UnitReply, NoMemory>
         ensures { IfOk result (λ reply. (c : Call) × IsFrameCall self.now.items c
-            × ((s : StationModel) → RepresentsStation station.old s →
-            IsAnswerTo reply station.new (station_step s moment c))) }
+            × ((u : UnitModel) → RepresentsUnit unit.old u →
+            IsReplyBy reply unit.new (step_by limiting u moment (Receive c)))) }
     {
         let mut room = Vec::new(alloc);
         make_room(&mut room, self.octets.as_slice())?;
-        StationAnswer::of_received(alloc, self.lend_to(station, moment), &mut room)
+        UnitReply::of(alloc, self.lend_to(unit, limiting, moment), &mut room)
     }
 
-    /// The outcome of the octets at a station that receives them at a moment, as `Station::receive`
-    /// has it.
+    /// The reaction of a unit that receives the octets at a moment, as `Unit::receive` has it within
+    /// the limits.
     fn lend_to(
         &self,
-        station: &mut Station<SortedTable>,
+        unit: &mut Unit<SortedTable>,
+        limiting: Limiting,
         moment: u64,
-    ) -> Result<Outcome<'_>, Refused>
+    ) -> Result<Reaction<'_>, Refused>
         ensures step { (c : Call) × IsFrameCall self.now.items c
-            × ((s : StationModel) → RepresentsStation station.old s →
-            IsStepOf Tells result station.new (station_step s moment c)) }
-        ensures payload { IfOk result (DeliversEndOf self.now.items) }
+            × ((u : UnitModel) → RepresentsUnit unit.old u →
+            IsReactionOf Tells result unit.new (step_by limiting u moment (Receive c))) }
+        ensures payload { IfOk result (λ r.
+            WherePassed (DeliversEndOf self.now.items) r.outcome) }
     {
+        let octets = self.octets.as_slice();
         match self.fault {
-            None => station.receive_frame(moment, &FrameView::of_frame(self.octets.as_slice())),
-            Some(fault) => Err(station.refuse_frame(moment, fault)),
+            None => unit.receive_frame(limiting, moment, octets, &FrameView::of_frame(octets)),
+            Some(fault) => Err(unit.refuse_frame(moment, fault)),
         }
     }
 

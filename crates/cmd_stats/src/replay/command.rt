@@ -6,40 +6,51 @@ ghost use Rattle.cmd_reporting.specs.Statuses.{IsCommandStatus, IsStopped};
 ghost use Rattle.cmd_stats.specs.Units.{IsUnit};
 
 use crate::replay::against::{Against, AgainstFrames};
+use crate::replay::inputs::MaybeInput;
+use crate::replay::listener::{Listener, Rules};
+use crate::replay::moves::{Move, read_moves};
+use crate::replay::moves_fault::MoveRowsFault;
 use crate::replay::printing::Printer;
 use crate::replay::replaying::replay_records;
-use crate::replay::unit::Unit;
+use crate::replay::unit::ReplayUnit;
 use cap_records::{CaptureFile, FileFault, Selection, open_records};
 use cmd_reporting::{
     Fault, FrameFile, FrameTarget, Io, Status, Target, WriterFault, create_frames, end_frames,
     frame_target, is_standard, keep_apart, open,
 };
+use its_unit::Limiting;
 use std::alloc::Global;
 use std::io::{Read, Write};
 use std::rt::Files;
 
-/// What is replayed, and to which station.
+/// What is replayed, and to which unit.
 #[derive(Clone, Copy, Debug, PartialEq, Eq)]
 pub struct ReplayOptions<'a> {
     /// The name of the capture.
     pub file: &'a str,
     /// Which of its records are received.
     pub selection: Selection,
-    /// The station.
-    pub unit: Unit,
+    /// The unit.
+    pub unit: ReplayUnit,
+    /// Whether its limits apply.
+    pub limiting: Limiting,
+    /// The name of the file with its moves, if it moves.
+    pub moves: Option<&'a str>,
     /// With what a station sent it is compared, if it is.
     pub against: Option<Against>,
 }
 
-/// Prints what the station would have done with the selected records of the file, each at its moment.
-/// `input` is standard input. Frames that the station forwards are numbered. With `frames` they are
+/// Prints what the unit would have done with the selected records of the file, each at its moment.
+/// `input` is standard input. Frames that the unit forwards are numbered. With `frames` they are
 /// also written to that file, which is created once the capture is open. With `against`, frames from
-/// the station under test are compared with them, and the differences counted.
+/// the station under test are compared with them, and the differences counted. The file of moves is
+/// read before the capture is opened.
 ///
 /// `BadArguments`, before anything is opened, if nothing says the format of the file of frames or its
-/// name is `-`, and before it is created if it is the capture itself. `Refused` if the capture was
-/// refused, a frame has no place in its file or a difference is an error, `Failed` if a file could not
-/// be read, created or written or standard output not written, or memory ran out.
+/// name is `-`, and before it is created if it is the capture or the file of moves. `Refused` if a row
+/// of moves is bad, the capture was refused, a frame has no place in its file or a difference is an
+/// error, `Failed` if a file could not be read, created or written or standard output not written, or
+/// memory ran out.
 pub fn replay_file<'a, R: Files + AllocGlobal, I: Read + Drop, W: Write, E: Write>(
     rt: &R,
     what: &ReplayOptions<'a>,
@@ -58,14 +69,36 @@ where
         Ok(target) => target,
         Err(fault) => return io.status_of(Err(fault)),
     };
-    let ended = replay_to(rt, what, input, target, io);
+    let (for_capture, for_moves) = MaybeInput::split(input, what.moves);
+    let moves = match moves_of(rt, what.moves, for_moves) {
+        Ok(moves) => moves,
+        Err(bad_row) => return io.status_of(Err(bad_row)),
+    };
+    let ended = replay_to(rt, what, moves.as_slice(), for_capture, target, io);
     io.status_of(ended)
+}
+
+/// Reads the file of moves of this name. Without a name, no moves.
+fn moves_of<'a, R: Files + AllocGlobal, I: Read + Drop>(
+    rt: &R,
+    file: Option<&'a str>,
+    input: I,
+) -> Result<Vec<Move>, MoveRowsFault<'a>>
+where
+    R::File: Read + Drop,
+{
+    let Some(file) = file else {
+        return Ok(Vec::new(rt.alloc()));
+    };
+    let reader = open(rt, file, input)?;
+    read_moves(rt.alloc(), file, reader)
 }
 
 /// Opens the file, and only then creates the file of frames, if there is one.
 fn replay_to<'a, R: Files + AllocGlobal, I: Read + Drop, W: Write, E: Write>(
     rt: &R,
     what: &ReplayOptions<'a>,
+    moves: &[Move],
     input: I,
     target: Option<FrameTarget<'a>>,
     io: &mut Io<W, E>,
@@ -79,15 +112,19 @@ where
     let reader = open(rt, what.file, input)?;
     if let Some(target) = target {
         keep_apart(rt, target.name, what.file)?;
+        if let Some(moves) = what.moves {
+            keep_apart(rt, target.name, moves)?;
+        }
     }
     let frames = create_frames(rt, target, 1)?;
-    Ok(replay_into(rt.alloc(), what, reader, frames, io)?)
+    Ok(replay_into(rt.alloc(), what, moves, reader, frames, io)?)
 }
 
 /// Replays the file that the reader gives, and ends the file of frames, if there is one.
 fn replay_into<'a, R: Read + Drop, F: Write + Drop, W: Write, E: Write>(
     alloc: Global,
     replay: &ReplayOptions<'a>,
+    moves: &[Move],
     reader: R,
     frames: Option<FrameFile<'a, F>>,
     io: &mut Io<W, E>,
@@ -100,7 +137,7 @@ fn replay_into<'a, R: Read + Drop, F: Write + Drop, W: Write, E: Write>(
         alloc, address, against, explain,
     ));
     let mut printer = Printer::new(alloc, is_standard(replay.file), frames, against, io)?;
-    let ended = replay_lines(alloc, replay, reader, &mut printer);
+    let ended = replay_lines(alloc, replay, moves, reader, &mut printer);
     end_frames(printer.file.take(), ended)
 }
 
@@ -108,6 +145,7 @@ fn replay_into<'a, R: Read + Drop, F: Write + Drop, W: Write, E: Write>(
 fn replay_lines<'a, R: Read + Drop, F: Write + Drop, W: Write, E: Write>(
     alloc: Global,
     replay: &ReplayOptions<'a>,
+    moves: &[Move],
     reader: R,
     printer: &mut Printer<'_, 'a, W, E, F>,
 ) -> Result<Status, Fault<'a>>
@@ -118,9 +156,15 @@ fn replay_lines<'a, R: Read + Drop, F: Write + Drop, W: Write, E: Write>(
     let CaptureFile::Source(source) = open_records(alloc, file, selection.format, reader)? else {
         return printer.refuse(FileFault::gzip(), 0);
     };
-    let mut station = replay.unit.begin(alloc)?;
-    let mac = replay.against.map(|against| against.mac);
-    let (counts, fault) = replay_records(alloc, &mut station, selection, &mac, source, printer)?;
+    let mut listener = Listener {
+        unit: replay.unit.begin(alloc)?,
+        moves,
+    };
+    let rules = Rules {
+        limiting: replay.limiting,
+        against: replay.against.map(|against| against.mac),
+    };
+    let (counts, fault) = replay_records(alloc, &mut listener, &rules, selection, source, printer)?;
     let status = printer.end()?;
     let Some(fault) = fault else {
         return Ok(status);

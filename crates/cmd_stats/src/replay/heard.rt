@@ -1,29 +1,29 @@
 //! What came of the records of a capture, and what takes it.
 
+use crate::replay::reply::UnitReply;
 use cap_records::RecordFault;
 use cmd_reporting::Fault;
-use its_station::StationAnswer;
 
 /// What came of a record that is chosen.
 #[derive(Debug, Drop, PartialEq, Eq)]
 pub enum Heard {
-    /// The station received its frame.
+    /// The unit received its frame.
     Received {
         /// The record's moment, in milliseconds.
         moment: u64,
-        /// The octets that the station received.
+        /// The octets that the unit received.
         frame: Vec<u8>,
         /// What it answered.
-        reply: StationAnswer,
+        reply: UnitReply,
     },
-    /// Its link layer has no frame, so nothing reached the station.
+    /// Its link layer has no frame, so nothing reached the unit.
     Nothing {
         /// The record's moment, in milliseconds.
         moment: u64,
         /// Why there is none.
         fault: RecordFault,
     },
-    /// The station under test sent it, so the station receives nothing.
+    /// The station under test sent it, so the unit receives nothing.
     Sent {
         /// The record's moment, in milliseconds.
         moment: u64,

@@ -1,6 +1,7 @@
 //! The line of a record: its words, and its keys in JSON.
 
 use crate::replay::heard::Heard;
+use crate::replay::reply::UnitReply;
 use cap_records::{RecordCode, RecordFault};
 use its_station::{Answer, Refused, RefusedCode, StationAnswer};
 use its_words::answers::{AnswerKeys, PrintedAnswer, RefusedReason};
@@ -78,11 +79,23 @@ impl<'a> ReplayLine<'a> {
 
 /// What is printed of a reply to these octets.
 fn reply_keys<'a>(
-    reply: &'a StationAnswer,
+    reply: &'a UnitReply,
     frame: &[u8],
     number: u64,
 ) -> PrintedAnswer<'a, Code, Reason> {
     match reply {
+        UnitReply::Passed(answer) => answer_keys(answer, frame, number),
+        UnitReply::Repeated => AnswerKeys::word("repeated"),
+    }
+}
+
+/// What is printed of an answer to these octets.
+fn answer_keys<'a>(
+    answer: &'a StationAnswer,
+    frame: &[u8],
+    number: u64,
+) -> PrintedAnswer<'a, Code, Reason> {
+    match answer {
         Answer::Ignored(why) => AnswerKeys::ignored(*why),
         Answer::Accepted { handed, sent } => {
             AnswerKeys::accepted(handed, sent.as_ref().map(|_| number))

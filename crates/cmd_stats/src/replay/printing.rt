@@ -8,9 +8,10 @@ use crate::replay::comparison::MOST_AWAITED;
 use crate::replay::differences::DifferenceTotal;
 use crate::replay::heard::{Heard, HeardSink};
 use crate::replay::lines::ReplayLine;
+use crate::replay::reply::UnitReply;
 use cap_records::{FileFault, RefusedCapture};
 use cmd_reporting::{Fault, FrameFile, Io, Status};
-use its_station::{Answer, StationAnswer};
+use its_station::Answer;
 use its_words::json_lines::JsonLine;
 use serde::Serialize;
 use std::alloc::{AllocError, Global};
@@ -77,9 +78,9 @@ impl<'p, 't, W: Write, E: Write, F: Write + Drop> Printer<'p, 't, W, E, F> {
     }
 
     /// Passes on the frame of a reply, if it has one.
-    fn pass_reply<'f>(&mut self, moment: u64, reply: StationAnswer) -> Result<(), Fault<'f>> {
+    fn pass_reply<'f>(&mut self, moment: u64, reply: UnitReply) -> Result<(), Fault<'f>> {
         match reply {
-            Answer::Accepted { sent, .. } => match sent {
+            UnitReply::Passed(Answer::Accepted { sent, .. }) => match sent {
                 Some(frame) => self.pass_on(moment, frame),
                 None => Ok(()),
             },

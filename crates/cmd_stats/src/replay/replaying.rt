@@ -1,21 +1,22 @@
 //! The records of a file, each received by the station at its moment.
 
 ghost use Rattle.std.specs.Prelude.{◌≡◌, [], IfOk, List};
-ghost use Rattle.its_model.specs.Station.{StationModel};
-ghost use Rattle.its_station.specs.State.{RepresentsStation};
+ghost use Rattle.its_unit.specs.Unit.{RepresentsUnit, UnitModel};
+ghost use Rattle.cmd_stats.specs.Listening.{Listening, Represents};
 ghost use Rattle.cmd_stats.specs.declared.replay.heard.Heard.{Heard as ToldRecord};
 ghost use Rattle.cmd_stats.specs.Replays.{IsReplayedWhole, IsHeard, TellsOctets};
 ghost use Rattle.cmd_stats.specs.Replays.{TellsOnAir, TellsWhat};
 
 use crate::replay::air_octets::AirOctets;
 use crate::replay::heard::{Heard, HeardSink};
+use crate::replay::listener::{Listener, Rules};
 use crate::replay::on_air::OnAir;
 use cap_pcap::{LONGEST_RECORD, RecordHeader, RecordSource, SourceFault};
 use cap_records::{Pulled, RecordCounts, RecordReader, Records, Selection};
 use cmd_reporting::Fault;
-use its_gnvalue::{Mac, NoMemory};
+use its_gnvalue::NoMemory;
 use its_loctable::SortedTable;
-use its_station::Station;
+use its_unit::{Limiting, Unit};
 use std::alloc::{AllocError, Global};
 
 /// Reads what there is of a record for a station to hear.
@@ -47,35 +48,36 @@ impl RecordReader for AirReader {
 }
 
 /// Reads the file to its end, to its fault or until as many records are chosen as are wanted, and
-/// gives the octets of each chosen one to the station, at the record's moment: each is a call of
-/// `Station::receive`, or of `Station::receive_verified` for a secured frame, if the selection reads
-/// these by their plain part. The outcome is passed to the sink before the next record is read. The
-/// station represents that of the model after these calls. Returns how many records were read, and
-/// the fault of the file if it has one.
+/// gives the octets of each chosen one to the unit, at the record's moment: each is a call of
+/// `Unit::receive`, or of `Unit::receive_verified` for a secured frame, if the selection reads these
+/// by their plain part. So it is within the limits. Past them, none applies to the call. Before a
+/// chosen record the moves up to its moment are made. The reply is passed to the sink before the next
+/// record is read. Returns how many records were read, and the fault of the file if it has one.
 ///
 /// `OutOfMemory` where an allocation failed, and what the sink answers: then nothing further is
 /// read.
 ///
 /// With `against`, a frame from this link address is what the station under test sent. It is passed
-/// to the sink, and the station doesn't receive it.
+/// to the sink, and the unit doesn't receive it.
 ///
 /// - its clause (`IsReplayedWhole`): each selected record, in order, is one step of the written
-///   rules of just this station, at the record's time and with the octets of its frame, or is
+///   rules of just this unit, at the record's time and with the octets of its frame, or is
 ///   reported as one without a frame, or as one that the station under test sent. What is reported
-///   is that step's answer, once and in order.
+///   is that step's answer, once and in order. Each move is made once, in order and at its time, before
+///   the first selected record whose time is not before it (`moved`).
 ///   The file is read to its end, to its fault, or to as many selected records as are wanted. The
-///   station is one of the model throughout.
+///   unit is one of the model throughout.
 pub fn replay_records<'f, S: RecordSource + Drop, K: HeardSink>(
     alloc: Global,
-    station: &mut Station<SortedTable>,
+    listener: &mut Listener<'_>,
+    rules: &Rules,
     selection: &Selection,
-    against: &Option<Mac>,
     source: S,
     sink: &mut K,
 ) -> Result<(RecordCounts, Option<SourceFault>), Fault<'f>>
-    ensures { (s : StationModel) → RepresentsStation station.old s → K.Took sink.old [] →
+    ensures { (m : Listening) → Represents listener.old m → K.Took sink.old [] →
         IfOk result (λ ended. IsReplayedWhole S.GivesStep selection.now.choice
-        selection.now.count selection.now.signed against.now source s station.new ended.0 ended.1
+        selection.now.count selection.now.signed rules.now source m listener.new ended.0 ended.1
         (K.Took sink.new)) }
 {
     let octets = Vec::with_capacity(alloc, LONGEST_RECORD)?;
@@ -83,7 +85,7 @@ pub fn replay_records<'f, S: RecordSource + Drop, K: HeardSink>(
     loop {
         match records.next_chosen()? {
             Pulled::Chosen(head, on_air) => {
-                hear(alloc, station, against, head.moment, on_air, sink)?
+                hear(alloc, listener, rules, head.moment, on_air, sink)?
             }
             Pulled::Interface => {}
             Pulled::End(fault) => return Ok((records.counts, fault)),
@@ -91,71 +93,74 @@ pub fn replay_records<'f, S: RecordSource + Drop, K: HeardSink>(
     }
 }
 
-/// Gives what was on the air to the station at a moment, unless the station under test sent it, and
-/// what came of it to the sink.
+/// Makes the moves up to a moment. Then gives what was on the air to the unit, unless the station
+/// under test sent it, and what came of it to the sink.
 fn hear<'f, K: HeardSink>(
     alloc: Global,
-    station: &mut Station<SortedTable>,
-    against: &Option<Mac>,
+    listener: &mut Listener<'_>,
+    rules: &Rules,
     moment: u64,
     on_air: OnAir,
     sink: &mut K,
 ) -> Result<(), Fault<'f>>
-    ensures { (s : StationModel) (log : List ToldRecord) → RepresentsStation station.old s →
-        K.Took sink.old log → IfOk result (λ _. IsHeard against.now on_air moment s log station.new
+    ensures { (m : Listening) (log : List ToldRecord) → Represents listener.old m →
+        K.Took sink.old log → IfOk result (λ _. IsHeard rules.now on_air moment m log listener.new
         (K.Took sink.new)) }
 {
-    let heard = heard_of(alloc, station, against, moment, on_air)?;
+    listener.make_moves(moment);
+    let heard = heard_of(alloc, &mut listener.unit, rules, moment, on_air)?;
     sink.put(heard)
 }
 
 /// What there is to report of what was on the air at a moment. `NoMemory` if an allocation failed:
-/// the station stands as before.
+/// the unit stands as before.
 fn heard_of(
     alloc: Global,
-    station: &mut Station<SortedTable>,
-    against: &Option<Mac>,
+    unit: &mut Unit<SortedTable>,
+    rules: &Rules,
     moment: u64,
     on_air: OnAir,
 ) -> Result<Heard, NoMemory>
-    ensures { (s : StationModel) → RepresentsStation station.old s →
-        IfOk result (λ heard. TellsWhat against.now on_air moment s heard station.new) }
+    ensures { (u : UnitModel) → RepresentsUnit unit.old u →
+        IfOk result (λ heard. TellsWhat rules.now on_air moment u heard unit.new) }
 {
-    if on_air.is_sent(against) {
+    if on_air.is_sent(&rules.against) {
         return Ok(on_air.into_sent(moment));
     }
-    receive(alloc, station, moment, on_air)
+    receive(alloc, unit, rules.limiting, moment, on_air)
 }
 
-/// Gives what was on the air to the station at a moment. `NoMemory` where an allocation failed: the
-/// station stands as before.
+/// Gives what was on the air to the unit at a moment. `NoMemory` if an allocation failed: the unit
+/// stands as before.
 fn receive(
     alloc: Global,
-    station: &mut Station<SortedTable>,
+    unit: &mut Unit<SortedTable>,
+    limiting: Limiting,
     moment: u64,
     on_air: OnAir,
 ) -> Result<Heard, NoMemory>
-    ensures { (s : StationModel) → RepresentsStation station.old s →
-        IfOk result (λ heard. TellsOnAir on_air moment s heard station.new) }
+    ensures { (u : UnitModel) → RepresentsUnit unit.old u →
+        IfOk result (λ heard. TellsOnAir limiting on_air moment u heard unit.new) }
 {
     match on_air {
-        OnAir::Octets(octets) => receive_octets(alloc, station, moment, octets),
-        OnAir::Secured(secured) => secured.receive(alloc, station, moment),
+        OnAir::Octets(octets) => receive_octets(alloc, unit, limiting, moment, octets),
+        OnAir::Secured(secured) => secured.receive(alloc, unit, limiting, moment),
         OnAir::Nothing(fault) => Ok(Heard::Nothing { moment, fault }),
     }
 }
 
-/// Has the station receive octets at a moment.
+/// Has the unit receive octets at a moment.
 fn receive_octets(
     alloc: Global,
-    station: &mut Station<SortedTable>,
+    unit: &mut Unit<SortedTable>,
+    limiting: Limiting,
     moment: u64,
     octets: AirOctets,
 ) -> Result<Heard, NoMemory>
-    ensures { (s : StationModel) → RepresentsStation station.old s →
-        IfOk result (λ heard. TellsOctets octets.items moment s heard station.new) }
+    ensures { (u : UnitModel) → RepresentsUnit unit.old u →
+        IfOk result (λ heard. TellsOctets limiting octets.items moment u heard unit.new) }
 {
-    let reply = octets.receive(alloc, station, moment)?;
+    let reply = octets.receive(alloc, unit, limiting, moment)?;
     Ok(Heard::Received {
         moment,
         frame: octets.into_octets(),

@@ -1,19 +1,24 @@
-//! Secured frames that a station receives by their plain part. No signature is verified.
+//! Secured frames that a unit receives by their plain part. No signature is verified.
 
 ghost use Rattle.std.specs.Prelude.{◌≡◌, IfOk};
-ghost use Rattle.its_model.specs.Station.{StationModel};
-ghost use Rattle.its_station.specs.State.{RepresentsStation};
+ghost use Rattle.its_station.specs.Receiving.{DeliversEndOf, IsVerifiedCall, TellsBy, VerifiedCall};
+ghost use Rattle.its_station.specs.Receiving.{sealed_by};
+ghost use Rattle.its_unit.specs.Steps.{IsReactionOf, WherePassed};
+ghost use Rattle.its_unit.specs.Unit.{RepresentsUnit, UnitModel, step_by};
+ghost use Rattle.its_unit.specs.Unit.UnitCall.{ReceiveVerified};
 ghost use Rattle.cmd_stats.specs.OnAir.{AreInnerTraits, HasPlainPart};
 ghost use Rattle.cmd_stats.specs.Replays.{TellsSecured};
 
 use crate::replay::heard::Heard;
+use crate::replay::reply::UnitReply;
 use crate::replay::secured_octets::SecuredOctets;
 use cap_records::{RecordFault, Traits, find_plain, traits_inside};
 use its_gnvalue::NoMemory;
 use its_linkframe::VerifiedFrame;
 use its_loctable::SortedTable;
-use its_station::{Answer, Delivery, Handed, Outcome, Refused, Station, StationAnswer};
-use std::alloc::{AllocError, Global};
+use its_station::{Refused, make_room};
+use its_unit::{Limiting, Reaction, Unit};
+use std::alloc::Global;
 
 impl SecuredOctets {
     /// Finds the plain part of these octets.
@@ -39,16 +44,18 @@ impl SecuredOctets {
         }
     }
 
-    /// Gives it to the station at a moment. A frame that is no secured one is the station's to
-    /// refuse; one whose message can't be read doesn't reach it. `NoMemory` if an allocation failed.
+    /// Gives it to the unit at a moment, within its limits or past them. A frame that is no secured
+    /// one is the unit's to refuse; one whose message can't be read doesn't reach it. `NoMemory` if an
+    /// allocation failed.
     pub(crate) fn receive(
         self,
         alloc: Global,
-        station: &mut Station<SortedTable>,
+        unit: &mut Unit<SortedTable>,
+        limiting: Limiting,
         moment: u64,
     ) -> Result<Heard, NoMemory>
-        ensures { (s : StationModel) → RepresentsStation station.old s →
-            IfOk result (λ heard. TellsSecured self moment s heard station.new) }
+        ensures { (u : UnitModel) → RepresentsUnit unit.old u →
+            IfOk result (λ heard. TellsSecured limiting self moment u heard unit.new) }
     {
         let frame = self.frame;
         let plain = match self.plain {
@@ -56,11 +63,10 @@ impl SecuredOctets {
             Err(RecordFault::Signed(_)) => &[],
             Err(fault) => return Ok(Heard::Nothing { moment, fault }),
         };
-        let reply = match station.receive_verified(moment, frame.as_slice(), plain) {
-            Ok(outcome) => reply_of(alloc, outcome)?,
-            Err(Refused::NoMemory) => return Err(NoMemory),
-            Err(refused) => Answer::Refused(refused),
-        };
+        let mut room = Vec::new(alloc);
+        make_room(&mut room, plain)?;
+        let said = receive_verified(unit, limiting, moment, frame.as_slice(), plain);
+        let reply = UnitReply::of(alloc, said, &mut room)?;
         Ok(Heard::Received {
             moment,
             frame,
@@ -69,27 +75,23 @@ impl SecuredOctets {
     }
 }
 
-/// What a station does with a frame, as a reply that owns what is delivered.
-fn reply_of(alloc: Global, outcome: Outcome<'_>) -> Result<StationAnswer, AllocError> {
-    Ok(match outcome {
-        Outcome::Ignored(why) => Answer::Ignored(why),
-        Outcome::Accepted { handed, sent } => Answer::Accepted {
-            handed: match handed {
-                Some(handed) => Some(delivery_of(alloc, handed)?),
-                None => None,
-            },
-            sent,
-        },
-    })
-}
-
-/// What is delivered, with a payload of its own.
-fn delivery_of(alloc: Global, handed: Handed<'_>) -> Result<Delivery, AllocError> {
-    let mut payload = Vec::new(alloc);
-    payload.extend_from_slice(handed.payload)?;
-    Ok(Delivery {
-        port: handed.port,
-        info: handed.info,
-        payload,
-    })
+/// Receives a secured frame with its plain part as `Unit::receive_verified` does, within the limits or
+/// past them.
+fn receive_verified<'a>(
+    unit: &mut Unit<SortedTable>,
+    limiting: Limiting,
+    moment: u64,
+    frame: &[u8],
+    plain: &'a [u8],
+) -> Result<Reaction<'a>, Refused>
+    ensures step { (call : VerifiedCall) × IsVerifiedCall frame.now plain.now call
+        × ((u : UnitModel) → RepresentsUnit unit.old u →
+        IsReactionOf (TellsBy (sealed_by call)) result unit.new
+        (step_by limiting u moment (ReceiveVerified call))) }
+    ensures payload { IfOk result (λ r. WherePassed (DeliversEndOf plain.now) r.outcome) }
+{
+    match VerifiedFrame::read(frame, plain) {
+        Ok(verified) => unit.receive_frame(limiting, moment, frame, &verified),
+        Err(fault) => Err(unit.refuse_secured(moment, fault)),
+    }
 }

@@ -1,16 +1,18 @@
-//! The station to which a capture is replayed.
+//! The unit to which a capture is replayed.
 
 ghost use Rattle.std.specs.Prelude.{◌≡◌, ◌++◌, ◌∷◌, [], IfOk, MatchResult, false};
 ghost use Rattle.its_model.specs.History.{is_among};
 ghost use Rattle.its_model.specs.Station.{StationModel};
 ghost use Rattle.its_station.specs.State.{RepresentsStation};
-ghost use Rattle.cmd_stats.specs.Units.{IsUnit, begun, listed, with_open};
+ghost use Rattle.cmd_stats.specs.Units.{BeginsUnit, IsUnit, begun, listed, with_open};
 
 use its_btp::{MAX_OPEN_PORTS, PortFault};
 use its_gnvalue::{GnAddress, NoMemory, Place};
+use its_governor::Limits;
 use its_loctable::SortedTable;
 use its_model::laws::calls_go_on;
 use its_station::Station;
+use its_unit::Unit;
 use std::alloc::Global;
 
 /// The ports that a station opens at its start: at most 64, each once.
@@ -65,12 +67,12 @@ impl PortList {
     }
 }
 
-/// A station that only listens: where it stands, and what it opens at its start.
+/// A unit that only listens: where it begins, and what it opens at its start.
 #[derive(Clone, Copy, Debug, PartialEq, Eq)]
-pub struct Unit {
+pub struct ReplayUnit {
     /// Its address.
     pub address: GnAddress,
-    /// Where it stands.
+    /// Where it is at first.
     pub place: Place,
     /// How many sources it knows at most, 1 to 4096.
     pub capacity: u16,
@@ -80,9 +82,19 @@ pub struct Unit {
     pub ports: PortList,
 }
 
-impl Unit {
-    /// The station at moment 0, its ports open. `NoMemory` where an allocation failed.
-    pub(crate) fn begin(&self, alloc: Global) -> Result<Station<SortedTable>, NoMemory>
+impl ReplayUnit {
+    /// The unit at moment 0, its ports open, with the default limits. It doesn't contend. `NoMemory`
+    /// if an allocation failed.
+    pub(crate) fn begin(&self, alloc: Global) -> Result<Unit<SortedTable>, NoMemory>
+        requires { IsUnit self.now }
+        ensures { IfOk result (BeginsUnit Limits.CHANNEL (begun self.now)) }
+    {
+        let station = self.begin_station(alloc)?;
+        Unit::new(alloc, station, &Limits::CHANNEL)
+    }
+
+    /// The station at moment 0, its ports open. `NoMemory` if an allocation failed.
+    fn begin_station(&self, alloc: Global) -> Result<Station<SortedTable>, NoMemory>
         requires { IsUnit self.now }
         ensures { IfOk result (λ station. RepresentsStation station (begun self.now)) }
     {
