@@ -51,10 +51,28 @@ def octets(name: str, value: bytes) -> bytes:
 
 def media_of(value: bytes) -> bytes:
     """Returns media-dependent data after a check of their length."""
-    told = octets("media", value)
-    if len(told) != len(NO_MEDIA):
+    media = octets("media", value)
+    if len(media) != len(NO_MEDIA):
         raise BadArgument("media")
-    return told
+    return media
+
+
+def header_of(now: int, port: int, info: int, traffic_class: int) -> Tuple[int, int, int, int]:
+    """Returns the arguments that all packets with a payload have, after a check of their ranges."""
+    return (
+        moment(now),
+        whole("port", port, 0, 65535),
+        whole("info", info, 0, 65535),
+        whole("traffic_class", traffic_class, 0, 255),
+    )
+
+
+def single_hop(
+    now: int, port: int, info: int, traffic_class: int, media: bytes, payload: bytes
+) -> Tuple[int, int, int, int, bytes, bytes]:
+    """Returns the arguments of a single-hop broadcast after a check of their ranges."""
+    header = header_of(now, port, info, traffic_class)
+    return (*header, media_of(media), octets("payload", payload))
 
 
 class _Guard:
@@ -236,14 +254,7 @@ class Calls(ABC):
             Refused: The payload is too long, or memory ran out.
         """
         with self._calling:
-            return self._send_shb(
-                moment(now),
-                whole("port", port, 0, 65535),
-                whole("info", info, 0, 65535),
-                whole("traffic_class", traffic_class, 0, 255),
-                media_of(media),
-                octets("payload", payload),
-            )
+            return self._send_shb(*single_hop(now, port, info, traffic_class, media, payload))
 
     def send_gbc(
         self,
@@ -316,10 +327,7 @@ class Calls(ABC):
         with self._calling:
             return self._send_area(
                 word,
-                moment(now),
-                whole("port", port, 0, 65535),
-                whole("info", info, 0, 65535),
-                whole("traffic_class", traffic_class, 0, 255),
+                *header_of(now, port, info, traffic_class),
                 whole("lifetime", lifetime, 0, 255),
                 whole("max_hops", max_hops, 0, 255),
                 area,
@@ -369,8 +377,8 @@ class Calls(ABC):
         after: Optional[int] = 0
         while after is not None:
             with self._calling:
-                told, after = self._neighbours(now, after)
-            yield from told
+                found, after = self._neighbours(now, after)
+            yield from found
 
     def counts(self) -> Counts:
         """Returns the counters of the station. `restart` keeps them."""

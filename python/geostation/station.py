@@ -8,7 +8,7 @@ from typing import Any, Callable, List, Optional, Tuple
 
 from . import library
 from .calls import ANSWER_MAX, FRAME_MAX, SECURED_FRAME_MAX, Address, Calls, Degrees
-from .calls import media_of, moment, octets
+from .calls import moment, octets, single_hop
 from .errors import BadArgument, BadFrame, Fault, OverRate, Refused, Status
 from .values import (
     NO_MEDIA,
@@ -331,15 +331,8 @@ class Station(Calls):
             Refused: The payload is too long, or memory ran out.
         """
         with self._calling:
-            return self._send_shb(
-                moment(now),
-                whole("port", port, 0, 65535),
-                whole("info", info, 0, 65535),
-                whole("traffic_class", traffic_class, 0, 255),
-                media_of(media),
-                octets("payload", payload),
-                whole("lifetime", lifetime, 0, 255),
-            )
+            arguments = single_hop(now, port, info, traffic_class, media, payload)
+            return self._send_shb(*arguments, whole("lifetime", lifetime, 0, 255))
 
     def handle_json(self, now: int, line: bytes, *, number: int = 1) -> Tuple[bytes, bytes]:
         """Executes one JSON request, as the command `geostation station` does.
