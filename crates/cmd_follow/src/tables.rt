@@ -7,9 +7,9 @@ use crate::summary::{Pair, Summary};
 use crate::tap::TapCounts;
 use cmd_quoting::OneLine;
 use cmd_reporting::Fault;
-use cmd_table::Table;
+use cmd_table::{Hyphened, RowArray, Table};
 use its_words::json_lines::JsonLine;
-use serde::{Described, Serialize, Serializer};
+use serde::Serialize;
 use std::alloc::{AllocError, Global};
 use std::fmt;
 use std::io::Write;
@@ -77,19 +77,6 @@ impl fmt::Display for Maybe {
         match self.0 {
             Some(number) => write!(f, "{number}"),
             None => Ok(()),
-        }
-    }
-}
-
-/// Nothing as a hyphen, in a table.
-#[derive(Clone, Copy)]
-struct Hyphened<T>(Option<T>);
-
-impl<T: fmt::Display> fmt::Display for Hyphened<T> {
-    fn fmt<W: fmt::Write>(&self, f: &mut fmt::Formatter<W>) -> fmt::Result {
-        match &self.0 {
-            Some(value) => value.fmt(f),
-            None => f.write_str("-"),
         }
     }
 }
@@ -254,9 +241,9 @@ impl<'a> Summed<'_, 'a> {
         let forwarding = self.summary.forwarding.rows()?;
         let object = SummaryObject {
             packets: self.summary.packets,
-            taps: Rows(taps.as_slice()),
-            pairs: Rows(pairs.as_slice()),
-            forwarding: Rows(forwarding.as_slice()),
+            taps: RowArray(taps.as_slice()),
+            pairs: RowArray(pairs.as_slice()),
+            forwarding: RowArray(forwarding.as_slice()),
         };
         let mut line = JsonLine::new(alloc)?;
         out.write_all(line.of(&object)?)?;
@@ -264,27 +251,11 @@ impl<'a> Summed<'_, 'a> {
     }
 }
 
-/// Rows, as an array.
-#[derive(Clone, Copy)]
-struct Rows<'a, T>(&'a [T]);
-
-impl<T> Described for Rows<'_, T> {}
-
-impl<T: Serialize> Serialize for Rows<'_, T> {
-    fn serialize<S: Serializer>(&self, out: &mut S) -> Result<(), S::Error> {
-        out.begin_seq(Some(self.0.len()))?;
-        for row in self.0 {
-            row.serialize(out)?;
-        }
-        out.end_seq()
-    }
-}
-
 /// A summary: its keys in this order.
 #[derive(Clone, Copy, Serialize)]
 struct SummaryObject<'s, 'a> {
     packets: u64,
-    taps: Rows<'s, TapRow<'a>>,
-    pairs: Rows<'s, PairRow<'a>>,
-    forwarding: Rows<'s, HistogramRow>,
+    taps: RowArray<'s, TapRow<'a>>,
+    pairs: RowArray<'s, PairRow<'a>>,
+    forwarding: RowArray<'s, HistogramRow>,
 }

@@ -1,9 +1,8 @@
 //! The frames that a source sent itself, and the times between them.
 
-use cmd_table::Table;
+use cmd_table::{Hyphened, Table};
 use serde::Serialize;
 use std::alloc::AllocError;
-use std::fmt;
 
 /// How a frame came to be sent.
 #[derive(Clone, Copy, Debug, PartialEq, Eq)]
@@ -121,27 +120,14 @@ pub(crate) const OWN_HEADS: [&str; 6] = [
     "own_greatest",
 ];
 
-/// A time, or a hyphen for none.
-#[derive(Clone, Copy)]
-struct Interval(Option<u64>);
-
-impl fmt::Display for Interval {
-    fn fmt<W: fmt::Write>(&self, f: &mut fmt::Formatter<W>) -> fmt::Result {
-        match self.0 {
-            Some(interval) => write!(f, "{interval}"),
-            None => write!(f, "-"),
-        }
-    }
-}
-
 impl OwnKeys {
     /// Adds them to a row of a table.
     pub(crate) fn add_to(&self, table: &mut Table) -> Result<(), AllocError> {
         table.add(&self.own)?;
         table.add(&self.forwarded)?;
         table.add(&self.retries)?;
-        table.add(&Interval(self.own_least))?;
-        table.add(&Interval(self.own_mean))?;
-        table.add(&Interval(self.own_greatest))
+        table.add(&Hyphened(self.own_least))?;
+        table.add(&Hyphened(self.own_mean))?;
+        table.add(&Hyphened(self.own_greatest))
     }
 }

@@ -8,8 +8,9 @@ use crate::seconds::{SecondRow, second_table};
 use crate::sources::{SourceColumns, SourceRow, source_table};
 use cap_records::{RefusedCapture, Walked};
 use cmd_reporting::Fault;
+use cmd_table::RowArray;
 use its_words::json_lines::JsonLine;
-use serde::{Described, Serialize, Serializer};
+use serde::Serialize;
 use std::alloc::Global;
 use std::io::Write;
 
@@ -56,31 +57,15 @@ pub(crate) fn print_tables<'f, W: Write>(
     Ok(())
 }
 
-/// Rows, as an array.
-#[derive(Clone, Copy)]
-struct Rows<'a, T>(&'a [T]);
-
-impl<T> Described for Rows<'_, T> {}
-
-impl<T: Serialize> Serialize for Rows<'_, T> {
-    fn serialize<S: Serializer>(&self, out: &mut S) -> Result<(), S::Error> {
-        out.begin_seq(Some(self.0.len()))?;
-        for row in self.0 {
-            row.serialize(out)?;
-        }
-        out.end_seq()
-    }
-}
-
 /// All that was counted: its keys in this order.
 #[derive(Clone, Copy, Serialize)]
 struct Everything<'a> {
     records: Kinds,
-    sources: Rows<'a, SourceRow>,
-    ports: Rows<'a, PortRow>,
+    sources: RowArray<'a, SourceRow>,
+    ports: RowArray<'a, PortRow>,
     load: Option<SecondRow>,
     #[serde(skip_serializing_if = "Option::is_none")]
-    psids: Option<Rows<'a, PsidRow>>,
+    psids: Option<RowArray<'a, PsidRow>>,
     #[serde(flatten)]
     fault: Option<RefusedCapture>,
 }
@@ -100,10 +85,10 @@ pub(crate) fn print_object<'f, W: Write>(
         .map(|fault| RefusedCapture::new(walked.read, fault, false));
     let everything = Everything {
         records: counts.kinds,
-        sources: Rows(sources.as_slice()),
-        ports: Rows(ports.as_slice()),
+        sources: RowArray(sources.as_slice()),
+        ports: RowArray(ports.as_slice()),
         load: counts.seconds.busiest(),
-        psids: counted.signed.then_some(Rows(psids.as_slice())),
+        psids: counted.signed.then_some(RowArray(psids.as_slice())),
         fault,
     };
     let mut line = JsonLine::new(alloc)?;
