@@ -19,6 +19,7 @@
 mod cell;
 mod command;
 mod delays;
+mod heads;
 mod key;
 mod names;
 mod packet;

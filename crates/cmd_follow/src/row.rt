@@ -1,6 +1,7 @@
 //! The rows of a packet, one per tap.
 
 use crate::cell::Cell;
+use crate::heads::write_heads;
 use crate::packet::FollowedPacket;
 use crate::sighting::{NANOS, Sighting};
 use cmd_quoting::OneLine;
@@ -62,15 +63,7 @@ impl<'a> RowPrinter<'a> {
             FollowForm::Csv => ",",
             FollowForm::Json => return Ok(()),
         };
-        let mut is_first = true;
-        for column in COLUMNS {
-            if !is_first {
-                out.write_all(separator.as_bytes())?;
-            }
-            out.write_all(column.as_bytes())?;
-            is_first = false;
-        }
-        writeln!(out)?;
+        write_heads(&COLUMNS, separator, out)?;
         Ok(())
     }
 

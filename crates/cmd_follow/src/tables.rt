@@ -2,6 +2,7 @@
 
 use crate::cell::Cell;
 use crate::delays::HistogramRow;
+use crate::heads::write_heads;
 use crate::row::FollowForm;
 use crate::summary::{Pair, Summary};
 use crate::tap::TapCounts;
@@ -219,15 +220,7 @@ impl<'a> Summed<'_, 'a> {
 
     /// Prints the pairs as CSV.
     fn print_rows<'f, W: Write>(&self, alloc: Global, out: &mut W) -> Result<(), Fault<'f>> {
-        let mut is_first = true;
-        for column in PAIR_COLUMNS {
-            if !is_first {
-                out.write_all(b",")?;
-            }
-            out.write_all(column.as_bytes())?;
-            is_first = false;
-        }
-        writeln!(out)?;
+        write_heads(&PAIR_COLUMNS, ",", out)?;
         for row in self.pairs(alloc)?.iter() {
             writeln!(out, "{row}")?;
         }
