@@ -163,9 +163,7 @@ impl fmt::Display for RowWords<'_> {
         let Some(first) = row.packet.first_at(row.tap) else {
             return f.write_str("missing");
         };
-        let (frames, record, moment) = (row.frames(), first.record, row.moment(first));
-        write!(f, "{frames} {record} {moment} {} ", row.delay(first))?;
-        write_path(row, f)
+        write_frames(row, first, ' ', f)
     }
 }
 
@@ -186,14 +184,25 @@ impl fmt::Display for RowCells<'_> {
         let Some(first) = row.packet.first_at(row.tap) else {
             return f.write_str("0,,,,");
         };
-        let (frames, record, moment) = (row.frames(), first.record, row.moment(first));
-        write!(f, "{frames},{record},{moment},{},", row.delay(first))?;
-        write_path(row, f)
+        write_frames(row, first, ',', f)
     }
 }
 
-/// Writes the frames of a row: for each the link address that it comes from, the hops left, and its
-/// delay.
+/// Writes what is printed of the frames of a row, of which this is the first one.
+fn write_frames<W: fmt::Write>(
+    row: &Row<'_>,
+    first: &Sighting,
+    separator: char,
+    f: &mut fmt::Formatter<W>,
+) -> fmt::Result {
+    let (record, moment, delay) = (first.record, row.moment(first), row.delay(first));
+    write!(f, "{}{separator}{record}{separator}", row.frames())?;
+    write!(f, "{moment}{separator}{delay}{separator}")?;
+    write_path(row, f)
+}
+
+/// Writes the path of a row: for each of its frames the link address that it comes from, the hops
+/// left, and its delay.
 fn write_path<W: fmt::Write>(row: &Row<'_>, f: &mut fmt::Formatter<W>) -> fmt::Result {
     let mut is_first = true;
     for sighting in row.packet.sightings() {
