@@ -10,11 +10,11 @@ use crate::row::{FollowForm, RowPrinter};
 use crate::standard::StandardInput;
 use crate::summary::Summary;
 use crate::tables::Summed;
-use crate::tap::{Tap, TapCounts, next_packet};
+use crate::tap::{Tap, TapCounts, next_packet, open_tap};
 use crate::warnings::{report_tap, report_window};
 use crate::window::Window;
 use cap_pcap::RecordSource;
-use cap_records::{CaptureFile, Selection, open_records};
+use cap_records::Selection;
 use cmd_reporting::{Fault, Io, OutputFormat, Status, is_standard, open};
 use cmd_times::Time;
 use std::alloc::{AllocError, Global};
@@ -77,13 +77,7 @@ where
     for (number, file) in what.files.iter().enumerate() {
         let input = StandardInput::of(file, &mut input)?;
         let reader = open(rt, file, input)?;
-        let tap = match open_records(alloc, file, what.selection.format, reader)? {
-            CaptureFile::Source(source) => {
-                Tap::new(alloc, number, file, source, &what.selection, what.by)?
-            }
-            CaptureFile::Gzip => Tap::gzip(file),
-        };
-        taps.push(tap)?;
+        taps.push(open_tap(alloc, number, file, &what.selection, what.by, reader)?)?;
     }
     let names = tap_names(alloc, what.files.as_slice())?;
     follow_taps(alloc, what, taps, names.as_slice(), io)
@@ -125,6 +119,27 @@ impl<'n> Output<'n> {
             }
         }
     }
+
+    /// Prints the summary of all packets of taps with these names, if they were counted.
+    fn end<'f, S: RecordSource + Drop, W: Write>(
+        &self,
+        alloc: Global,
+        form: FollowForm,
+        taps: &Vec<Tap<'_, S>>,
+        names: &[&str],
+        out: &mut W,
+    ) -> Result<(), Fault<'f>> {
+        let Output::Summary(summary) = self else {
+            return Ok(());
+        };
+        let counts = counts_of(alloc, taps)?;
+        let summed = Summed {
+            summary,
+            names,
+            counts: counts.as_slice(),
+        };
+        summed.print(alloc, form, out)
+    }
 }
 
 /// Follows the packets of taps with these names.
@@ -141,15 +156,7 @@ fn follow_taps<'a, 'n, S: RecordSource + Drop, W: Write, E: Write>(
     let mut window = Window::new(alloc, what.window);
     let mut output = Output::begin(alloc, what, names, &mut io.out)?;
     follow_packets(what, &mut taps, &mut window, &mut output, &mut io.out)?;
-    if let Output::Summary(summary) = &output {
-        let counts = counts_of(alloc, &taps)?;
-        let summed = Summed {
-            summary,
-            names,
-            counts: counts.as_slice(),
-        };
-        summed.print(alloc, what.form, &mut io.out)?;
-    }
+    output.end(alloc, what.form, &taps, names, &mut io.out)?;
     let is_whole = report_taps(&taps, names, io.format, &mut io.err);
     report_window(&window.counts, what.window, &mut io.err);
     Ok(status_of(is_whole))
@@ -185,13 +192,10 @@ fn follow_packets<'a, S: RecordSource + Drop, W: Write>(
         };
         window.advance(seen.sighting.stamp);
         for _ in 0..window.count() {
-            match window.take_over() {
+            match window.take_complete() {
                 Some(packet) => output.put(&packet, out)?,
                 None => break,
             }
-        }
-        if let Some(packet) = window.take_crowding() {
-            output.put(&packet, out)?;
         }
         window.add(seen)?;
     }

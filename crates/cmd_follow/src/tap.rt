@@ -2,10 +2,12 @@
 
 use crate::key::FollowBy;
 use crate::sighting::{ReadRecord, SeenPacket, SightingReader};
-use cap_pcap::{Format, LONGEST_RECORD, RecordSource};
-use cap_records::{FileFault, Pulled, Records, Selection};
+use cap_pcap::{AnySource, Format, LONGEST_RECORD, RecordSource};
+use cap_records::{CaptureFile, FileFault, Pulled, Records, Selection, open_records};
 use cmd_reporting::Fault;
+use its_linkframe::Counted;
 use std::alloc::{AllocError, Global};
+use std::io::Read;
 
 /// How many records of a tap were selected.
 #[derive(Clone, Copy, Debug, Default, PartialEq, Eq)]
@@ -41,7 +43,7 @@ pub(crate) struct Tap<'a, S: RecordSource + Drop> {
 impl<'a, S: RecordSource + Drop> Tap<'a, S> {
     /// Returns the tap of this number, whose capture is of this file. `AllocError` if an allocation
     /// failed.
-    pub(crate) fn new(
+    fn new(
         alloc: Global,
         number: usize,
         file: &'a str,
@@ -62,7 +64,7 @@ impl<'a, S: RecordSource + Drop> Tap<'a, S> {
     }
 
     /// Returns the tap of a file that gzip compressed. It has no records.
-    pub(crate) fn gzip(file: &'a str) -> Tap<'a, S> {
+    fn gzip(file: &'a str) -> Tap<'a, S> {
         Tap {
             file,
             format: None,
@@ -110,6 +112,22 @@ impl<'a, S: RecordSource + Drop> Tap<'a, S> {
             ReadRecord::NoPayload => {}
             ReadRecord::Rejected => self.counts.rejected = self.counts.rejected.saturating_add(1),
         }
+    }
+}
+
+/// Opens the tap of this number, whose capture is of this file. `CannotRead` if a read failed,
+/// `OutOfMemory` if an allocation did.
+pub(crate) fn open_tap<'a, R: Read + Drop>(
+    alloc: Global,
+    number: usize,
+    file: &'a str,
+    selection: &Selection,
+    by: FollowBy,
+    reader: R,
+) -> Result<Tap<'a, AnySource<Counted<R>>>, Fault<'a>> {
+    match open_records(alloc, file, selection.format, reader)? {
+        CaptureFile::Source(source) => Ok(Tap::new(alloc, number, file, source, selection, by)?),
+        CaptureFile::Gzip => Ok(Tap::gzip(file)),
     }
 }
 

@@ -75,25 +75,17 @@ impl Window {
         self.packets.len()
     }
 
-    /// Takes the oldest packet, if its time is over.
-    pub(crate) fn take_over(&mut self) -> Option<FollowedPacket>
+    /// Takes the oldest packet, if its time is over or as many frames are held as there may be.
+    pub(crate) fn take_complete(&mut self) -> Option<FollowedPacket>
         ensures { length self.new.packets.items ≤ length self.old.packets.items }
     {
         let oldest = self.packets.front()?;
         if self.now <= oldest.opened.saturating_add(self.width) {
-            return None;
+            if self.frames < MOST_HELD && self.packets.len() < MOST_HELD {
+                return None;
+            }
+            self.counts.early = self.counts.early.saturating_add(1);
         }
-        self.take_oldest()
-    }
-
-    /// Takes the oldest packet, if as many frames are held as there may be.
-    pub(crate) fn take_crowding(&mut self) -> Option<FollowedPacket>
-        ensures { length self.new.packets.items ≤ length self.old.packets.items }
-    {
-        if self.frames < MOST_HELD && self.packets.len() < MOST_HELD {
-            return None;
-        }
-        self.counts.early = self.counts.early.saturating_add(1);
         self.take_oldest()
     }
 
