@@ -34,11 +34,12 @@ unbuffered = true
 [capture]
 sent = true
 received = true
+delivered = true
 within = 20
 queue = 1
 skew = 0
 """
-JUDGED = "D1 D2 D3 D4 D5 D6 D10 D12 D13 D14 D15 D16 D17 D19".split()
+JUDGED = "D1 D2 D3 D4 D5 D6 D10 D12 D13 D14 D15 D16 D17 D19 D20".split()
 LIFE, WITHIN, REMEMBER = 20_000, 20, 8  # ms, ms, numbers
 HOME = 115000000  # the longitude of the station that is judged
 OUTSIDE = "outside the area: not judged"

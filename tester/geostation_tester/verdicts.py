@@ -6,6 +6,8 @@ import json
 import subprocess
 from typing import NamedTuple
 
+from .purposes import JUDGED
+
 
 class NoVerdict(Exception):
     """The program could not judge the recording."""
@@ -36,11 +38,11 @@ def objects_of(recording: str, station_file: str, program: str) -> list[dict]:
 
 
 def verdicts_on(recording: str, station_file: str, program: str) -> list[Verdict]:
-    """In the order of the records."""
+    """In the order of the records. For the other duties the tester compares frames."""
     return [
         Verdict(o["result"], o["duty"], o["record"], o.get("reason", ""))
         for o in objects_of(recording, station_file, program)
-        if "duty" in o
+        if o.get("duty") in JUDGED
     ]
 
 

@@ -2,7 +2,7 @@
 
 use crate::bad_argument::BadArgument;
 use clap::ArgMatches;
-use cmd_verdict::{Claim, ClaimSet, DutyFault, DutySet, Printing};
+use cmd_verdict::{Claim, ClaimSet, DutySet, Printing};
 
 /// The claims that `--assume` names. The fault is that of the first unknown one.
 pub fn claims_of<'a>(matches: &ArgMatches<'a>) -> Result<ClaimSet, BadArgument<'a>> {
@@ -24,12 +24,8 @@ pub fn duties_of<'a>(matches: &ArgMatches<'a>) -> Result<DutySet, BadArgument<'a
     let Some(list) = matches.get_str("duty") else {
         return Ok(DutySet::all());
     };
-    let wanted = match DutySet::listed(list) {
-        Ok(duties) => return Ok(duties),
-        Err(DutyFault::Unknown) => "a list of D1 to D6, D10, D12 to D17 and D19",
-        Err(DutyFault::NotJudged) => "a list of duties that are judged: D20 is not judged yet",
-    };
-    Err(BadArgument::Value("duty", list, wanted))
+    let wanted = "a list of D1 to D6, D10, D12 to D17, D19 and D20";
+    DutySet::listed(list).map_err(|_| BadArgument::Value("duty", list, wanted))
 }
 
 /// Which verdicts are printed, by `--all` and `--inconclusive`.

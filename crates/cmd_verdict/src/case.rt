@@ -51,14 +51,16 @@ pub(crate) struct Needs {
     pub(crate) profile: bool,
     pub(crate) steady: bool,
     pub(crate) fresh: bool,
+    pub(crate) unlimited: bool,
     pub(crate) unbuffered: bool,
     pub(crate) sent: bool,
     pub(crate) received: bool,
+    pub(crate) delivered: bool,
 }
 
 impl Needs {
     /// Their words, in the order of the station file's keys.
-    pub(crate) fn words(self) -> [Option<&'static str>; 9] {
+    pub(crate) fn words(self) -> [Option<&'static str>; 11] {
         [
             self.mobile.then_some("mobile"),
             self.area.then_some("area"),
@@ -66,9 +68,11 @@ impl Needs {
             self.profile.then_some("profile"),
             self.steady.then_some("steady"),
             self.fresh.then_some("fresh"),
+            self.unlimited.then_some("unlimited"),
             self.unbuffered.then_some("unbuffered"),
             self.sent.then_some("sent"),
             self.received.then_some("received"),
+            self.delivered.then_some("delivered"),
         ]
     }
 

@@ -58,14 +58,14 @@ impl DutyCounts {
 /// The verdicts on each duty.
 #[derive(Clone, Copy)]
 pub(crate) struct VerdictCounts {
-    counts: [DutyCounts; 14],
+    counts: [DutyCounts; 15],
 }
 
 impl VerdictCounts {
     /// None yet.
     pub(crate) fn new() -> VerdictCounts {
         VerdictCounts {
-            counts: [DutyCounts::default(); 14],
+            counts: [DutyCounts::default(); 15],
         }
     }
 

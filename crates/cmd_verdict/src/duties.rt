@@ -3,7 +3,7 @@
 use its_duties::Duty;
 
 /// The duties that are judged, in the order of their numbers.
-pub(crate) const JUDGED: [Duty; 14] = [
+pub(crate) const JUDGED: [Duty; 15] = [
     Duty::Form,
     Duty::LinkTarget,
     Duty::Mobile,
@@ -18,10 +18,8 @@ pub(crate) const JUDGED: [Duty; 14] = [
     Duty::InTime,
     Duty::StopsInside,
     Duty::NextHop,
+    Duty::Forward,
 ];
-
-/// The duties that have a definition, but that no verdict is on yet.
-const NOT_JUDGED: [Duty; 1] = [Duty::Forward];
 
 /// The rule of a duty, as the table of counts shows it.
 pub(crate) fn rule_of(duty: Duty) -> &'static str {
@@ -44,39 +42,31 @@ pub(crate) fn rule_of(duty: Duty) -> &'static str {
     }
 }
 
-/// Why a list of duties isn't taken.
+/// A list names a duty that is not one of this program.
 #[derive(Clone, Copy, Debug, PartialEq, Eq)]
-pub enum DutyFault {
-    /// One is not a duty of this program.
-    Unknown,
-    /// One is a duty that isn't judged yet.
-    NotJudged,
-}
+pub struct UnknownDuty;
 
 /// The duties that are chosen.
 #[derive(Clone, Copy, Debug, PartialEq, Eq)]
 pub struct DutySet {
-    chosen: [bool; 14],
+    chosen: [bool; 15],
 }
 
 impl DutySet {
     /// All that are judged.
     pub fn all() -> DutySet {
-        DutySet { chosen: [true; 14] }
+        DutySet { chosen: [true; 15] }
     }
 
     /// Those of a list as `D13,D15`.
-    pub fn listed(list: &str) -> Result<DutySet, DutyFault> {
-        let mut chosen = [false; 14];
+    pub fn listed(list: &str) -> Result<DutySet, UnknownDuty> {
+        let mut chosen = [false; 15];
         for name in list.split(',') {
-            let number = number_in(name).ok_or(DutyFault::Unknown)?;
-            if NOT_JUDGED.iter().any(|duty| duty.number() == number) {
-                return Err(DutyFault::NotJudged);
-            }
+            let number = number_in(name).ok_or(UnknownDuty)?;
             let place = JUDGED.iter().position(|duty| duty.number() == number);
             match place.and_then(|place| chosen.get_mut(place)) {
                 Some(is_chosen) => *is_chosen = true,
-                None => return Err(DutyFault::Unknown),
+                None => return Err(UnknownDuty),
             }
         }
         Ok(DutySet { chosen })

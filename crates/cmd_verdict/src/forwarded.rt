@@ -139,7 +139,7 @@ impl Around {
 }
 
 /// How long a source counts.
-fn life(claims: &Claims) -> u64 {
+pub(crate) fn life(claims: &Claims) -> u64 {
     u64::from(claims.life).saturating_mul(NANOS)
 }
 
@@ -260,6 +260,19 @@ impl ForwardedPackets {
     /// Adds another sending of a record that isn't read, if it is one of these.
     pub(crate) fn repeat_unread(&mut self, first: u64, stamp: u64) -> Result<(), AllocError> {
         self.unread.repeat(first, stamp)
+    }
+
+    /// What the station sent from one stamp to another that isn't read and may be a forwarded packet.
+    pub(crate) fn unread_in(&self, from: u64, to: u64) -> Option<UnreadIn> {
+        self.unread.within(from, to)
+    }
+
+    /// How many sources were heard in a stretch: the greatest number if one may be missing.
+    pub(crate) fn sources_in(&self, stretch: Stretch) -> u32 {
+        if self.sources.may_lack(stretch.from) {
+            return u32::MAX;
+        }
+        self.sources.count(stretch)
     }
 
     /// Finds the last earlier frame of a packet with which it fails to be forwarded once, or else

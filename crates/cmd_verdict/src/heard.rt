@@ -1,5 +1,6 @@
 //! The packets for areas that the station may have heard.
 
+use crate::heard_numbers::PacketId;
 use crate::seen_record::SeenRecord;
 use its_duties::Claims;
 use its_gnvalue::{GnAddress, Hops, Lifetime};
@@ -41,6 +42,16 @@ impl HeardPacket {
     fn size(&self) -> usize {
         let repeats = self.repeats.len().saturating_mul(STAMP);
         self.octets.len().saturating_add(repeats)
+    }
+
+    /// Whether it has this source and number.
+    pub(crate) fn is_of(&self, packet: PacketId) -> bool {
+        self.source == packet.source && self.sequence == packet.sequence
+    }
+
+    /// Whether the link sent it again.
+    pub(crate) fn is_repeated(&self) -> bool {
+        !self.repeats.is_empty()
     }
 
     /// When it was sent last.
@@ -132,6 +143,16 @@ impl HeardPackets {
     /// The packets, the oldest first.
     pub(crate) fn packets(&self) -> &VecDeque<HeardPacket> {
         &self.packets
+    }
+
+    /// The packet of a record.
+    pub(crate) fn of_record(&self, number: u64) -> Option<&HeardPacket> {
+        for packet in self.packets.iter() {
+            if packet.number == number {
+                return Some(packet);
+            }
+        }
+        None
     }
 
     /// Whether one may be missing that was sent at this time or later.

@@ -10,12 +10,15 @@ use crate::frame_cases::{
 use crate::heard::HeardPackets;
 use crate::heard_numbers::PacketId;
 use crate::once_case::once_case;
+use crate::owed::{HeardFrame, Kept, NearRelays, owed_time, reach, sent_from_to};
+use crate::owed_case::owed_case;
 use crate::own_packets::{OwnPackets, StepFrom};
 use crate::relay_cases::{faithful_case, in_time_case};
 use crate::relays::{Relay, find_origin};
 use crate::repeats::{RETRY_TIME, Repeats};
 use crate::reporter::CaseSink;
 use crate::seen_record::SeenRecord;
+use crate::source_runs::{KnownSince, SourceRuns};
 use crate::text::Text;
 use crate::unread::{UnreadRecord, UnreadRecords};
 use crate::waiting::{Waiting, WaitingFrames};
@@ -38,7 +41,11 @@ pub(crate) struct Judge {
     unread: UnreadRecords,
     own: OwnPackets,
     forwarded: ForwardedPackets,
+    relays: NearRelays,
+    runs: SourceRuns,
     waiting: WaitingFrames,
+    /// The greatest stamp so far.
+    end: u64,
     /// The first stamp.
     begin: Option<u64>,
     /// How many records are repeats of the link.
@@ -50,15 +57,17 @@ pub(crate) struct Judge {
 impl Judge {
     /// No record yet.
     pub(crate) fn new(alloc: Global, claims: &Claims) -> Judge {
-        let skew = slack(claims).saturating_sub(1_000_000);
         Judge {
             claims: *claims,
-            arrivals: Arrivals::new(alloc, skew.saturating_mul(2)),
+            arrivals: Arrivals::new(alloc, disorder(claims)),
             repeats: Repeats::new(alloc),
             heard: HeardPackets::new(alloc),
             unread: UnreadRecords::new(alloc),
             own: OwnPackets::new(alloc),
             forwarded: ForwardedPackets::new(alloc),
+            relays: NearRelays::new(alloc),
+            runs: SourceRuns::new(alloc),
+            end: 0,
             waiting: WaitingFrames::new(alloc),
             begin: None,
             repeated: 0,
@@ -125,6 +134,7 @@ impl Judge {
     /// Meets the next record by its stamp.
     fn meet<'f, S: CaseSink>(&mut self, record: SeenRecord, sink: &mut S) -> Result<(), Fault<'f>> {
         let stamp = record.stamp;
+        self.end = self.end.max(stamp);
         if self.begin.is_none() {
             self.begin = Some(stamp);
             sink.begin(stamp);
@@ -186,6 +196,8 @@ impl Judge {
         match (record.role(&self.claims, &frame), &frame) {
             (Role::Heard, Ok(view)) => {
                 let (settled, oldest) = (self.settled(stamp), self.oldest_of_once(stamp));
+                self.runs.repeat(view.packet.vector().address(), stamp);
+                self.waiting.repeat(first, stamp)?;
                 self.forwarded
                     .repeat_heard(first, stamp, view, settled, oldest)
             }
@@ -199,7 +211,7 @@ impl Judge {
         let retried = record.is_retry();
         let frame = record.frame();
         let role = record.role(&self.claims, &frame);
-        let mut step = None;
+        let (mut step, mut since) = (None, None);
         match (role, &frame) {
             (Role::Own, Ok(view)) => {
                 step = self.own.add(&self.claims, &record, view, retried)?;
@@ -211,19 +223,37 @@ impl Judge {
                 let settled = self.settled(record.stamp);
                 let oldest = self.oldest_of_once(record.stamp);
                 self.forwarded.add_heard(&record, view, settled, oldest)?;
+                since = self.add_to_run(&record, view)?;
             }
             (Role::Forwarded, Ok(view)) => self.add_forwarded(&record, view, retried)?,
             _ => self.add_unread(&record, role, &frame)?,
         }
-        if matches!(role, Role::Own | Role::Forwarded | Role::SentUnread) {
+        let is_sent = matches!(role, Role::Own | Role::Forwarded | Role::SentUnread);
+        if is_sent || since.is_some() {
             self.waiting.add(Waiting {
                 record,
                 role,
                 retried,
                 step,
+                since,
             })?;
         }
         Ok(())
+    }
+
+    /// Adds a record that was heard to the run of its source. Returns what was known of it before, if
+    /// it is a packet for an area.
+    fn add_to_run(
+        &mut self,
+        record: &SeenRecord,
+        frame: &FrameView<'_>,
+    ) -> Result<Option<KnownSince>, AllocError> {
+        let (source, number) = (frame.packet.vector().address(), frame.packet.number());
+        let reach = reach(&self.claims);
+        let (_, last) = sent_from_to(record);
+        let first = record.stamp.saturating_sub(disorder(&self.claims));
+        let since = self.runs.add(source, number, (first, last), reach)?;
+        Ok(number.map(|_| since))
     }
 
     /// Adds a packet that the station forwarded, if it is one for an area.
@@ -233,6 +263,8 @@ impl Judge {
         frame: &FrameView<'_>,
         retried: bool,
     ) -> Result<(), AllocError> {
+        let near = record.stamp.saturating_sub(self.near_time());
+        self.relays.add(record, frame, retried, near)?;
         let oldest = self.oldest_of_once(record.stamp);
         match forwarded_packet(record, frame, retried) {
             Some(packet) => self.forwarded.add(packet, oldest),
@@ -301,6 +333,7 @@ impl Judge {
         let back = longest(claims)
             .max(interval)
             .saturating_add(doubt_between(claims).saturating_mul(4))
+            .saturating_add(owed_time(claims).saturating_mul(2))
             .saturating_add(RETRY_TIME.saturating_mul(4));
         stamp.saturating_sub(back)
     }
@@ -311,6 +344,7 @@ impl Judge {
         let claims = &self.claims;
         let back = once_time(claims)
             .saturating_add(doubt_between(claims).saturating_mul(4))
+            .saturating_add(owed_time(claims).saturating_mul(2))
             .saturating_add(RETRY_TIME.saturating_mul(4));
         stamp.saturating_sub(back)
     }
@@ -326,6 +360,7 @@ impl Judge {
         wait(claims)
             .saturating_add(slack(claims).saturating_mul(4))
             .saturating_add(doubt_between(claims).saturating_mul(2))
+            .saturating_add(owed_time(claims).saturating_mul(2))
             .saturating_add(RETRY_TIME)
     }
 
@@ -335,11 +370,46 @@ impl Judge {
         match (waiting.role, &record.frame()) {
             (Role::Own, Ok(frame)) => self.judge_own(waiting, frame, sink)?,
             (Role::Forwarded, Ok(frame)) => self.judge_forwarded(waiting, frame, sink)?,
+            (Role::Heard, Ok(frame)) => return self.judge_heard(waiting, frame, sink),
             _ => sink.put(record, form_case(&self.claims, record))?,
         }
         let doubt = doubt_between(&self.claims);
         self.own.forget_resets(record.stamp.saturating_sub(doubt));
         Ok(())
+    }
+
+    /// Judges a packet for an area that was heard.
+    fn judge_heard<'f, S: CaseSink>(
+        &self,
+        waiting: &Waiting,
+        frame: &FrameView<'_>,
+        sink: &mut S,
+    ) -> Result<(), Fault<'f>> {
+        let (Some(since), Some(sequence)) = (waiting.since, frame.packet.number()) else {
+            return Ok(());
+        };
+        let kept = Kept {
+            claims: &self.claims,
+            heard: &self.heard,
+            unread: &self.unread,
+            forwarded: &self.forwarded,
+            relays: &self.relays,
+            begin: self.begin.unwrap_or(0),
+            end: match self.claims.until {
+                Some(until) => until.saturating_mul(1_000_000),
+                None => self.end,
+            },
+        };
+        let source = frame.packet.vector().address();
+        let found = kept.find(HeardFrame {
+            record: &waiting.record,
+            packet: PacketId { source, sequence },
+            since,
+        });
+        match owed_case(&self.claims, frame, &found) {
+            Some(case) => sink.put(&waiting.record, case),
+            None => Ok(()),
+        }
     }
 
     /// Judges a packet of the station's own.
@@ -485,6 +555,11 @@ fn forwarded_packet(
         retried,
         packet: PacketId { source, sequence },
     })
+}
+
+/// How far a stamp may be below the greatest before it.
+fn disorder(claims: &Claims) -> u64 {
+    slack(claims).saturating_sub(1_000_000).saturating_mul(2)
 }
 
 /// How many numbers were not seen.

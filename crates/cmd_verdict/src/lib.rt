@@ -11,7 +11,7 @@
 //! - `cases/verdict.md`: texts, objects, statuses, refused station files.
 //! - `checks/verdict`: that what the command finds in a capture is there: the packet before
 //!   (`IsBeaconAfter`, `IsNumberStep`), what a forwarded packet was made from (`IsSearch`), whether it
-//!   was forwarded before (`IsRelayAgain`).
+//!   was forwarded before (`IsRelayAgain`), what was found of a packet that may be owed (`IsFound`).
 #![tactic(auto)]
 
 mod area_cases;
@@ -31,12 +31,15 @@ mod heard_sources;
 mod judge;
 mod link_header;
 mod once_case;
+mod owed;
+mod owed_case;
 mod own_packets;
 mod relay_cases;
 mod relays;
 mod repeats;
 mod reporter;
 mod seen_record;
+mod source_runs;
 mod station_file;
 mod stretch;
 mod table_keys;
@@ -46,5 +49,5 @@ mod waiting;
 
 pub use claim::{Claim, ClaimSet};
 pub use command::{VerdictOptions, verdict_file};
-pub use duties::{DutyFault, DutySet};
+pub use duties::{DutySet, UnknownDuty};
 pub use reporter::Printing;

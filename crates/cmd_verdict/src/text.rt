@@ -1,6 +1,6 @@
 //! What a verdict says of its record.
 
-use its_duties::Duty;
+use its_duties::{Duty, NotOwed};
 use its_faults::FrameFault;
 use its_gnvalue::{GnAddress, Mac};
 use its_headers::Kind;
@@ -61,6 +61,14 @@ pub(crate) enum Text {
     ForwardedAgain(GnAddress, u16, u64, u32),
     /// The packet was forwarded in this record, with so many other numbers between.
     Again(u64, u32),
+    /// The packet was forwarded in this record.
+    ForwardedAs(u64),
+    /// It was forwarded in this record, by a copy.
+    ForwardedByCopy(u64),
+    /// It was not forwarded within so many milliseconds.
+    NotForwarded(u32),
+    /// It isn't owed for this reason, in which this record counts.
+    NotOwed(NotOwed, u64),
     /// This record isn't read.
     NotRead(u64),
     /// Too many packets were heard to keep them all.
@@ -119,6 +127,10 @@ impl fmt::Display for Text {
             | Text::Again(..)
             | Text::NotRead(_)
             | Text::TooMany => self.write_forwarding(f),
+            Text::ForwardedAs(_)
+            | Text::ForwardedByCopy(_)
+            | Text::NotForwarded(_)
+            | Text::NotOwed(..) => self.write_owed(f),
             Text::OutsideItsArea
             | Text::AnycastInside
             | Text::InsideToAll
@@ -217,6 +229,27 @@ impl Text {
         }
     }
 
+    /// Writes what it says of a packet that was heard.
+    fn write_owed<W: fmt::Write>(&self, f: &mut fmt::Formatter<W>) -> fmt::Result {
+        match *self {
+            Text::ForwardedAs(record) => write!(f, "forwarded as #{record}"),
+            Text::ForwardedByCopy(record) => {
+                write!(f, "forwarded as #{record}, by a copy that came beside it")
+            }
+            Text::NotForwarded(within) => {
+                write!(f, "owed, but not forwarded within {within} ms")
+            }
+            Text::NotOwed(why, record) => {
+                write!(f, "not owed for sure: {}", reason_of(why))?;
+                if matches!(why, NotOwed::OtherPacket | NotOwed::NotRead) {
+                    write!(f, " #{record}")?;
+                }
+                Ok(())
+            }
+            _ => Ok(()),
+        }
+    }
+
     /// Writes what it says of a packet by where its station is.
     fn write_place<W: fmt::Write>(&self, f: &mut fmt::Formatter<W>) -> fmt::Result {
         match *self {
@@ -260,9 +293,32 @@ impl Text {
             | Text::Late(_, record)
             | Text::ForwardedAgain(_, _, record, _)
             | Text::Again(record, _)
+            | Text::ForwardedAs(record)
+            | Text::ForwardedByCopy(record)
+            | Text::NotOwed(NotOwed::OtherPacket | NotOwed::NotRead, record)
             | Text::NotRead(record) => Some(record),
             _ => None,
         }
+    }
+}
+
+/// Why a packet isn't owed for sure.
+fn reason_of(why: NotOwed) -> &'static str {
+    match why {
+        NotOwed::Sent => "sent",
+        NotOwed::Received => "received",
+        NotOwed::Delivered => "delivered",
+        NotOwed::Limited => "unlimited",
+        NotOwed::Buffered => "buffered",
+        NotOwed::OtherForwarding => "area",
+        NotOwed::NoLinkTarget => "link target",
+        NotOwed::KnownBefore => "known before the capture",
+        NotOwed::OtherPacket => "another packet of its number",
+        NotOwed::TableFull => "table",
+        NotOwed::Restarted => "restart",
+        NotOwed::PlaceUnsure => "place",
+        NotOwed::CaptureEnds => "the capture ends",
+        NotOwed::NotRead => "not read",
     }
 }
 
@@ -280,12 +336,12 @@ pub(crate) fn clause_of(duty: Duty) -> Option<&'static str> {
         Duty::Form | Duty::Mobile | Duty::Hops | Duty::Lifetime => Some("9"),
         Duty::LinkTarget | Duty::BeaconNotEarly => Some("10.3.6.2"),
         Duty::Numbers => Some("8.3"),
-        Duty::Faithful => Some("10.3.11.3"),
+        Duty::Faithful | Duty::Forward => Some("10.3.11.3"),
         Duty::Kind => Some("10.3"),
         Duty::StopsInside => Some("10.3.12.3"),
         Duty::AreaTarget | Duty::NextHop => Some("Annex D"),
         Duty::Once => Some("Annex A"),
-        Duty::InTime | Duty::Forward => None,
+        Duty::InTime => None,
     }
 }
 

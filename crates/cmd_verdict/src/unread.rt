@@ -26,12 +26,22 @@ pub(crate) struct UnreadIn {
     pub(crate) despite_profile: bool,
 }
 
+/// The later one of two sendings.
+fn later_of(before: Option<UnreadRecord>, record: UnreadRecord) -> UnreadRecord {
+    match before {
+        Some(before) if record.stamp < before.stamp => before,
+        _ => record,
+    }
+}
+
 /// The last sendings of records that aren't read.
 #[derive(Drop)]
 pub(crate) struct UnreadRecords {
     records: VecDeque<UnreadRecord>,
     /// The last of those that had to give way.
     lost: Option<UnreadRecord>,
+    /// The last of those that were forgotten.
+    forgotten: Option<UnreadRecord>,
 }
 
 impl UnreadRecords {
@@ -40,6 +50,7 @@ impl UnreadRecords {
         UnreadRecords {
             records: VecDeque::new(alloc),
             lost: None,
+            forgotten: None,
         }
     }
 
@@ -52,7 +63,9 @@ impl UnreadRecords {
     /// Adds a sending. If there are too many, the first one gives way.
     fn push(&mut self, record: UnreadRecord) -> Result<(), AllocError> {
         if MOST <= self.records.len() {
-            self.lost = self.records.pop_front();
+            if let Some(first) = self.records.pop_front() {
+                self.lost = Some(later_of(self.lost, first));
+            }
         }
         self.records.push_back(record)?;
         Ok(())
@@ -65,7 +78,9 @@ impl UnreadRecords {
                 Some(record) if record.stamp < oldest => {}
                 _ => return,
             }
-            self.records.pop_front();
+            if let Some(first) = self.records.pop_front() {
+                self.forgotten = Some(later_of(self.forgotten, first));
+            }
         }
     }
 
@@ -94,6 +109,14 @@ impl UnreadRecords {
             });
         }
         let mut found: Option<UnreadIn> = None;
+        if let Some(forgotten) = self.forgotten
+            && from <= forgotten.stamp
+        {
+            found = Some(UnreadIn {
+                first: forgotten.number,
+                despite_profile: true,
+            });
+        }
         for record in self.records.iter() {
             if from <= record.stamp && record.stamp <= to {
                 let before = found.unwrap_or(UnreadIn {

@@ -1,8 +1,10 @@
-//! The frames of the station that are not judged yet.
+//! The records that are not judged yet.
 
+use crate::owed::{owed_time, sent_from_to};
 use crate::own_packets::StepFrom;
 use crate::repeats::RETRY_TIME;
 use crate::seen_record::SeenRecord;
+use crate::source_runs::KnownSince;
 use its_duties::{Claims, Role, doubt_between};
 use std::alloc::{AllocError, Global};
 use std::collections::VecDeque;
@@ -13,7 +15,11 @@ const MOST: usize = 16384;
 /// How many octets they have at most.
 const MOST_OCTETS: usize = 1 << 22;
 
-/// A record that the station sent, which is judged once the capture has all that it is judged by.
+/// How many octets the stamp of a repeat has.
+const STAMP: usize = 8;
+
+/// A record that the station sent, or a packet for an area that it may have heard. It is judged once
+/// the capture has all that it is judged by.
 #[derive(Drop)]
 pub(crate) struct Waiting {
     pub(crate) record: SeenRecord,
@@ -22,6 +28,35 @@ pub(crate) struct Waiting {
     pub(crate) retried: bool,
     /// The step to its sequence number, if there is one.
     pub(crate) step: Option<StepFrom>,
+    /// What was known of its source, if it was heard and is a packet for an area.
+    pub(crate) since: Option<KnownSince>,
+}
+
+impl Waiting {
+    /// How many octets are kept of it.
+    fn size(&self) -> usize {
+        let repeats = self.record.repeats.len().saturating_mul(STAMP);
+        self.record.octets.len().saturating_add(repeats)
+    }
+
+    /// When the capture has all that it is judged by. A frame that the link sends again and again
+    /// doesn't put this off without an end.
+    fn end(&self, claims: &Claims) -> u64 {
+        if self.since.is_some() {
+            let (_, last) = sent_from_to(&self.record);
+            let longest = self.record.stamp.saturating_add(RETRY_TIME);
+            return last.min(longest).saturating_add(owed_time(claims));
+        }
+        let retries = if self.record.is_wireless() {
+            RETRY_TIME
+        } else {
+            0
+        };
+        self.record
+            .stamp
+            .saturating_add(doubt_between(claims))
+            .saturating_add(retries)
+    }
 }
 
 /// The records that wait, in the order of their stamps.
@@ -52,8 +87,19 @@ impl WaitingFrames {
 
     /// Adds one.
     pub(crate) fn add(&mut self, waiting: Waiting) -> Result<(), AllocError> {
-        self.octets = self.octets.saturating_add(waiting.record.octets.len());
+        self.octets = self.octets.saturating_add(waiting.size());
         self.frames.push_back(waiting)?;
+        Ok(())
+    }
+
+    /// Notes another sending of a record.
+    pub(crate) fn repeat(&mut self, number: u64, stamp: u64) -> Result<(), AllocError> {
+        for waiting in self.frames.iter_mut() {
+            if waiting.record.number == number && waiting.since.is_some() {
+                waiting.record.repeats.push(stamp)?;
+                self.octets = self.octets.saturating_add(STAMP);
+            }
+        }
         Ok(())
     }
 
@@ -65,24 +111,14 @@ impl WaitingFrames {
     /// Takes the first one.
     pub(crate) fn take_first(&mut self) -> Option<Waiting> {
         let first = self.frames.pop_front()?;
-        self.octets = self.octets.saturating_sub(first.record.octets.len());
+        self.octets = self.octets.saturating_sub(first.size());
         Some(first)
     }
 
     /// Takes the first one, if the capture has all that it is judged by: the next record has this
     /// stamp.
     pub(crate) fn take_due(&mut self, claims: &Claims, stamp: u64) -> Option<Waiting> {
-        let first = self.frames.front()?;
-        let retries = if first.record.is_wireless() {
-            RETRY_TIME
-        } else {
-            0
-        };
-        let end = first
-            .record
-            .stamp
-            .saturating_add(doubt_between(claims))
-            .saturating_add(retries);
+        let end = self.frames.front()?.end(claims);
         if end < stamp {
             return self.take_first();
         }

@@ -1,0 +1,108 @@
+//! The verdict on whether a packet that was heard was forwarded.
+
+use crate::case::{Case, Needs, is_fail};
+use crate::owed::{Caused, FoundOwed};
+use crate::text::Text;
+use crate::unread::UnreadIn;
+use its_duties::{
+    AreaForwarding, Claims, Doubt, Duty, NotOwed, OwedSearch, Verdict, judge_relay_owed,
+};
+use its_linkframe::FrameView;
+
+/// The room of a table that is as large as a claim can make it.
+const LARGEST: u32 = 4096;
+
+/// The verdict on a heard packet. `None` if it need not be forwarded.
+pub(crate) fn owed_case(claims: &Claims, frame: &FrameView<'_>, found: &FoundOwed) -> Option<Case> {
+    let verdict = judge_relay_owed(claims, frame, found.search);
+    let duty = Duty::Forward;
+    match verdict {
+        None => None,
+        Some(Verdict::Pass) => Some(Case::of(duty, Verdict::Pass, forwarded_text(found.caused))),
+        Some(Verdict::Fail(breach)) => {
+            let text = Text::NotForwarded(claims.within);
+            Some(Case::of(duty, Verdict::Fail(breach), text))
+        }
+        Some(Verdict::Inconclusive(doubt)) => {
+            let verdict = Verdict::Inconclusive(doubt);
+            let case = Case::of(duty, verdict, doubt_text(doubt, found));
+            Some(case.needing(owed_needs(claims, frame, found)))
+        }
+    }
+}
+
+/// As which frame a packet was forwarded.
+fn forwarded_text(caused: Caused) -> Text {
+    match caused {
+        Caused::ByCopy(record) => Text::ForwardedByCopy(record),
+        Caused::Frame(record) | Caused::Other(record) => Text::ForwardedAs(record),
+        Caused::None => Text::TooMany,
+    }
+}
+
+/// Why a packet isn't owed for sure.
+fn doubt_text(doubt: Doubt, found: &FoundOwed) -> Text {
+    let Doubt::NotOwed(why) = doubt else {
+        return Text::TooMany;
+    };
+    match (why, found.caused) {
+        (NotOwed::NotRead, _) => match found.unread.or(found.sent_unread) {
+            Some(unread) => Text::NotOwed(why, unread.first),
+            None => Text::TooMany,
+        },
+        (NotOwed::OtherPacket, Caused::Other(record)) => {
+            Text::NotOwed(why, found.other.unwrap_or(record))
+        }
+        _ => Text::NotOwed(why, found.other.unwrap_or(0)),
+    }
+}
+
+/// The claims with which a packet would be owed.
+fn owed_needs(claims: &Claims, frame: &FrameView<'_>, found: &FoundOwed) -> Needs {
+    let all = Claims {
+        area: AreaForwarding::Simple,
+        capacity: Some(claims.capacity.unwrap_or(LARGEST)),
+        sent: true,
+        received: true,
+        delivered: true,
+        unlimited: true,
+        unbuffered: true,
+        steady: true,
+        fresh: true,
+        ..*claims
+    };
+    let helps = is_helped(found.unread) && found.sent_unread.is_none() && !found.too_many;
+    let search = OwedSearch {
+        known_from: found.search.known_from || found.is_fresh,
+        all_read: helps,
+        ..found.search
+    };
+    let is_owed = match judge_relay_owed(&all, frame, search) {
+        Some(verdict) => is_fail(&verdict),
+        None => false,
+    };
+    if !is_owed {
+        return Needs::default();
+    }
+    Needs {
+        area: claims.area != AreaForwarding::Simple,
+        capacity: claims.capacity.is_none(),
+        profile: found.unread.is_some(),
+        steady: !claims.steady,
+        fresh: !found.search.known_from,
+        unlimited: !claims.unlimited,
+        unbuffered: !claims.unbuffered,
+        sent: !claims.sent,
+        received: !claims.received,
+        delivered: !claims.delivered,
+        ..Needs::default()
+    }
+}
+
+/// Whether nothing is unread, at the latest if the station processes only frames of the profile.
+fn is_helped(unread: Option<UnreadIn>) -> bool {
+    match unread {
+        Some(unread) => !unread.despite_profile,
+        None => true,
+    }
+}
