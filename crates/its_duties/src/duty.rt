@@ -3,7 +3,7 @@
 ghost use Rattle.std.specs.Prelude.{◌≡◌};
 ghost use Rattle.its_duties.specs.Duties.{number_of};
 ghost use Rattle.its_duties.specs.Roles.{is_for_area, is_beacon_kind, is_anycast_kind};
-ghost use Rattle.its_duties.specs.Roles.{is_own_duty, is_relay_duty, is_form, is_forward, is_asked};
+ghost use Rattle.its_duties.specs.Roles.{is_own_duty, is_relay_duty, is_asked};
 
 use crate::role::Role;
 use its_headers::Kind;
@@ -76,8 +76,8 @@ impl Duty {
         match role {
             Role::Own => is_own_duty(self, kind),
             Role::Forwarded => is_relay_duty(self, kind),
-            Role::SentUnread => is_form(self),
-            Role::Heard => is_forward(self) && is_for_area(kind),
+            Role::SentUnread => matches!(self, Duty::Form),
+            Role::Heard => matches!(self, Duty::Forward) && is_for_area(kind),
             Role::SentOther | Role::Unread | Role::Untyped | Role::Other => false,
         }
     }
@@ -118,52 +118,6 @@ fn is_relay_duty(duty: Duty, kind: Option<Kind>) -> bool
         | Duty::BeaconNotEarly
         | Duty::AreaTarget
         | Duty::Forward => false,
-    }
-}
-
-/// Whether it is the duty of a frame that isn't read.
-fn is_form(duty: Duty) -> bool
-    ensures { result ≡ is_form duty }
-{
-    match duty {
-        Duty::Form => true,
-        Duty::LinkTarget
-        | Duty::Mobile
-        | Duty::Hops
-        | Duty::Lifetime
-        | Duty::Numbers
-        | Duty::BeaconNotEarly
-        | Duty::AreaTarget
-        | Duty::Faithful
-        | Duty::Kind
-        | Duty::Once
-        | Duty::InTime
-        | Duty::StopsInside
-        | Duty::NextHop
-        | Duty::Forward => false,
-    }
-}
-
-/// Whether it is the duty of a packet that was heard.
-fn is_forward(duty: Duty) -> bool
-    ensures { result ≡ is_forward duty }
-{
-    match duty {
-        Duty::Forward => true,
-        Duty::Form
-        | Duty::LinkTarget
-        | Duty::Mobile
-        | Duty::Hops
-        | Duty::Lifetime
-        | Duty::Numbers
-        | Duty::BeaconNotEarly
-        | Duty::AreaTarget
-        | Duty::Faithful
-        | Duty::Kind
-        | Duty::Once
-        | Duty::InTime
-        | Duty::StopsInside
-        | Duty::NextHop => false,
     }
 }
 

@@ -32,7 +32,7 @@ pub fn nothing_is_left_out()
         × FailOf asked k tap i }
 {}
 
-/// On a wire (`IsWire`) a packet for an area is heard, and the station is a station of the model that
+/// On a wire (`IsWire`) a packet for an area is received, and the station is one of the model that
 /// has room for its source. What the capture has then is what this station gives, or a duty fails.
 ///
 /// - `missing`: the number is new, and the station forwards the packet. If no frame is in the

@@ -10,19 +10,19 @@
 //!
 //! Each `judge_` function returns the one verdict that the definitions name (`verdict`), and a fail
 //! is a proof (`fail_is_proof`): no scenario explains a capture with that record. So no station of
-//! the model, whatever it was asked and heard, can have made the capture, if these hold: the claims
-//! are true, a frame with the station's link source is the station's, time stamps are as near to
-//! the true times as claimed, and no transmission is recorded twice but for repeats of the link.
+//! the model, whatever it was asked and received, can have made the capture, if these hold: the
+//! claims are true, a frame with the station's link source is the station's, time stamps are as near
+//! to the true times as claimed, and no transmission is recorded twice but for repeats of the link.
 //! What the caller found in the capture has to be so: the gap before a beacon (`IsBeaconAfter`),
 //! what a forwarded packet was made from (`IsSearch`), whether it was forwarded before
 //! (`IsRelayAgain`), the step from one sequence number to the next (`IsNumberStep`), whether a
 //! packet that was heard was forwarded (`IsFound`). `laws::a_fail_is_proof` says the same of the
 //! definitions. `judge_lifetime`, `judge_beacon`, `judge_numbers`, `judge_faithful`,
-//! `judge_in_time`, `judge_once`, `judge_relay_owed` and this law are of claims that the model has
+//! `judge_in_time`, `judge_once`, `judge_forward` and this law are of claims that the model has
 //! (`IsModelled`).
 //!
-//! `role_of` tells what a record is to the station, and `Duty::is_asked` which duties are asked of
-//! it. `laws::nothing_is_left_out`: a record that fails a duty fails one that is asked.
+//! `role_of` returns what a record is to the station, and `Duty::is_asked` which duties are asked
+//! of it. `laws::nothing_is_left_out`: a record that fails a duty fails one that is asked.
 //! `laws::a_wire_is_decided`: on a wire (`IsWire`) a frame that is missing, or that isn't what a
 //! station of the model gives, fails a duty.
 //!
@@ -68,7 +68,7 @@ pub use inside::{judge_area_target, judge_next_hop, judge_stops_inside};
 pub use numbers::{NumberStep, judge_numbers};
 pub use octets::named_source;
 pub use once::{EarlierRelay, RelayAgain, judge_once};
-pub use owed::{OwedSearch, RelaySeen, judge_relay_owed};
+pub use owed::{OwedSearch, RelaySeen, judge_forward};
 pub use own::{judge_hops, judge_kind, judge_lifetime, judge_link_target, judge_mobile};
 pub use relays::{PacketOrigin, RelaySearch, judge_faithful, judge_in_time};
 pub use role::{FrameSource, RecordFacts, Role, may_be_own, may_be_relay, role_of};

@@ -65,11 +65,7 @@ pub struct OwedSearch {
 ///
 /// - `fail_is_proof`: if it is a fail, no scenario explains a capture in which this was found of
 ///   the packet, if the claims are those of a station of the model.
-pub fn judge_relay_owed(
-    claims: &Claims,
-    frame: &FrameView<'_>,
-    search: OwedSearch,
-) -> Option<Verdict>
+pub fn judge_forward(claims: &Claims, frame: &FrameView<'_>, search: OwedSearch) -> Option<Verdict>
     ensures verdict { result ≡ owed_verdict claims.now search (transmission_of frame.now) }
     ensures fail_is_proof { (tap : List Seen) (i : ℕ) (r : Seen) (n : ℕ) (v : Verdict)
         → AreRead tap → IsModelled claims.now

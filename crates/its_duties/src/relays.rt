@@ -1,4 +1,4 @@
-//! What the station forwards: a packet that it heard, with one hop fewer, and in time (EN 302
+//! What the station forwards: a packet that it received, with one hop fewer, and in time (EN 302
 //! 636-4-1, 10.3.11.3 and 10.3.12.3).
 
 ghost use Rattle.std.specs.Prelude.{◌≡◌, ℕ, List, IsTrue};

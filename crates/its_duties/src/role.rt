@@ -41,7 +41,7 @@ pub enum Role {
     SentUnread,
     /// It sent it, and it is of another type than GeoNetworking.
     SentOther,
-    /// A frame that it may have heard.
+    /// A frame that it may have received.
     Heard,
     /// It may have processed it, though it isn't read.
     Unread,

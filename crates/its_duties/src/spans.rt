@@ -49,7 +49,7 @@ pub(crate) fn life(claims: &Claims) -> u64
     nanos(u64::from(claims.life))
 }
 
-/// How long before a forwarded frame its packet may have been heard, at the most: as long as a
+/// How long before a forwarded frame its packet may have been received, at the most: as long as a
 /// source counts.
 pub fn longest(claims: &Claims) -> u64
     ensures value { result ≡ longest claims.now }

@@ -67,11 +67,11 @@ pub enum Doubt {
     NumbersNotSeen(u32),
     /// A beacon comes so late after a packet that puts it off, in nanoseconds.
     BeaconBetween(u64),
-    /// What was forwarded is no packet that is known to be heard, with one hop fewer.
+    /// What was forwarded is no packet that was received for sure, with one hop fewer.
     NotFaithful,
     /// A packet was forwarded so late after its last copy with one hop more, in nanoseconds.
     Late(u64),
-    /// No copy of a forwarded packet with one hop more is known to be heard.
+    /// No copy of a forwarded packet with one hop more was received for sure.
     NeverReceived,
     /// A packet was forwarded again, with so many other numbers of its source heard between.
     Again(u32),
@@ -106,7 +106,7 @@ pub enum NotOwed {
     OtherForwarding,
     /// The capture doesn't have the link target.
     NoLinkTarget,
-    /// The station may have heard the number before the capture began.
+    /// The station may have received the number before the capture began.
     KnownBefore,
     /// Another packet of its number may have been accepted in its place, or was forwarded.
     OtherPacket,

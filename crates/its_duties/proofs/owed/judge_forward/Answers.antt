@@ -1,7 +1,7 @@
 use Rattle.std.proofs.Common.{sym, ◌∙◌}
 use Rattle.its_linkframe.specs.Frames.{transmission_of}
 use Rattle.its_duties.proofs.FoundLaws.{found_proof}
-use Rattle.its_duties.proofs.owed.judge_relay_owed.Goals as goal
+use Rattle.its_duties.proofs.owed.judge_forward.Goals as goal
 
 pub returns-clause-fail_is_proof : goal.returns-clause-fail_is_proof
 returns-clause-fail_is_proof c = λ tap i r n v all modelled found is fails.
