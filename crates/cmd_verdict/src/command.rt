@@ -5,17 +5,14 @@ ghost use Rattle.cmd_reporting.specs.Statuses.{IsCommandStatus};
 ghost use Rattle.cmd_verdict.specs.Outcomes.{status_of_result};
 
 use crate::case::Outcome;
-use crate::claim::ClaimSet;
 use crate::counts::{TotalObject, VerdictCounts};
 use crate::duties::DutySet;
-use crate::fault::StationFault;
-use crate::first_line::{Premises, PremisesObject};
 use crate::judge::Judge;
 use crate::reporter::{Printing, Reporter};
 use crate::seen_record::{ReadRecord, SeenReader};
-use crate::station_file::StationFile;
 use cap_pcap::{AnySource, Format, LONGEST_RECORD, SourceFault};
 use cap_records::{CaptureFile, FileFault, Pulled, Records, Selection, open_records};
+use cmd_iut::{ClaimSet, Premises, PremisesObject, StationFault, StationFile};
 use cmd_reporting::{Fault, Io, OutputFormat, Status, is_standard, open};
 use cmd_times::{Clock, Instant, Time};
 use its_linkframe::{Counted, Source};

@@ -1,8 +1,8 @@
 -- The status with which the faults of a station file end the command.
 use Rattle.cmd_reporting.specs.declared.status.Status.{Status}
 use Rattle.cmd_reporting.specs.declared.status.Status.TheVariants as statuses
-use Rattle.cmd_verdict.specs.declared.fault.StationFault.{StationFault}
-use Rattle.cmd_verdict.specs.declared.fault.StationFault.TheVariants as faults
+use Rattle.cmd_iut.specs.declared.fault.StationFault.{StationFault}
+use Rattle.cmd_iut.specs.declared.fault.StationFault.TheVariants as faults
 
 -- refused, unless a file can't be read or memory ran out
 abbrev pub station_fault_status : StationFault → Status

@@ -7,18 +7,18 @@ use std::fmt;
 
 /// What is claimed of a station, and what is assumed besides.
 #[derive(Clone, Copy)]
-pub(crate) struct Premises<'a> {
+pub struct Premises<'a> {
     /// What the station file says.
-    pub(crate) file: &'a StationFile,
+    pub file: &'a StationFile,
     /// What is assumed besides.
-    pub(crate) assumed: ClaimSet,
+    pub assumed: ClaimSet,
     /// The version of the program.
-    pub(crate) version: &'a str,
+    pub version: &'a str,
 }
 
 impl Premises<'_> {
     /// The claims that are in force.
-    pub(crate) fn claims(&self) -> Claims {
+    pub fn claims(&self) -> Claims {
         self.assumed.assumed_in(&self.file.claims)
     }
 
@@ -334,7 +334,7 @@ fn clock_values(file: &StationFile, claims: &Claims) -> [KeyValue; 5] {
 
 /// The first line as an object in JSON.
 #[derive(Clone, Copy)]
-pub(crate) struct PremisesObject<'a>(pub(crate) Premises<'a>);
+pub struct PremisesObject<'a>(pub Premises<'a>);
 
 impl fmt::Display for PremisesObject<'_> {
     fn fmt<W: fmt::Write>(&self, f: &mut fmt::Formatter<W>) -> fmt::Result {

@@ -4,7 +4,7 @@ use std::fmt;
 
 /// A table of a station file.
 #[derive(Clone, Copy)]
-pub(crate) enum TableName {
+pub enum TableName {
     /// What the station is.
     Station,
     /// What its maker claims.

@@ -10,7 +10,7 @@ use std::io::Write;
 
 /// What the value of a key has to be.
 #[derive(Clone, Copy)]
-pub(crate) enum Wanted {
+pub enum Wanted {
     /// An address of 16 hexadecimal digits, which is no group.
     Address,
     /// A link address of 12 hexadecimal digits, which is no group.
@@ -46,7 +46,7 @@ impl fmt::Display for Wanted {
 
 /// Why a station file isn't read. It prints as the line on standard error.
 #[derive(Drop)]
-pub(crate) enum StationFault<'a> {
+pub enum StationFault<'a> {
     /// It isn't TOML, from this line on.
     NotToml(usize),
     /// The key has another value than it may have.
@@ -94,7 +94,7 @@ impl fmt::Display for Reason {
 }
 
 impl CommandFault for StationFault<'_> {
-    ghost use Rattle.cmd_verdict.specs.Faults.{station_fault_status};
+    ghost use Rattle.cmd_iut.specs.Faults.{station_fault_status};
 
     ghost status_of = { station_fault_status };
 

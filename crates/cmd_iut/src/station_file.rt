@@ -20,9 +20,9 @@ pub(crate) enum StampClock {
 
 /// What a station file says.
 #[derive(Clone, Copy)]
-pub(crate) struct StationFile {
+pub struct StationFile {
     /// What is claimed.
-    pub(crate) claims: Claims,
+    pub claims: Claims,
     /// What the stamps are. No duty that is judged asks for it.
     pub(crate) clock: StampClock,
     /// How far they may be from it, in milliseconds.
@@ -192,7 +192,7 @@ impl StationFile {
     /// Reads a station file. The first fault is given: that of the document, of the keys of each
     /// table in the order of the documentation, of unknown tables and keys in the order of the
     /// file.
-    pub(crate) fn read<'f>(alloc: Global, text: &[u8]) -> Result<StationFile, StationFault<'f>> {
+    pub fn read<'f>(alloc: Global, text: &[u8]) -> Result<StationFile, StationFault<'f>> {
         let document = document_of(alloc, text)?;
         let file = StationFile::of(alloc, &document)?;
         refuse_unknown(alloc, text, &document)?;

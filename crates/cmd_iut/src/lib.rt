@@ -1,0 +1,24 @@
+//! What is claimed of a station under test and of a capture: the station file of `verdict`, and the
+//! claims that are assumed besides.
+//!
+//! # What is proved
+//!
+//! A file that is refused ends the command with status 1, and only a file that can't be read, or
+//! memory that runs out, with another (`station_fault_status`).
+//!
+//! # Only tested
+//!
+//! `cases/verdict.md`: the keys, their ranges and defaults, the faults in their order, and the first
+//! line of a report.
+#![tactic(auto)]
+
+mod claim;
+mod fault;
+mod first_line;
+mod station_file;
+mod table_keys;
+
+pub use claim::{Claim, ClaimSet};
+pub use fault::StationFault;
+pub use first_line::{Premises, PremisesObject};
+pub use station_file::StationFile;
