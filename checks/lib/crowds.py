@@ -1,10 +1,12 @@
-"""Captures in which very many records have one stamp, so that all of them wait for a later one."""
+"""Captures of which not all can be kept: very many records have one stamp, so that all of them wait
+for a later one, or very many are not read."""
 
 from __future__ import annotations
 
 import subprocess
 import sys
 from collections import Counter
+from dataclasses import replace
 from pathlib import Path
 
 from program import PROGRAM
@@ -13,7 +15,12 @@ from verdict_frames import (
     CLAIMS,
     FAR,
     HOME,
+    IEEE80211,
+    LIFE,
     NEAR,
+    RETRY,
+    RETRY_TIME,
+    SECURED,
     STATION,
     Sent,
     beacon,
@@ -21,10 +28,12 @@ from verdict_frames import (
     judge,
     relay,
     shb,
+    wireless,
     write_pcap,
 )
 
 WAITING = 16_384  # so many records wait at most
+UNREAD = 65_536  # so many records that are not read are kept
 DOUBTFUL = 200  # packets that were never received
 SENT = 400_000  # own packets of the capture that is judged for its memory
 MOST_KIB = 64 * 1024
@@ -84,6 +93,58 @@ def check_memory(folder: Path) -> int:
     return SENT
 
 
+def spread(first: int, last: int) -> list[int]:
+    """As many times as records are kept, from the first to the last."""
+    return [first + n * (last - first + 1) // UNREAD for n in range(UNREAD)]
+
+
+def check_again(folder: Path) -> int:
+    """A record that isn't read, which the link sent at both sides of the begin of the time that
+    counts, and before it last by the order of the file. So many others come after that time that
+    both sendings have to give way."""
+    at, skew = 2 * QUIET, 1
+    unread = replace(shb(at - LIFE, NEAR), changes=SECURED).frame()
+    other = wireless(replace(shb(at, FAR), changes=SECURED).frame())
+    records = [
+        (0, wireless(beacon(0, NEAR).frame())),
+        (at - LIFE, wireless(unread)),
+        (at - LIFE - 1, wireless(unread, RETRY)),
+        (at, wireless(never(at, 1).frame())),
+        *((moment, other) for moment in spread(at + 5, at + RETRY_TIME)),
+        (at + QUIET, wireless(beacon(at + QUIET, NEAR).frame())),
+    ]
+    capture = folder / "again.pcap"
+    write_pcap(capture, [(BEGIN + moment, frame) for moment, frame in records], IEEE80211)
+    lines = judge(folder, capture, claims_with(skew), (0,))[1:-1]
+    found = [(line["record"], line["result"]) for line in lines if line["duty"] == "D13"]
+    if found != [(3, "inconclusive")]:
+        sys.exit(f"a record that isn't read and gave way: {found}")
+    return len(records)
+
+
+def check_hidden(folder: Path) -> int:
+    """A record that may be an own packet, as little of it is in the capture. So many come after the
+    time that counts for a beacon that it has to give way."""
+    at, cut = QUIET, 50
+    own = [(moment, wireless(beacon(moment, STATION).frame())) for moment in (0, at)]
+    records = [
+        own[0],
+        (at - 1_000, bytes(4)),
+        own[1],
+        *((moment, bytes(4)) for moment in spread(at + 4, at + 3 + RETRY_TIME)),
+        (at + QUIET, wireless(beacon(at + QUIET, NEAR).frame())),
+    ]
+    capture = folder / "hidden.pcap"
+    frames = [(BEGIN + moment, frame) for moment, frame in records]
+    write_pcap(capture, frames, IEEE80211, cut)
+    lines = judge(folder, capture, claims_with(0), (0,))[1:-1]
+    found = [(line["record"], line["result"]) for line in lines if line["duty"] == "D10"]
+    if found != [(2, "inconclusive")]:
+        sys.exit(f"a record that may be an own packet and gave way: {found}")
+    return len(records)
+
+
 def check_crowds(folder: Path) -> int:
     """Returns how many records there are."""
-    return check_crowd(folder, 0) + check_crowd(folder, 1) + check_memory(folder)
+    crowds = check_crowd(folder, 0) + check_crowd(folder, 1) + check_memory(folder)
+    return crowds + check_again(folder) + check_hidden(folder)

@@ -10,7 +10,6 @@ import sys
 from dataclasses import dataclass, replace
 from pathlib import Path
 
-from standard.packets import LINK
 from verdict_frames import (
     BEGIN,
     CLAIMS,
@@ -19,6 +18,7 @@ from verdict_frames import (
     LIFE,
     NEAR,
     REMEMBER,
+    SECURED,
     STATION,
     WITHIN,
     Sent,
@@ -32,7 +32,6 @@ from verdict_frames import (
 )
 
 FIRST = "the first time"
-SECURED = ((LINK, 0x12),)  # octet 0 of a packet: version 1, then a secured packet
 AROUND = WITHIN + 2  # W + 2K in ms, with a skew of 0
 
 

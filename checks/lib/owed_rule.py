@@ -6,12 +6,13 @@ import sys
 from dataclasses import dataclass, replace
 from pathlib import Path
 
-from once_rule import AROUND, SECURED, claims_of
+from once_rule import AROUND, claims_of
 from verdict_frames import (
     AWAY,
     FAR,
     LIFE,
     NEAR,
+    SECURED,
     STATION,
     WITHIN,
     Sent,

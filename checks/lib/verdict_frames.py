@@ -13,7 +13,7 @@ from pathlib import Path
 
 from program import PROGRAM
 from standard.areas import Area
-from standard.packets import Packet, Vector, encode, mid
+from standard.packets import LINK, Packet, Vector, encode, mid
 
 STATION, NEAR, FAR = 0x1400_0200_0000_0100, 0x1400_0200_0000_0200, 0x1400_0200_0000_0201
 CLAIMS = """[station]
@@ -45,15 +45,24 @@ HOME = 115000000  # the longitude of the station that is judged
 OUTSIDE = "outside the area: not judged"
 BEGIN = 1_795_572_000_000  # ms since 1970, of the first record
 IEEE80211, RETRY = 105, 0x08  # a link type, and the retry bit
+RETRY_TIME = 100  # ms for which the link may send a frame again
+SECURED = ((LINK, 0x12),)  # octet 0 of a packet: version 1, then a secured packet
 
 
-def write_pcap(path: Path, records: list[tuple[int, bytes]], link: int = 1) -> None:
-    """A pcap file of Ethernet or of this link type, with times in ms."""
+def write_pcap(path: Path, records: list[tuple[int, bytes]], link: int = 1, cut: int = 0) -> None:
+    """A pcap file of Ethernet or of this link type, with times in ms. Frames of fewer octets than
+    `cut` are what the capture has of so many."""
     with path.open("wb") as file:
         file.write(struct.pack("<IHHiIII", 0xA1B2C3D4, 2, 4, 0, 0, 65535, link))
         for moment, frame in records:
             seconds, left, size = moment // 1000, moment % 1000 * 1000, len(frame)
-            file.write(struct.pack("<IIII", seconds, left, size, size) + frame)
+            file.write(struct.pack("<IIII", seconds, left, size, max(size, cut)) + frame)
+
+
+def wireless(frame: bytes, flags: int = 0) -> bytes:
+    """The QoS data frame of IEEE 802.11, outside of a BSS, of a frame of Ethernet."""
+    header = bytes([0x88, flags, 0, 0]) + frame[:12] + b"\xff" * 6 + bytes(4)
+    return header + bytes.fromhex("aaaa03000000") + frame[12:]
 
 
 def judge(folder: Path, capture: Path, claims: str, status: tuple[int, ...]) -> list[dict]:

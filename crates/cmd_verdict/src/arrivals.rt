@@ -1,5 +1,6 @@
 //! Records in the order of their stamps.
 
+use crate::kept_size::STAMP;
 use crate::seen_record::SeenRecord;
 use std::alloc::{AllocError, Global};
 use std::collections::VecDeque;
@@ -7,7 +8,7 @@ use std::collections::VecDeque;
 /// How many records wait at most.
 const MOST: usize = 16384;
 
-/// How many octets they have at most.
+/// How many octets are kept of them at most.
 const MOST_OCTETS: usize = 1 << 22;
 
 /// How many repeats of one of them are noted at most.
@@ -19,7 +20,7 @@ const MOST_REPEATS: usize = 4096;
 pub(crate) struct Arrivals {
     alloc: Global,
     waiting: VecDeque<SeenRecord>,
-    /// How many octets they have.
+    /// How many octets are kept of them.
     octets: usize,
     /// The greatest stamp so far.
     greatest: u64,
@@ -47,7 +48,7 @@ impl Arrivals {
     /// Adds the next record of the file.
     pub(crate) fn add(&mut self, record: SeenRecord) -> Result<(), AllocError> {
         self.greatest = self.greatest.max(record.stamp);
-        self.octets = self.octets.saturating_add(record.octets.len());
+        self.octets = self.octets.saturating_add(record.size());
         let mut later = Vec::new(self.alloc);
         for _ in 0..self.waiting.len() {
             match self.take_later(record.stamp) {
@@ -96,7 +97,7 @@ impl Arrivals {
     /// Takes the first record, whether another one can come before it or not.
     pub(crate) fn take_first(&mut self) -> Option<SeenRecord> {
         let first = self.waiting.pop_front()?;
-        self.octets = self.octets.saturating_sub(first.octets.len());
+        self.octets = self.octets.saturating_sub(first.size());
         Some(first)
     }
 
@@ -108,6 +109,7 @@ impl Arrivals {
             let has_room = later.repeats.len() < MOST_REPEATS;
             if has_room && later.stamp <= last && is_same_sending(later, record) {
                 later.repeats.push(record.stamp)?;
+                self.octets = self.octets.saturating_add(STAMP);
                 return Ok(true);
             }
         }

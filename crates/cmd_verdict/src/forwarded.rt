@@ -3,10 +3,12 @@
 use crate::case::is_fail;
 use crate::heard_numbers::{HeardNumbers, PacketId};
 use crate::heard_sources::HeardSources;
+use crate::lost::Lost;
 use crate::seen_record::{NANOS, SeenRecord};
 use crate::stretch::Stretch;
 use crate::unread::{UnreadIn, UnreadRecord, UnreadRecords};
 use its_duties::{Claims, EarlierRelay, RelayAgain, judge_once, slack, wait};
+use its_gnvalue::GnAddress;
 use its_linkframe::FrameView;
 use std::alloc::{AllocError, Global};
 use std::collections::VecDeque;
@@ -28,6 +30,16 @@ pub(crate) struct ForwardedPacket {
 }
 
 impl ForwardedPacket {
+    /// The one of a record, if its packet is one for an area.
+    pub(crate) fn of(record: &SeenRecord, frame: &FrameView<'_>) -> Option<ForwardedPacket> {
+        Some(ForwardedPacket {
+            record: record.number,
+            stamp: record.stamp,
+            retried: record.is_retry(),
+            packet: PacketId::of(frame)?,
+        })
+    }
+
     /// Whether it comes before another one, by stamps and by records.
     fn is_before(&self, other: &ForwardedPacket) -> bool {
         self.stamp < other.stamp || (self.stamp == other.stamp && self.record < other.record)
@@ -164,8 +176,8 @@ pub(crate) fn once_time(claims: &Claims) -> u64 {
 pub(crate) struct ForwardedPackets {
     alloc: Global,
     packets: VecDeque<ForwardedPacket>,
-    /// The last of those that had to give way.
-    lost: Option<u64>,
+    /// Of those that had to give way.
+    lost: Lost,
     /// What the station sent that isn't read and may be a forwarded packet.
     unread: UnreadRecords,
     numbers: HeardNumbers,
@@ -178,7 +190,7 @@ impl ForwardedPackets {
         ForwardedPackets {
             alloc,
             packets: VecDeque::new(alloc),
-            lost: None,
+            lost: Lost::nothing(),
             unread: UnreadRecords::new(alloc),
             numbers: HeardNumbers::new(alloc),
             sources: HeardSources::new(alloc),
@@ -187,12 +199,7 @@ impl ForwardedPackets {
 
     /// Notes that packets may be missing up to this stamp.
     pub(crate) fn lose(&mut self, stamp: u64) {
-        self.lost = Some(stamp.max(self.lost.unwrap_or(0)));
-    }
-
-    /// Whether one may be missing that was sent at this time or later.
-    fn may_lack(&self, from: u64) -> bool {
-        self.lost.is_some_and(|lost| from <= lost)
+        self.lost.lose(stamp);
     }
 
     /// Adds a packet that was forwarded. Those of before `oldest` are forgotten.
@@ -243,16 +250,15 @@ impl ForwardedPackets {
         self.numbers.add(record, frame, oldest)
     }
 
-    /// Adds another sending of a frame that was heard first in this record.
+    /// Adds another sending of a frame of this source that was heard first in this record.
     pub(crate) fn repeat_heard(
         &mut self,
         first: u64,
         stamp: u64,
-        frame: &FrameView<'_>,
+        source: GnAddress,
         settled: u64,
         oldest: u64,
     ) -> Result<(), AllocError> {
-        let source = frame.packet.vector().address();
         self.sources.add(source, stamp, settled, oldest)?;
         self.numbers.repeat(first, stamp)
     }
@@ -317,7 +323,7 @@ impl ForwardedPackets {
         FoundNone {
             begins: begin.saturating_add(counted_time(claims)) <= stamp,
             unread: self.unread.within(from, stamp),
-            too_many: self.may_lack(from),
+            too_many: self.lost.may_lack(from),
         }
     }
 
@@ -348,7 +354,7 @@ impl ForwardedPackets {
             sources: self.sources.count(all.stretch),
             sources_begin: all.is_after(begin),
             unread: unread.within(all.stretch.from, all.stretch.to),
-            too_many: self.may_lack(all.stretch.from)
+            too_many: self.lost.may_lack(all.stretch.from)
                 || self.numbers.may_lack(others.stretch.from)
                 || self.sources.may_lack(all.stretch.from),
         })

@@ -1,6 +1,8 @@
 //! The packets for areas that the station may have heard.
 
 use crate::heard_numbers::PacketId;
+use crate::kept_size::{STAMP, kept_size};
+use crate::lost::Lost;
 use crate::seen_record::SeenRecord;
 use its_duties::Claims;
 use its_gnvalue::{GnAddress, Hops, Lifetime};
@@ -13,9 +15,6 @@ const MOST_OCTETS: usize = 1 << 20;
 
 /// How many octets of packets are kept at most.
 const MOST_NEAR_OCTETS: usize = 1 << 22;
-
-/// How many octets the stamp of a repeat has.
-const STAMP: usize = 8;
 
 /// Where the lifetime and the remaining hops stand in a packet.
 const LIFETIME: usize = 2;
@@ -40,8 +39,7 @@ pub(crate) struct HeardPacket {
 impl HeardPacket {
     /// How many octets are kept of it.
     fn size(&self) -> usize {
-        let repeats = self.repeats.len().saturating_mul(STAMP);
-        self.octets.len().saturating_add(repeats)
+        kept_size(self.octets.len(), self.repeats.len())
     }
 
     /// Whether it has this source and number.
@@ -125,8 +123,8 @@ pub(crate) struct HeardPackets {
     packets: VecDeque<HeardPacket>,
     /// How many octets they have.
     octets: usize,
-    /// The last sending of those that had to give way, if any had to.
-    lost: Option<u64>,
+    /// What had to give way, by its last sending.
+    lost: Lost,
 }
 
 impl HeardPackets {
@@ -136,7 +134,7 @@ impl HeardPackets {
             alloc,
             packets: VecDeque::new(alloc),
             octets: 0,
-            lost: None,
+            lost: Lost::nothing(),
         }
     }
 
@@ -157,15 +155,12 @@ impl HeardPackets {
 
     /// Whether one may be missing that was sent at this time or later.
     pub(crate) fn may_lack(&self, from: u64) -> bool {
-        match self.lost {
-            Some(lost) => from <= lost,
-            None => false,
-        }
+        self.lost.may_lack(from)
     }
 
     /// Notes that packets may be missing up to this stamp.
     pub(crate) fn lose(&mut self, stamp: u64) {
-        self.lost = Some(stamp.max(self.lost.unwrap_or(0)));
+        self.lost.lose(stamp);
     }
 
     /// Adds the packet of a record, if it is one for an area. Those of before `oldest` are

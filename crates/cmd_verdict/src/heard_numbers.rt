@@ -1,5 +1,6 @@
 //! The sequence numbers that the station may have heard of each source.
 
+use crate::lost::Lost;
 use crate::seen_record::SeenRecord;
 use crate::stretch::Stretch;
 use its_gnvalue::GnAddress;
@@ -15,6 +16,15 @@ const MOST: usize = 65536;
 pub(crate) struct PacketId {
     pub(crate) source: GnAddress,
     pub(crate) sequence: u16,
+}
+
+impl PacketId {
+    /// That of a frame, if its packet is one for an area.
+    pub(crate) fn of(frame: &FrameView<'_>) -> Option<PacketId> {
+        let sequence = frame.packet.number()?;
+        let source = frame.packet.vector().address();
+        Some(PacketId { source, sequence })
+    }
 }
 
 /// A sending of a packet for an area.
@@ -43,8 +53,8 @@ impl NumberSending {
 pub(crate) struct HeardNumbers {
     alloc: Global,
     sendings: VecDeque<NumberSending>,
-    /// The last sending of those that had to give way, if any had to.
-    lost: Option<u64>,
+    /// What had to give way.
+    lost: Lost,
 }
 
 impl HeardNumbers {
@@ -53,16 +63,13 @@ impl HeardNumbers {
         HeardNumbers {
             alloc,
             sendings: VecDeque::new(alloc),
-            lost: None,
+            lost: Lost::nothing(),
         }
     }
 
     /// Whether one may be missing that was sent at this time or later.
     pub(crate) fn may_lack(&self, from: u64) -> bool {
-        match self.lost {
-            Some(lost) => from <= lost,
-            None => false,
-        }
+        self.lost.may_lack(from)
     }
 
     /// Adds the packet of a record, if it is one for an area. Those sent before `oldest` are
@@ -73,11 +80,10 @@ impl HeardNumbers {
         frame: &FrameView<'_>,
         oldest: u64,
     ) -> Result<(), AllocError> {
-        let Some(sequence) = frame.packet.number() else {
+        let Some(packet) = PacketId::of(frame) else {
             return Ok(());
         };
         self.forget(oldest);
-        let source = frame.packet.vector().address();
         let mut before = None;
         // The repeats that come with a record were sent before it, by their stamps.
         for stamp in record.repeats.iter() {
@@ -85,7 +91,7 @@ impl HeardNumbers {
                 record: record.number,
                 stamp: *stamp,
                 before,
-                packet: PacketId { source, sequence },
+                packet,
             })?;
             before = Some(*stamp);
         }
@@ -93,7 +99,7 @@ impl HeardNumbers {
             record: record.number,
             stamp: record.stamp,
             before,
-            packet: PacketId { source, sequence },
+            packet,
         })
     }
 
@@ -102,7 +108,7 @@ impl HeardNumbers {
         if MOST <= self.sendings.len()
             && let Some(first) = self.sendings.pop_front()
         {
-            self.lost = Some(first.stamp.max(self.lost.unwrap_or(0)));
+            self.lost.lose(first.stamp);
         }
         self.sendings.push_back(sending)?;
         Ok(())

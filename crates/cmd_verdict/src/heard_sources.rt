@@ -1,5 +1,6 @@
 //! How many sources the station may have heard.
 
+use crate::lost::Lost;
 use crate::seen_record::NANOS;
 use crate::stretch::Stretch;
 use its_gnvalue::GnAddress;
@@ -25,8 +26,8 @@ pub(crate) struct HeardSources {
     stamps: usize,
     /// When sources were forgotten last.
     forgotten: Option<u64>,
-    /// The last stamp of those that are not kept, if one isn't.
-    lost: Option<u64>,
+    /// What is not kept.
+    lost: Lost,
 }
 
 impl HeardSources {
@@ -37,16 +38,13 @@ impl HeardSources {
             sources: BTreeMap::new(alloc),
             stamps: 0,
             forgotten: None,
-            lost: None,
+            lost: Lost::nothing(),
         }
     }
 
     /// Whether one may be missing that was heard at this time or later.
     pub(crate) fn may_lack(&self, from: u64) -> bool {
-        match self.lost {
-            Some(lost) => from <= lost,
-            None => false,
-        }
+        self.lost.may_lack(from)
     }
 
     /// Adds a source that was heard. The stretches that are asked for from now on go to `settled` at
@@ -64,7 +62,7 @@ impl HeardSources {
         }
         let is_new = !self.sources.contains_key(&source);
         if MOST_STAMPS <= self.stamps || (is_new && MOST <= self.sources.len()) {
-            self.lost = Some(stamp.max(self.lost.unwrap_or(0)));
+            self.lost.lose(stamp);
             return Ok(());
         }
         let stamps = self.sources.entry(source)?.or_insert(Vec::new(self.alloc));

@@ -1,102 +1,16 @@
 //! Whether a packet that was heard was forwarded, and what makes it sure that it had to be.
 
-use crate::forwarded::{ForwardedPackets, life};
-use crate::heard::{HeardPacket, HeardPackets};
+use crate::forwarded::life;
+use crate::heard::HeardPacket;
 use crate::heard_numbers::PacketId;
+use crate::near_relays::NearRelay;
 use crate::repeats::RETRY_TIME;
 use crate::seen_record::SeenRecord;
 use crate::source_runs::KnownSince;
 use crate::stretch::Stretch;
-use crate::unread::{UnreadIn, UnreadRecords};
+use crate::tap::Tap;
+use crate::unread::UnreadIn;
 use its_duties::{Claims, OwedSearch, RelaySeen, lag, slack, wait};
-use its_linkframe::FrameView;
-use std::alloc::{AllocError, Global};
-use std::collections::VecDeque;
-
-/// How many octets of forwarded packets are kept at most.
-const MOST_OCTETS: usize = 1 << 20;
-
-/// A packet that the station forwarded not long ago.
-#[derive(Drop)]
-pub(crate) struct NearRelay {
-    record: u64,
-    stamp: u64,
-    retried: bool,
-    packet: PacketId,
-    left: u8,
-    octets: Vec<u8>,
-}
-
-/// The packets that the station forwarded not long ago.
-#[derive(Drop)]
-pub(crate) struct NearRelays {
-    alloc: Global,
-    relays: VecDeque<NearRelay>,
-    octets: usize,
-    /// The last of those that were forgotten.
-    lost: Option<u64>,
-}
-
-impl NearRelays {
-    /// None yet.
-    pub(crate) fn new(alloc: Global) -> NearRelays {
-        NearRelays {
-            alloc,
-            relays: VecDeque::new(alloc),
-            octets: 0,
-            lost: None,
-        }
-    }
-
-    /// Whether one may be missing that was sent at this time or later.
-    fn may_lack(&self, from: u64) -> bool {
-        self.lost.is_some_and(|lost| from <= lost)
-    }
-
-    /// Adds a packet for an area. Those of before `oldest` are forgotten.
-    pub(crate) fn add(
-        &mut self,
-        record: &SeenRecord,
-        frame: &FrameView<'_>,
-        retried: bool,
-        oldest: u64,
-    ) -> Result<(), AllocError> {
-        let Some(sequence) = frame.packet.number() else {
-            return Ok(());
-        };
-        let source = frame.packet.vector().address();
-        let mut octets = Vec::new(self.alloc);
-        octets.extend_from_slice(frame.packet.octets())?;
-        self.octets = self.octets.saturating_add(octets.len());
-        self.relays.push_back(NearRelay {
-            record: record.number,
-            stamp: record.stamp,
-            retried,
-            packet: PacketId { source, sequence },
-            left: frame.packet.left(),
-            octets,
-        })?;
-        self.forget(oldest);
-        Ok(())
-    }
-
-    /// Forgets the first ones.
-    fn forget(&mut self, oldest: u64) {
-        for _ in 0..self.relays.len() {
-            let Some(first) = self.relays.front() else {
-                return;
-            };
-            let stamp = first.stamp;
-            if oldest <= stamp && self.octets <= MOST_OCTETS {
-                return;
-            }
-            self.lost = Some(stamp.max(self.lost.unwrap_or(0)));
-            if let Some(first) = self.relays.pop_front() {
-                self.octets = self.octets.saturating_sub(first.octets.len());
-            }
-        }
-    }
-}
 
 /// A heard packet that may be owed.
 #[derive(Clone, Copy)]
@@ -106,17 +20,18 @@ pub(crate) struct HeardFrame<'a> {
     pub(crate) since: KnownSince,
 }
 
+/// When a capture begins, and up to when it is complete.
+#[derive(Clone, Copy)]
+pub(crate) struct CaptureTimes {
+    pub(crate) begin: u64,
+    pub(crate) end: u64,
+}
+
 /// What was kept of a capture, by which a heard packet is judged.
 #[derive(Clone, Copy)]
 pub(crate) struct Kept<'a> {
-    pub(crate) claims: &'a Claims,
-    pub(crate) heard: &'a HeardPackets,
-    pub(crate) unread: &'a UnreadRecords,
-    pub(crate) forwarded: &'a ForwardedPackets,
-    pub(crate) relays: &'a NearRelays,
-    /// The first stamp, and the last one up to which the capture is complete.
-    pub(crate) begin: u64,
-    pub(crate) end: u64,
+    pub(crate) tap: &'a Tap,
+    pub(crate) times: CaptureTimes,
 }
 
 /// The frame that a heard packet caused.
@@ -131,6 +46,24 @@ pub(crate) enum Caused {
     None,
 }
 
+/// What may be missing of what a heard packet is judged by.
+#[derive(Clone, Copy)]
+pub(crate) struct Gaps {
+    /// A record isn't read that may have its source.
+    pub(crate) unread: Option<UnreadIn>,
+    /// A frame that the station may have sent isn't read.
+    pub(crate) sent_unread: Option<UnreadIn>,
+    /// What was heard or forwarded had to give way.
+    pub(crate) too_many: bool,
+}
+
+impl Gaps {
+    /// Whether nothing is missing.
+    fn is_empty(self) -> bool {
+        self.unread.is_none() && self.sent_unread.is_none() && !self.too_many
+    }
+}
+
 /// What was found of a heard packet.
 #[derive(Clone, Copy)]
 pub(crate) struct FoundOwed {
@@ -140,11 +73,7 @@ pub(crate) struct FoundOwed {
     pub(crate) is_fresh: bool,
     /// The first record of its number that is no copy of it.
     pub(crate) other: Option<u64>,
-    pub(crate) unread: Option<UnreadIn>,
-    /// A frame that the station may have sent isn't read.
-    pub(crate) sent_unread: Option<UnreadIn>,
-    /// What was heard or forwarded had to give way.
-    pub(crate) too_many: bool,
+    pub(crate) gaps: Gaps,
 }
 
 /// The copies of a heard packet that came beside it.
@@ -200,50 +129,59 @@ fn is_made_from(claims: &Claims, packet: &HeardPacket, relay: &NearRelay) -> boo
 impl Kept<'_> {
     /// Finds what is known of a heard packet.
     pub(crate) fn find(&self, frame: HeardFrame<'_>) -> FoundOwed {
-        let claims = self.claims;
+        let claims = &self.tap.claims;
         let (first, last) = sent_from_to(frame.record);
-        let doubt = slack(claims).saturating_mul(2);
         let to = last.saturating_add(span(claims));
         let (from, is_fresh) = self.known_from(frame.since);
         let start = from.unwrap_or(first);
-        let own = self.heard.of_record(frame.record.number);
+        let own = self.tap.heard.of_record(frame.record.number);
         let copies = self.copies(frame, own, start, Stretch { from: first, to });
+        let before = first.saturating_sub(slack(claims).saturating_mul(2));
         let until = copies.until.saturating_add(span(claims));
-        let before = first.saturating_sub(doubt);
-        let sent_until = until.saturating_add(RETRY_TIME);
-        let unread = self.unread.within(start, to);
-        let sent_unread = self.forwarded.unread_in(before, sent_until);
-        let too_many =
-            own.is_none() || self.heard.may_lack(first) || self.relays.may_lack(before);
-        let caused = self.caused(
-            frame,
-            own,
-            copies.is_new,
-            Stretch {
-                from: before,
-                to: until,
-            },
-        );
-        let back = first.saturating_sub(reach(claims));
+        let sent = Stretch {
+            from: before,
+            to: until,
+        };
+        let caused = self.caused(frame, own, copies.is_new, sent);
+        let mut gaps = self.gaps(Stretch { from: start, to }, sent);
+        gaps.too_many = gaps.too_many || own.is_none() || self.tap.heard.may_lack(first);
         FoundOwed {
             search: OwedSearch {
                 relay: relay_seen(caused),
                 known_target: frame.record.known_target,
-                late: self.begin.saturating_add(doubt) <= first,
+                late: self
+                    .times
+                    .begin
+                    .saturating_add(slack(claims).saturating_mul(2))
+                    <= first,
                 known_from: from.is_some(),
                 new: copies.is_new,
                 copies: copies.other.is_none(),
-                sources: self.forwarded.sources_in(Stretch { from: back, to }),
+                sources: self.sources(first, to),
                 goes_on: self.goes_on(frame.record.is_wireless() || copies.repeated, until),
-                all_read: unread.is_none() && sent_unread.is_none() && !too_many,
+                all_read: gaps.is_empty(),
             },
             caused,
             is_fresh,
             other: copies.other,
-            unread,
-            sent_unread,
-            too_many,
+            gaps,
         }
+    }
+
+    /// What isn't read of what was heard, and of what the station sent, in these stretches.
+    fn gaps(&self, heard: Stretch, sent: Stretch) -> Gaps {
+        let sent_until = sent.to.saturating_add(RETRY_TIME);
+        Gaps {
+            unread: self.tap.unread.within(heard.from, heard.to),
+            sent_unread: self.tap.forwarded.unread_in(sent.from, sent_until),
+            too_many: self.tap.relays.may_lack(sent.from),
+        }
+    }
+
+    /// How many sources count for a packet that was sent first at this stamp, up to another one.
+    fn sources(&self, first: u64, to: u64) -> u32 {
+        let from = first.saturating_sub(reach(&self.tap.claims));
+        self.tap.forwarded.sources_in(Stretch { from, to })
     }
 
     /// From which stamp on it is known what was heard of a source, if from one. `true`: it is known
@@ -252,21 +190,21 @@ impl Kept<'_> {
         let Some(oldest) = since.oldest else {
             return (None, false);
         };
-        let reach = reach(self.claims);
-        if self.begin.saturating_add(reach) <= oldest {
+        let reach = reach(&self.tap.claims);
+        if self.times.begin.saturating_add(reach) <= oldest {
             return (Some(oldest.saturating_sub(reach)), false);
         }
-        (self.claims.fresh.then_some(0), true)
+        (self.tap.claims.fresh.then_some(0), true)
     }
 
     /// Whether the capture has each frame that a packet may have caused up to this time.
     fn goes_on(&self, wireless: bool, until: u64) -> bool {
         let retries = if wireless { RETRY_TIME } else { 0 };
         let needed = until
-            .saturating_add(lag(self.claims))
-            .saturating_add(wait(self.claims))
+            .saturating_add(lag(&self.tap.claims))
+            .saturating_add(wait(&self.tap.claims))
             .saturating_add(retries);
-        needed <= self.end
+        needed <= self.times.end
     }
 
     /// The copies that came beside a packet. `start`: since when its number is new.
@@ -287,13 +225,13 @@ impl Kept<'_> {
         let Some(own) = own else {
             return copies;
         };
-        for packet in self.heard.packets().iter() {
+        for packet in self.tap.heard.packets().iter() {
             let is_other = packet.number != frame.record.number;
             if is_other && packet.is_of(frame.packet) {
                 if packet.lies_in(beside.from, beside.to) {
                     copies.until = copies.until.max(packet.last_sending());
                     copies.repeated = copies.repeated || packet.is_repeated();
-                    let is_copy = own.is_copy(self.claims, packet.octets.as_slice());
+                    let is_copy = own.is_copy(&self.tap.claims, packet.octets.as_slice());
                     if !(is_copy && 2 <= packet.hops.left()) {
                         copies.other = copies.other.or(Some(packet.number));
                     }
@@ -314,14 +252,14 @@ impl Kept<'_> {
         sent: Stretch,
     ) -> Caused {
         let mut caused = Caused::None;
-        for relay in self.relays.relays.iter() {
+        for relay in self.tap.relays.relays().iter() {
             let later = if relay.retried { RETRY_TIME } else { 0 };
             let is_then = sent.from <= relay.stamp && relay.stamp <= sent.to.saturating_add(later);
             if relay.packet != frame.packet || !is_then {
                 continue;
             }
             if let Some(own) = own
-                && is_made_from(self.claims, own, relay)
+                && is_made_from(&self.tap.claims, own, relay)
             {
                 return Caused::Frame(relay.record);
             }
@@ -345,10 +283,10 @@ impl Kept<'_> {
         let Some(own) = own else {
             return false;
         };
-        for packet in self.heard.packets().iter() {
+        for packet in self.tap.heard.packets().iter() {
             if packet.is_of(frame.packet)
-                && own.is_copy(self.claims, packet.octets.as_slice())
-                && is_made_from(self.claims, packet, relay)
+                && own.is_copy(&self.tap.claims, packet.octets.as_slice())
+                && is_made_from(&self.tap.claims, packet, relay)
             {
                 return true;
             }

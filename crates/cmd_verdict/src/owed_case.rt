@@ -1,20 +1,39 @@
 //! The verdict on whether a packet that was heard was forwarded.
 
 use crate::case::{Case, Needs, is_fail};
-use crate::owed::{Caused, FoundOwed};
+use crate::heard_numbers::PacketId;
+use crate::owed::{CaptureTimes, Caused, FoundOwed, HeardFrame, Kept};
+use crate::tap::Tap;
 use crate::text::Text;
 use crate::unread::UnreadIn;
+use crate::waiting::Waiting;
 use its_duties::{
-    AreaForwarding, Claims, Doubt, Duty, NotOwed, OwedSearch, Verdict, judge_relay_owed,
+    AreaForwarding, Claims, Doubt, Duty, NotOwed, OwedSearch, Verdict, judge_forward,
 };
 use its_linkframe::FrameView;
 
 /// The room of a table that is as large as a claim can make it.
 const LARGEST: u32 = 4096;
 
-/// The verdict on a heard packet. `None` if it need not be forwarded.
-pub(crate) fn owed_case(claims: &Claims, frame: &FrameView<'_>, found: &FoundOwed) -> Option<Case> {
-    let verdict = judge_relay_owed(claims, frame, found.search);
+/// The verdict on a packet for an area that was heard, by what is kept. `None` if it need not be
+/// forwarded.
+pub(crate) fn owed_case_of(
+    tap: &Tap,
+    waiting: &Waiting,
+    frame: &FrameView<'_>,
+    times: CaptureTimes,
+) -> Option<Case> {
+    let found = Kept { tap, times }.find(HeardFrame {
+        record: &waiting.record,
+        packet: PacketId::of(frame)?,
+        since: waiting.met.since?,
+    });
+    owed_case(&tap.claims, frame, &found)
+}
+
+/// The verdict by what was found.
+fn owed_case(claims: &Claims, frame: &FrameView<'_>, found: &FoundOwed) -> Option<Case> {
+    let verdict = judge_forward(claims, frame, found.search);
     let duty = Duty::Forward;
     match verdict {
         None => None,
@@ -46,7 +65,7 @@ fn doubt_text(doubt: Doubt, found: &FoundOwed) -> Text {
         return Text::TooMany;
     };
     match (why, found.caused) {
-        (NotOwed::NotRead, _) => match found.unread.or(found.sent_unread) {
+        (NotOwed::NotRead, _) => match found.gaps.unread.or(found.gaps.sent_unread) {
             Some(unread) => Text::NotOwed(why, unread.first),
             None => Text::TooMany,
         },
@@ -71,13 +90,15 @@ fn owed_needs(claims: &Claims, frame: &FrameView<'_>, found: &FoundOwed) -> Need
         fresh: true,
         ..*claims
     };
-    let helps = is_helped(found.unread) && found.sent_unread.is_none() && !found.too_many;
+    let helps = is_helped(found.gaps.unread)
+        && found.gaps.sent_unread.is_none()
+        && !found.gaps.too_many;
     let search = OwedSearch {
         known_from: found.search.known_from || found.is_fresh,
         all_read: helps,
         ..found.search
     };
-    let is_owed = match judge_relay_owed(&all, frame, search) {
+    let is_owed = match judge_forward(&all, frame, search) {
         Some(verdict) => is_fail(&verdict),
         None => false,
     };
@@ -87,7 +108,7 @@ fn owed_needs(claims: &Claims, frame: &FrameView<'_>, found: &FoundOwed) -> Need
     Needs {
         area: claims.area != AreaForwarding::Simple,
         capacity: claims.capacity.is_none(),
-        profile: found.unread.is_some(),
+        profile: found.gaps.unread.is_some(),
         steady: !claims.steady,
         fresh: !found.search.known_from,
         unlimited: !claims.unlimited,

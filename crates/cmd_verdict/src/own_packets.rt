@@ -1,5 +1,6 @@
 //! The station's own packets: those that put its beacon off, and their sequence numbers.
 
+use crate::lost::Lost;
 use crate::seen_record::SeenRecord;
 use its_duties::{BeaconReset, Claims, NumberStep};
 use its_gnvalue::newer;
@@ -57,8 +58,8 @@ pub(crate) struct OwnPackets {
     last: Option<Numbered>,
     /// The octets of the last ones for areas.
     octets: VecDeque<Vec<u8>>,
-    /// Packets may be missing up to this stamp.
-    lost: Option<u64>,
+    /// What had to give way.
+    lost: Lost,
 }
 
 impl OwnPackets {
@@ -70,33 +71,32 @@ impl OwnPackets {
             hidden: VecDeque::new(alloc),
             last: None,
             octets: VecDeque::new(alloc),
-            lost: None,
+            lost: Lost::nothing(),
         }
     }
 
     /// Notes that packets may be missing up to this stamp.
     pub(crate) fn lose(&mut self, stamp: u64) {
-        self.lost = Some(stamp.max(self.lost.unwrap_or(0)));
+        self.lost.lose(stamp);
     }
 
     /// Whether one may be missing that was sent at this time or later.
     pub(crate) fn may_lack(&self, from: u64) -> bool {
-        match self.lost {
-            Some(lost) => from <= lost,
-            None => false,
-        }
+        self.lost.may_lack(from)
     }
 
     /// Adds a record that may be an own packet and isn't read. Those of before `oldest` are
-    /// forgotten, but for the last.
+    /// forgotten.
     pub(crate) fn add_hidden(
         &mut self,
         record: &SeenRecord,
         oldest: u64,
     ) -> Result<(), AllocError> {
         self.forget_hidden(oldest);
-        if MOST <= self.hidden.len() {
-            self.hidden.pop_front();
+        if MOST <= self.hidden.len()
+            && let Some(first) = self.hidden.pop_front()
+        {
+            self.lose(first.stamp);
         }
         self.hidden.push_back(Hidden {
             number: record.number,
@@ -133,8 +133,8 @@ impl OwnPackets {
         claims: &Claims,
         record: &SeenRecord,
         frame: &FrameView<'_>,
-        retried: bool,
     ) -> Result<Option<StepFrom>, AllocError> {
+        let retried = record.is_retry();
         if resets(claims, frame.packet.kind()) {
             if MOST <= self.resets.len()
                 && let Some(first) = self.resets.pop_front()

@@ -1,5 +1,6 @@
 //! The records of a capture, as they are judged.
 
+use crate::kept_size::kept_size;
 use crate::link_header::LinkFrame;
 use cap_linklayers::{LinkFault, LinkLayer, frame_start};
 use cap_pcap::RecordHeader;
@@ -50,6 +51,11 @@ impl SeenRecord {
             },
         };
         role_of(claims, &facts, self.octets.as_slice())
+    }
+
+    /// How many octets are kept of it.
+    pub(crate) fn size(&self) -> usize {
+        kept_size(self.octets.len(), self.repeats.len())
     }
 
     /// Whether it is of IEEE 802.11.

@@ -1,5 +1,6 @@
 //! Since when the station may know each source, and by which numbers.
 
+use crate::lost::Lost;
 use crate::seen_record::NANOS;
 use its_gnvalue::GnAddress;
 use std::alloc::{AllocError, Global};
@@ -46,8 +47,8 @@ pub(crate) struct SourceRuns {
     numbers: usize,
     /// When runs were forgotten last.
     forgotten: Option<u64>,
-    /// The last sending of those that aren't kept, if one isn't.
-    lost: Option<u64>,
+    /// The records that are not kept, by their last sendings.
+    lost: Lost,
 }
 
 impl SourceRuns {
@@ -58,7 +59,7 @@ impl SourceRuns {
             runs: BTreeMap::new(alloc),
             numbers: 0,
             forgotten: None,
-            lost: None,
+            lost: Lost::nothing(),
         }
     }
 
@@ -76,16 +77,13 @@ impl SourceRuns {
             self.forget(first, reach);
         }
         if MOST <= self.runs.len() && !self.runs.contains_key(&source) {
-            self.lose(last);
+            self.lost.lose(last);
             return Ok(KnownSince {
                 oldest: None,
                 is_new: false,
             });
         }
-        let broken = match self.lost {
-            Some(lost) => first <= lost.saturating_add(reach),
-            None => false,
-        };
+        let broken = self.lost.may_lack(first.saturating_sub(reach));
         let has_room = self.numbers < MOST_NUMBERS;
         let fresh = SourceRun {
             oldest: first,
@@ -106,16 +104,11 @@ impl SourceRuns {
         Ok(known)
     }
 
-    /// Notes that a record with this last sending isn't kept.
-    fn lose(&mut self, last: u64) {
-        self.lost = Some(last.max(self.lost.unwrap_or(0)));
-    }
-
     /// Adds another sending of a record of a source.
     pub(crate) fn repeat(&mut self, source: GnAddress, stamp: u64) {
         match self.runs.get_mut(&source.as_u64()) {
             Some(run) => run.last = run.last.max(stamp),
-            None => self.lose(stamp),
+            None => self.lost.lose(stamp),
         }
     }
 

@@ -1,11 +1,11 @@
 //! The records that are not judged yet.
 
+use crate::kept_size::STAMP;
 use crate::owed::{owed_time, sent_from_to};
-use crate::own_packets::StepFrom;
 use crate::repeats::RETRY_TIME;
 use crate::seen_record::SeenRecord;
-use crate::source_runs::KnownSince;
-use its_duties::{Claims, Role, doubt_between};
+use crate::tap::MetRecord;
+use its_duties::{Claims, doubt_between};
 use std::alloc::{AllocError, Global};
 use std::collections::VecDeque;
 
@@ -15,34 +15,21 @@ const MOST: usize = 16384;
 /// How many octets they have at most.
 const MOST_OCTETS: usize = 1 << 22;
 
-/// How many octets the stamp of a repeat has.
-const STAMP: usize = 8;
-
 /// A record that the station sent, or a packet for an area that it may have heard. It is judged once
 /// the capture has all that it is judged by.
 #[derive(Drop)]
 pub(crate) struct Waiting {
+    /// The record. If its retry bit is set, its first sending isn't in the capture.
     pub(crate) record: SeenRecord,
-    pub(crate) role: Role,
-    /// Its first sending isn't in the capture.
-    pub(crate) retried: bool,
-    /// The step to its sequence number, if there is one.
-    pub(crate) step: Option<StepFrom>,
-    /// What was known of its source, if it was heard and is a packet for an area.
-    pub(crate) since: Option<KnownSince>,
+    /// What was known when it was met.
+    pub(crate) met: MetRecord,
 }
 
 impl Waiting {
-    /// How many octets are kept of it.
-    fn size(&self) -> usize {
-        let repeats = self.record.repeats.len().saturating_mul(STAMP);
-        self.record.octets.len().saturating_add(repeats)
-    }
-
     /// When the capture has all that it is judged by. A frame that the link sends again and again
     /// doesn't put this off without an end.
     fn end(&self, claims: &Claims) -> u64 {
-        if self.since.is_some() {
+        if self.met.since.is_some() {
             let (_, last) = sent_from_to(&self.record);
             let longest = self.record.stamp.saturating_add(RETRY_TIME);
             return last.min(longest).saturating_add(owed_time(claims));
@@ -87,7 +74,7 @@ impl WaitingFrames {
 
     /// Adds one.
     pub(crate) fn add(&mut self, waiting: Waiting) -> Result<(), AllocError> {
-        self.octets = self.octets.saturating_add(waiting.size());
+        self.octets = self.octets.saturating_add(waiting.record.size());
         self.frames.push_back(waiting)?;
         Ok(())
     }
@@ -95,7 +82,7 @@ impl WaitingFrames {
     /// Notes another sending of a record.
     pub(crate) fn repeat(&mut self, number: u64, stamp: u64) -> Result<(), AllocError> {
         for waiting in self.frames.iter_mut() {
-            if waiting.record.number == number && waiting.since.is_some() {
+            if waiting.record.number == number && waiting.met.since.is_some() {
                 waiting.record.repeats.push(stamp)?;
                 self.octets = self.octets.saturating_add(STAMP);
             }
@@ -111,7 +98,7 @@ impl WaitingFrames {
     /// Takes the first one.
     pub(crate) fn take_first(&mut self) -> Option<Waiting> {
         let first = self.frames.pop_front()?;
-        self.octets = self.octets.saturating_sub(first.size());
+        self.octets = self.octets.saturating_sub(first.record.size());
         Some(first)
     }
 
