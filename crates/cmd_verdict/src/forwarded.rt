@@ -176,7 +176,7 @@ pub(crate) fn once_time(claims: &Claims) -> u64 {
 pub(crate) struct ForwardedPackets {
     alloc: Global,
     packets: VecDeque<ForwardedPacket>,
-    /// Of those that had to give way.
+    /// What had to give way.
     lost: Lost,
     /// What the station sent that isn't read and may be a forwarded packet.
     unread: UnreadRecords,
