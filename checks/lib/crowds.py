@@ -127,11 +127,12 @@ def check_hidden(folder: Path) -> int:
     time that counts for a beacon that it has to give way."""
     at, cut = QUIET, 50
     own = [(moment, wireless(beacon(moment, STATION).frame())) for moment in (0, at)]
+    head = own[0][1][:4]
     records = [
         own[0],
-        (at - 1_000, bytes(4)),
+        (at - 1_000, head),
         own[1],
-        *((moment, bytes(4)) for moment in spread(at + 4, at + 3 + RETRY_TIME)),
+        *((moment, head) for moment in spread(at + 4, at + 3 + RETRY_TIME)),
         (at + QUIET, wireless(beacon(at + QUIET, NEAR).frame())),
     ]
     capture = folder / "hidden.pcap"

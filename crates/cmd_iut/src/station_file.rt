@@ -43,7 +43,7 @@ pub(crate) const USUAL_CLOCK_ERROR: u32 = 50;
 
 const MOST_UNTIL: i64 = 9_223_372_036_854;
 
-/// A table of a station file, or none in its place.
+/// A table of a station file, if the file has it.
 #[derive(Clone, Copy)]
 struct Keys<'a> {
     name: TableName,
@@ -152,8 +152,7 @@ impl<'a> Keys<'a> {
         Ok(self.truth_if_any(key)?.unwrap_or(false))
     }
 
-    /// Whether the value of a key is the first of two words. `None` for the second, and if there is
-    /// none.
+    /// Whether the value of a key is the first of two words. `None` if it has no value.
     fn is_first<'f>(
         &self,
         key: &'static str,
@@ -321,7 +320,7 @@ fn mac_of<'f>(keys: &Keys<'_>) -> Result<Option<Mac>, StationFault<'f>> {
     Ok(Some(mac))
 }
 
-/// Its place, if there is one: both coordinates, or none.
+/// Its place, if the file has one: both coordinates.
 fn place_of<'f>(keys: &Keys<'_>) -> Result<Option<Place>, StationFault<'f>> {
     let lat = keys.integer("lat", -900_000_000, 900_000_000)?;
     if lat.is_none() && keys.get("lon").is_some() {

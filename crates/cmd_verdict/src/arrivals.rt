@@ -15,7 +15,7 @@ const MOST_OCTETS: usize = 1 << 22;
 const MOST_REPEATS: usize = 4096;
 
 /// The last records of the file, in the order of their stamps, and of the file if these are equal.
-/// They wait until none can come before them.
+/// They wait until no other record can come before them.
 #[derive(Drop)]
 pub(crate) struct Arrivals {
     alloc: Global,

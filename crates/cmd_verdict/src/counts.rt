@@ -62,7 +62,7 @@ pub(crate) struct VerdictCounts {
 }
 
 impl VerdictCounts {
-    /// None yet.
+    /// No verdicts yet.
     pub(crate) fn new() -> VerdictCounts {
         VerdictCounts {
             counts: [DutyCounts::default(); 15],
@@ -123,7 +123,7 @@ impl VerdictCounts {
         }
     }
 
-    /// Writes the table of the duties that have a verdict, those that have none, and the result.
+    /// Writes the table of the duties that have a verdict, those without one, and the result.
     pub(crate) fn write_table<W: Write>(&self, duties: &DutySet, out: &mut W) -> io::Result<()> {
         let widths = Widths::of(self);
         writeln!(
@@ -226,7 +226,7 @@ impl fmt::Display for CountRow {
     }
 }
 
-/// The last object in JSON: all counts, what has none, and the result.
+/// The last object in JSON: all counts, the duties without a verdict, and the result.
 #[derive(Clone, Copy)]
 pub(crate) struct TotalObject<'a> {
     pub(crate) counts: &'a VerdictCounts,

@@ -185,7 +185,7 @@ pub(crate) struct ForwardedPackets {
 }
 
 impl ForwardedPackets {
-    /// None yet.
+    /// Nothing yet.
     pub(crate) fn new(alloc: Global) -> ForwardedPackets {
         ForwardedPackets {
             alloc,

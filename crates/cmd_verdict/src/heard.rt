@@ -128,7 +128,7 @@ pub(crate) struct HeardPackets {
 }
 
 impl HeardPackets {
-    /// None yet.
+    /// No packets yet.
     pub(crate) fn new(alloc: Global) -> HeardPackets {
         HeardPackets {
             alloc,

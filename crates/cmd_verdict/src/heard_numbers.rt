@@ -58,7 +58,7 @@ pub(crate) struct HeardNumbers {
 }
 
 impl HeardNumbers {
-    /// None yet.
+    /// Nothing yet.
     pub(crate) fn new(alloc: Global) -> HeardNumbers {
         HeardNumbers {
             alloc,

@@ -31,7 +31,7 @@ pub(crate) struct HeardSources {
 }
 
 impl HeardSources {
-    /// None yet.
+    /// No sources yet.
     pub(crate) fn new(alloc: Global) -> HeardSources {
         HeardSources {
             alloc,

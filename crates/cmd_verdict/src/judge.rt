@@ -70,7 +70,7 @@ impl Judge {
         Ok(())
     }
 
-    /// The next record that is met: one that none can come before, or the first if too many wait.
+    /// The next record: one that no other can come before, or the first if too many wait.
     fn next_arrival(&mut self) -> Option<SeenRecord> {
         if let Some(record) = self.arrivals.take() {
             return Some(record);

@@ -32,7 +32,7 @@ pub(crate) struct NearRelays {
 }
 
 impl NearRelays {
-    /// None yet.
+    /// No packets yet.
     pub(crate) fn new(alloc: Global) -> NearRelays {
         NearRelays {
             alloc,

@@ -41,7 +41,7 @@ pub(crate) enum Caused {
     Frame(u64),
     /// The one of this record, by a copy that came beside it.
     ByCopy(u64),
-    /// None. That of this record is another packet of its number.
+    /// It caused no frame. That of this record is another packet of its number.
     Other(u64),
     None,
 }

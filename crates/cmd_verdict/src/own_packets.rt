@@ -63,7 +63,7 @@ pub(crate) struct OwnPackets {
 }
 
 impl OwnPackets {
-    /// None yet.
+    /// No packets yet.
     pub(crate) fn new(alloc: Global) -> OwnPackets {
         OwnPackets {
             alloc,
@@ -127,7 +127,7 @@ impl OwnPackets {
     }
 
     /// Adds an own packet. Returns the step to its number, if one before it is known and each
-    /// record between is read; none for a repetition.
+    /// record between is read. `None` for a repetition.
     pub(crate) fn add(
         &mut self,
         claims: &Claims,

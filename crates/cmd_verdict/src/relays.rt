@@ -15,10 +15,11 @@ pub(crate) struct Relay<'a> {
     pub(crate) frame: &'a FrameView<'a>,
 }
 
-/// The heard packet that is nearest to a forwarded one that is a copy of none with one hop more.
+/// The heard packet that is nearest to a forwarded one, of which no heard one is a copy with one hop
+/// more.
 #[derive(Clone, Copy)]
 pub(crate) enum Nearest {
-    /// None has its source and its number.
+    /// No heard packet has its source and its number.
     None,
     /// The packet of this record, but with so many hops left, of so many.
     OtherHops(u64, u8, u8),

@@ -34,7 +34,7 @@ pub(crate) struct Repeats {
 }
 
 impl Repeats {
-    /// None yet.
+    /// No sendings yet.
     pub(crate) fn new(alloc: Global) -> Repeats {
         Repeats {
             alloc,

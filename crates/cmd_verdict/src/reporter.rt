@@ -118,8 +118,8 @@ impl fmt::Display for VerdictLine {
     }
 }
 
-/// Whether the text of a verdict names the clause: that of a fail, of a forwarded packet that may be
-/// none that was heard, and of one that goes to one station inside of its area.
+/// Whether the text of a verdict names the clause: that of a fail, of a forwarded packet that may
+/// not have been received, and of one that goes to one station inside of its area.
 fn names_clause(case: Case) -> bool {
     match (case.outcome, case.duty) {
         (Outcome::Fail, _) => true,

@@ -52,7 +52,7 @@ pub(crate) struct SourceRuns {
 }
 
 impl SourceRuns {
-    /// None yet.
+    /// No runs yet.
     pub(crate) fn new(alloc: Global) -> SourceRuns {
         SourceRuns {
             alloc,

@@ -45,7 +45,7 @@ pub(crate) struct UnreadRecords {
 }
 
 impl UnreadRecords {
-    /// None yet.
+    /// No records yet.
     pub(crate) fn new(alloc: Global) -> UnreadRecords {
         UnreadRecords {
             records: VecDeque::new(alloc),

@@ -54,7 +54,7 @@ pub(crate) struct WaitingFrames {
 }
 
 impl WaitingFrames {
-    /// None yet.
+    /// No records yet.
     pub(crate) fn new(alloc: Global) -> WaitingFrames {
         WaitingFrames {
             frames: VecDeque::new(alloc),
