@@ -1,4 +1,2 @@
 pub mod Records
 pub mod Outcomes
-pub mod Lost
-pub mod Sizes

@@ -9,7 +9,7 @@ use crate::counts::{TotalObject, VerdictCounts};
 use crate::duties::DutySet;
 use crate::judge::Judge;
 use crate::reporter::{Printing, Reporter};
-use crate::seen_record::{ReadRecord, SeenReader};
+use crate::seen_reader::{ReadRecord, SeenReader};
 use cap_pcap::{AnySource, Format, LONGEST_RECORD, SourceFault};
 use cap_records::{CaptureFile, FileFault, Pulled, Records, Selection, open_records};
 use cmd_iut::{ClaimSet, Premises, PremisesObject, StationFault, StationFile};

@@ -2,13 +2,10 @@
 
 use crate::area_cases::{next_hop_case, stops_inside_case};
 use crate::case::{Case, is_fail};
-use crate::forwarded::ForwardedPacket;
 use crate::frame_cases::kind_case;
 use crate::once_case::once_case;
 use crate::relay_cases::{faithful_case, in_time_case};
-use crate::relays::{FoundOrigin, Relay, find_origin};
-use crate::seen_record::SeenRecord;
-use crate::tap::Tap;
+use cap_tap::{ForwardedPacket, FoundOrigin, Relay, SeenRecord, Tap};
 use its_duties::judge_faithful;
 use its_linkframe::FrameView;
 use std::alloc::AllocError;
@@ -24,16 +21,14 @@ pub(crate) fn forwarded_cases(
     let Some(packet) = ForwardedPacket::of(record, frame) else {
         return Ok([None, kind, None, None, None, None]);
     };
-    let again = tap
-        .forwarded
-        .find(&tap.claims, &tap.unread, begin, &packet)?;
+    let again = tap.find_earlier(begin, &packet)?;
     let once = Some(once_case(&tap.claims, packet.packet, &again));
     let relay = Relay {
         stamp: record.stamp,
         retried: record.is_retry(),
         frame: &*frame,
     };
-    let found = find_origin(&tap.claims, &tap.heard, &tap.unread, begin, &relay);
+    let found = tap.find_origin(begin, &relay);
     let verdict = judge_faithful(&tap.claims, found.search);
     let number = packet.packet.sequence;
     let faithful = Some(faithful_case(&tap.claims, frame, number, &found, verdict));

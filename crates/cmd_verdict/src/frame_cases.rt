@@ -1,8 +1,8 @@
 //! The verdicts on a frame by itself.
 
 use crate::case::{Case, Needs};
-use crate::seen_record::SeenRecord;
 use crate::text::Text;
+use cap_tap::SeenRecord;
 use its_duties::{
     Claims, Doubt, Duty, Verdict, judge_form, judge_hops, judge_kind, judge_lifetime,
     judge_link_target, judge_mobile,

@@ -1,18 +1,12 @@
 //! The verdicts on the records of a capture, in the order of the records.
 
-use crate::arrivals::Arrivals;
 use crate::case::Case;
 use crate::forwarded_cases::forwarded_cases;
 use crate::frame_cases::form_case;
-use crate::kept_times::disorder;
-use crate::owed::CaptureTimes;
 use crate::owed_case::owed_case_of;
 use crate::own_cases::own_cases;
-use crate::repeats::Repeats;
 use crate::reporter::CaseSink;
-use crate::seen_record::SeenRecord;
-use crate::tap::Tap;
-use crate::waiting::{Waiting, WaitingFrames};
+use cap_tap::{Arrivals, CaptureTimes, Repeats, SeenRecord, Tap, Waiting, WaitingFrames};
 use cmd_reporting::Fault;
 use its_duties::{Claims, Role, doubt_between};
 use std::alloc::{AllocError, Global};
@@ -38,7 +32,7 @@ impl Judge {
     /// No record yet.
     pub(crate) fn new(alloc: Global, claims: &Claims) -> Judge {
         Judge {
-            arrivals: Arrivals::new(alloc, disorder(claims)),
+            arrivals: Arrivals::new(alloc, claims),
             repeats: Repeats::new(alloc),
             tap: Tap::new(alloc, claims),
             waiting: WaitingFrames::new(alloc),

@@ -8,46 +8,25 @@
 //!
 //! # Only tested
 //!
-//! - `cases/verdict.md`: texts, objects, statuses, refused station files.
-//! - `checks/verdict`: that what the command finds in a capture is there: the packet before
-//!   (`IsBeaconAfter`, `IsNumberStep`), what a forwarded packet was made from (`IsSearch`), whether it
-//!   was forwarded before (`IsRelayAgain`), what was found of a packet that may be owed (`IsFound`).
+//! - `cases/verdict.md`: texts, objects, statuses.
+//! - `checks/verdict`: which records are judged, and when. What is found of them is that of `cap_tap`.
 #![tactic(auto)]
 
 mod area_cases;
-mod arrivals;
 mod case;
 mod command;
 mod counts;
 mod duties;
-mod forwarded;
 mod forwarded_cases;
 mod frame_cases;
-mod heard;
-mod heard_numbers;
-mod heard_sources;
 mod judge;
-mod kept_size;
-mod kept_times;
-mod link_header;
-mod lost;
-mod near_relays;
 mod once_case;
-mod owed;
 mod owed_case;
 mod own_cases;
-mod own_packets;
 mod relay_cases;
-mod relays;
-mod repeats;
 mod reporter;
-mod seen_record;
-mod source_runs;
-mod stretch;
-mod tap;
+mod seen_reader;
 mod text;
-mod unread;
-mod waiting;
 
 pub use cmd_iut::{Claim, ClaimSet};
 pub use command::{VerdictOptions, verdict_file};

@@ -1,9 +1,8 @@
 //! The verdict on whether a packet is forwarded once.
 
 use crate::case::{Case, Needs, is_fail};
-use crate::forwarded::{FoundAgain, FoundEarlier, FoundNone};
-use crate::heard_numbers::PacketId;
 use crate::text::Text;
+use cap_tap::{FoundAgain, FoundEarlier, FoundNone, PacketId};
 use its_duties::{AreaForwarding, Claims, Duty, Verdict, judge_once};
 
 /// The room of a table that is as large as a claim can make it.

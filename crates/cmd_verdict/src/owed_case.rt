@@ -1,12 +1,8 @@
 //! The verdict on whether a packet that was heard was forwarded.
 
 use crate::case::{Case, Needs, is_fail};
-use crate::heard_numbers::PacketId;
-use crate::owed::{CaptureTimes, Caused, FoundOwed, HeardFrame, Kept};
-use crate::tap::Tap;
 use crate::text::Text;
-use crate::unread::UnreadIn;
-use crate::waiting::Waiting;
+use cap_tap::{CaptureTimes, Caused, FoundOwed, HeardFrame, PacketId, Tap, UnreadIn, Waiting};
 use its_duties::{
     AreaForwarding, Claims, Doubt, Duty, NotOwed, OwedSearch, Verdict, judge_forward,
 };
@@ -23,11 +19,12 @@ pub(crate) fn owed_case_of(
     frame: &FrameView<'_>,
     times: CaptureTimes,
 ) -> Option<Case> {
-    let found = Kept { tap, times }.find(HeardFrame {
+    let heard = HeardFrame {
         record: &waiting.record,
         packet: PacketId::of(frame)?,
         since: waiting.met.since?,
-    });
+    };
+    let found = tap.find_owed(times, heard);
     owed_case(&tap.claims, frame, &found)
 }
 

@@ -3,10 +3,8 @@
 use crate::area_cases::area_target_case;
 use crate::case::{Case, Needs, is_fail};
 use crate::frame_cases::{form_case, hops_case, lifetime_case, link_target_case, mobile_case};
-use crate::own_packets::{OwnPackets, StepFrom};
-use crate::tap::Tap;
 use crate::text::Text;
-use crate::waiting::Waiting;
+use cap_tap::{OwnPackets, StepFrom, Tap, Waiting};
 use its_duties::{
     BeaconGap, Claims, Doubt, Duty, NumberStep, Verdict, doubt_between, judge_beacon, judge_numbers,
 };

@@ -1,9 +1,8 @@
 //! The verdicts on a forwarded packet by what it was made from.
 
 use crate::case::{Case, Needs, is_fail};
-use crate::relays::{FoundOrigin, Nearest};
 use crate::text::Text;
-use crate::unread::UnreadIn;
+use cap_tap::{FoundOrigin, Nearest, UnreadIn};
 use its_duties::{AreaForwarding, Claims, Duty, PacketOrigin, Verdict, judge_in_time};
 use its_linkframe::FrameView;
 

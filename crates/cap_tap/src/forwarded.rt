@@ -1,13 +1,12 @@
 //! What is kept of a capture to judge whether a packet is forwarded once.
 
-use crate::case::is_fail;
 use crate::heard_numbers::{HeardNumbers, PacketId};
 use crate::heard_sources::HeardSources;
 use crate::lost::Lost;
 use crate::seen_record::{NANOS, SeenRecord};
 use crate::stretch::Stretch;
 use crate::unread::{UnreadIn, UnreadRecord, UnreadRecords};
-use its_duties::{Claims, EarlierRelay, RelayAgain, judge_once, slack, wait};
+use its_duties::{Claims, EarlierRelay, RelayAgain, Verdict, judge_once, slack, wait};
 use its_gnvalue::GnAddress;
 use its_linkframe::FrameView;
 use std::alloc::{AllocError, Global};
@@ -21,17 +20,20 @@ const MOST_TRIED: usize = 16;
 
 /// A packet for an area that the station forwarded.
 #[derive(Clone, Copy)]
-pub(crate) struct ForwardedPacket {
-    pub(crate) record: u64,
-    pub(crate) stamp: u64,
+pub struct ForwardedPacket {
+    /// Its record.
+    pub record: u64,
+    /// When it was sent, in nanoseconds.
+    pub stamp: u64,
     /// Its first sending isn't in the capture.
-    pub(crate) retried: bool,
-    pub(crate) packet: PacketId,
+    pub retried: bool,
+    /// Its source and sequence number.
+    pub packet: PacketId,
 }
 
 impl ForwardedPacket {
     /// The one of a record, if its packet is one for an area.
-    pub(crate) fn of(record: &SeenRecord, frame: &FrameView<'_>) -> Option<ForwardedPacket> {
+    pub fn of(record: &SeenRecord, frame: &FrameView<'_>) -> Option<ForwardedPacket> {
         Some(ForwardedPacket {
             record: record.number,
             stamp: record.stamp,
@@ -48,18 +50,18 @@ impl ForwardedPacket {
 
 /// That no earlier frame was found of a packet that was forwarded.
 #[derive(Clone, Copy)]
-pub(crate) struct FoundNone {
+pub struct FoundNone {
     /// The capture has all of the time that counts.
-    pub(crate) begins: bool,
+    pub begins: bool,
     /// What isn't read of what was sent in this time.
-    pub(crate) unread: Option<UnreadIn>,
+    pub unread: Option<UnreadIn>,
     /// Packets had to give way that were forwarded in this time.
-    pub(crate) too_many: bool,
+    pub too_many: bool,
 }
 
 impl FoundNone {
     /// It, by these claims.
-    pub(crate) fn earlier(&self, claims: &Claims) -> EarlierRelay {
+    pub fn earlier(&self, claims: &Claims) -> EarlierRelay {
         let begins = claims.fresh || self.begins;
         if begins && self.unread.is_none() && !self.too_many {
             return EarlierRelay::Never;
@@ -70,9 +72,9 @@ impl FoundNone {
 
 /// An earlier frame of a packet that was forwarded.
 #[derive(Clone, Copy)]
-pub(crate) struct FoundAgain {
+pub struct FoundAgain {
     /// Its record.
-    pub(crate) record: u64,
+    pub record: u64,
     since: u64,
     sure: bool,
     others: u32,
@@ -83,21 +85,21 @@ pub(crate) struct FoundAgain {
     heard_less: bool,
     sources: u32,
     /// The capture has all of the time in which sources count.
-    pub(crate) sources_begin: bool,
+    pub sources_begin: bool,
     /// What isn't read of what was heard in this time.
-    pub(crate) unread: Option<UnreadIn>,
+    pub unread: Option<UnreadIn>,
     /// What was heard in this time had to give way.
-    pub(crate) too_many: bool,
+    pub too_many: bool,
 }
 
 impl FoundAgain {
     /// Whether each record is read by which it is judged.
-    pub(crate) fn is_read(&self) -> bool {
+    pub fn is_read(&self) -> bool {
         self.unread.is_none() && !self.too_many
     }
 
     /// It, by these claims, if all records are read or not.
-    pub(crate) fn earlier(&self, claims: &Claims, all_read: bool) -> EarlierRelay {
+    pub fn earlier(&self, claims: &Claims, all_read: bool) -> EarlierRelay {
         EarlierRelay::Again(RelayAgain {
             since: self.since,
             sure: self.sure,
@@ -110,15 +112,17 @@ impl FoundAgain {
     }
 
     /// How many other numbers were heard between.
-    pub(crate) fn others(&self) -> u32 {
+    pub fn others(&self) -> u32 {
         self.others
     }
 }
 
 /// Whether a packet was forwarded before.
 #[derive(Clone, Copy)]
-pub(crate) enum FoundEarlier {
+pub enum FoundEarlier {
+    /// No earlier frame was found.
     None(FoundNone),
+    /// This one was found.
     Again(FoundAgain),
 }
 
@@ -307,7 +311,7 @@ impl ForwardedPackets {
             };
             let found = self.again(claims, unread, begin, &other, packet)?;
             let verdict = judge_once(claims, found.earlier(claims, found.is_read()));
-            if is_fail(&verdict) {
+            if matches!(verdict, Verdict::Fail(_)) {
                 return Ok(FoundEarlier::Again(found));
             }
             last = last.or(Some(found));

@@ -19,11 +19,11 @@ pub(crate) struct UnreadRecord {
 
 /// What is unread in a stretch of time.
 #[derive(Clone, Copy)]
-pub(crate) struct UnreadIn {
+pub struct UnreadIn {
     /// The first record.
-    pub(crate) first: u64,
+    pub first: u64,
     /// One stays unread though the station processes only frames of the profile.
-    pub(crate) despite_profile: bool,
+    pub despite_profile: bool,
 }
 
 /// The later one of two sendings.

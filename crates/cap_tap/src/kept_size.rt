@@ -1,7 +1,7 @@
 //! How many octets are kept of a frame of the capture.
 
 ghost use Rattle.std.specs.Prelude.{◌≡◌};
-ghost use Rattle.cmd_verdict.specs.Sizes.{kept_size};
+ghost use Rattle.cap_tap.specs.Sizes.{kept_size};
 
 /// How many octets the stamp of a repeat has.
 pub(crate) const STAMP: usize = 8;

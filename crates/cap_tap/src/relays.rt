@@ -8,17 +8,19 @@ use its_linkframe::FrameView;
 
 /// A packet that the station forwarded.
 #[derive(Clone, Copy)]
-pub(crate) struct Relay<'a> {
-    pub(crate) stamp: u64,
+pub struct Relay<'a> {
+    /// When it was sent, in nanoseconds.
+    pub stamp: u64,
     /// Its first sending isn't in the capture.
-    pub(crate) retried: bool,
-    pub(crate) frame: &'a FrameView<'a>,
+    pub retried: bool,
+    /// Its frame.
+    pub frame: &'a FrameView<'a>,
 }
 
 /// The heard packet that is nearest to a forwarded one, of which no heard one is a copy with one hop
 /// more.
 #[derive(Clone, Copy)]
-pub(crate) enum Nearest {
+pub enum Nearest {
     /// No heard packet has its source and its number.
     None,
     /// The packet of this record, but with so many hops left, of so many.
@@ -29,19 +31,21 @@ pub(crate) enum Nearest {
 
 /// What was found of a forwarded packet.
 #[derive(Clone, Copy)]
-pub(crate) struct FoundOrigin {
-    pub(crate) search: RelaySearch,
+pub struct FoundOrigin {
+    /// What it is judged by.
+    pub search: RelaySearch,
     /// The last record that it may be made from.
-    pub(crate) cause: u64,
-    pub(crate) nearest: Nearest,
+    pub cause: u64,
+    /// The heard packet that is nearest to it.
+    pub nearest: Nearest,
     /// What is unread where it was looked for.
-    pub(crate) unread: Option<UnreadIn>,
+    pub unread: Option<UnreadIn>,
     /// What is unread where it may have been received in time.
-    pub(crate) near_unread: Option<UnreadIn>,
+    pub near_unread: Option<UnreadIn>,
     /// Packets had to give way that were heard in that time.
-    pub(crate) too_many: bool,
+    pub too_many: bool,
     /// Packets had to give way that may have been received in time.
-    pub(crate) near_too_many: bool,
+    pub near_too_many: bool,
 }
 
 /// The stretch of time in which a packet is looked for, and the two ends of what is in time.

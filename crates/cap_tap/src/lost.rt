@@ -1,7 +1,7 @@
 //! Up to which time something may be missing of what is kept of a capture.
 
 ghost use Rattle.std.specs.Prelude.{◌≡◌, None};
-ghost use Rattle.cmd_verdict.specs.Lost.{with_lost, lacks};
+ghost use Rattle.cap_tap.specs.Lost.{with_lost, lacks};
 
 /// Up to which stamp something had to give way, because too much is kept.
 #[derive(Clone, Copy)]

@@ -1,6 +1,6 @@
 -- Up to which stamp something had to give way, and what may be missing then.
 use Rattle.std.specs.Prelude.{ℕ, Bool, false, Option, Some, None, if◌then◌else◌, nat_lt, nat_le}
-use Rattle.cmd_verdict.specs.declared.lost.Lost.{Lost}
+use Rattle.cap_tap.specs.declared.lost.Lost.{Lost}
 
 -- the last of two stamps
 abbrev pub later : Option ℕ → ℕ → ℕ

@@ -14,17 +14,22 @@ use its_duties::{Claims, OwedSearch, RelaySeen, lag, slack, wait};
 
 /// A heard packet that may be owed.
 #[derive(Clone, Copy)]
-pub(crate) struct HeardFrame<'a> {
-    pub(crate) record: &'a SeenRecord,
-    pub(crate) packet: PacketId,
-    pub(crate) since: KnownSince,
+pub struct HeardFrame<'a> {
+    /// Its record.
+    pub record: &'a SeenRecord,
+    /// Its source and sequence number.
+    pub packet: PacketId,
+    /// What was known of its source when it was met.
+    pub since: KnownSince,
 }
 
 /// When a capture begins, and up to when it is complete.
 #[derive(Clone, Copy)]
-pub(crate) struct CaptureTimes {
-    pub(crate) begin: u64,
-    pub(crate) end: u64,
+pub struct CaptureTimes {
+    /// The first stamp.
+    pub begin: u64,
+    /// The stamp up to which the capture is complete.
+    pub end: u64,
 }
 
 /// What was kept of a capture, by which a heard packet is judged.
@@ -36,25 +41,26 @@ pub(crate) struct Kept<'a> {
 
 /// The frame that a heard packet caused.
 #[derive(Clone, Copy)]
-pub(crate) enum Caused {
+pub enum Caused {
     /// The one of this record.
     Frame(u64),
     /// The one of this record, by a copy that came beside it.
     ByCopy(u64),
-    /// It caused no frame. That of this record is another packet of its number.
+    /// It caused no frame. The one of this record is another packet of its number.
     Other(u64),
+    /// It caused no frame.
     None,
 }
 
 /// What may be missing of what a heard packet is judged by.
 #[derive(Clone, Copy)]
-pub(crate) struct Gaps {
+pub struct Gaps {
     /// A record isn't read that may have its source.
-    pub(crate) unread: Option<UnreadIn>,
+    pub unread: Option<UnreadIn>,
     /// A frame that the station may have sent isn't read.
-    pub(crate) sent_unread: Option<UnreadIn>,
+    pub sent_unread: Option<UnreadIn>,
     /// What was heard or forwarded had to give way.
-    pub(crate) too_many: bool,
+    pub too_many: bool,
 }
 
 impl Gaps {
@@ -66,14 +72,17 @@ impl Gaps {
 
 /// What was found of a heard packet.
 #[derive(Clone, Copy)]
-pub(crate) struct FoundOwed {
-    pub(crate) search: OwedSearch,
-    pub(crate) caused: Caused,
+pub struct FoundOwed {
+    /// What it is judged by.
+    pub search: OwedSearch,
+    /// The frame that it caused.
+    pub caused: Caused,
     /// The station knew the source only since the begin, if it knew no other station then.
-    pub(crate) is_fresh: bool,
+    pub is_fresh: bool,
     /// The first record of its number that is no copy of it.
-    pub(crate) other: Option<u64>,
-    pub(crate) gaps: Gaps,
+    pub other: Option<u64>,
+    /// What may be missing.
+    pub gaps: Gaps,
 }
 
 /// The copies of a heard packet that came beside it.

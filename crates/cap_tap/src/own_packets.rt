@@ -17,12 +17,13 @@ const MOST: usize = 65536;
 
 /// An own packet that puts the beacon off.
 #[derive(Clone, Copy)]
-pub(crate) struct Reset {
+pub struct Reset {
     /// Its record.
-    pub(crate) number: u64,
-    pub(crate) stamp: u64,
+    pub number: u64,
+    /// When it was sent, in nanoseconds.
+    pub stamp: u64,
     /// Its first sending isn't in the capture.
-    pub(crate) retried: bool,
+    pub retried: bool,
 }
 
 /// An own packet for an area, which is no repetition.
@@ -37,9 +38,11 @@ struct Numbered {
 
 /// The step from the own packet for an area before to one, and the record of that.
 #[derive(Clone, Copy)]
-pub(crate) struct StepFrom {
-    pub(crate) step: NumberStep,
-    pub(crate) record: u64,
+pub struct StepFrom {
+    /// The step.
+    pub step: NumberStep,
+    /// The record of the packet before.
+    pub record: u64,
 }
 
 /// A record that may be an own packet and isn't read.
@@ -51,7 +54,7 @@ struct Hidden {
 
 /// The own packets so far, as far as later ones are judged by them.
 #[derive(Drop)]
-pub(crate) struct OwnPackets {
+pub struct OwnPackets {
     alloc: Global,
     resets: VecDeque<Reset>,
     hidden: VecDeque<Hidden>,
@@ -64,7 +67,7 @@ pub(crate) struct OwnPackets {
 
 impl OwnPackets {
     /// No packets yet.
-    pub(crate) fn new(alloc: Global) -> OwnPackets {
+    pub fn new(alloc: Global) -> OwnPackets {
         OwnPackets {
             alloc,
             resets: VecDeque::new(alloc),
@@ -76,22 +79,18 @@ impl OwnPackets {
     }
 
     /// Notes that packets may be missing up to this stamp.
-    pub(crate) fn lose(&mut self, stamp: u64) {
+    pub fn lose(&mut self, stamp: u64) {
         self.lost.lose(stamp);
     }
 
     /// Whether one may be missing that was sent at this time or later.
-    pub(crate) fn may_lack(&self, from: u64) -> bool {
+    pub fn may_lack(&self, from: u64) -> bool {
         self.lost.may_lack(from)
     }
 
     /// Adds a record that may be an own packet and isn't read. Those of before `oldest` are
     /// forgotten.
-    pub(crate) fn add_hidden(
-        &mut self,
-        record: &SeenRecord,
-        oldest: u64,
-    ) -> Result<(), AllocError> {
+    pub fn add_hidden(&mut self, record: &SeenRecord, oldest: u64) -> Result<(), AllocError> {
         self.forget_hidden(oldest);
         if MOST <= self.hidden.len()
             && let Some(first) = self.hidden.pop_front()
@@ -117,7 +116,7 @@ impl OwnPackets {
     }
 
     /// The first record from one stamp to another that may be an own packet and isn't read.
-    pub(crate) fn hidden_in(&self, from: u64, to: u64) -> Option<u64> {
+    pub fn hidden_in(&self, from: u64, to: u64) -> Option<u64> {
         for hidden in self.hidden.iter() {
             if from <= hidden.stamp && hidden.stamp <= to {
                 return Some(hidden.number);
@@ -128,7 +127,7 @@ impl OwnPackets {
 
     /// Adds an own packet. Returns the step to its number, if one before it is known and each
     /// record between is read. `None` for a repetition.
-    pub(crate) fn add(
+    pub fn add(
         &mut self,
         claims: &Claims,
         record: &SeenRecord,
@@ -187,7 +186,7 @@ impl OwnPackets {
     }
 
     /// The last packet before a stamp that puts the beacon off.
-    pub(crate) fn last_reset(&self, before: u64) -> Option<Reset> {
+    pub fn last_reset(&self, before: u64) -> Option<Reset> {
         let mut last = None;
         for reset in self.resets.iter() {
             if reset.stamp < before {
@@ -198,7 +197,7 @@ impl OwnPackets {
     }
 
     /// Whether another packet than that of a record puts the beacon off from one stamp to another.
-    pub(crate) fn has_other_reset(&self, number: u64, from: u64, to: u64) -> bool {
+    pub fn has_other_reset(&self, number: u64, from: u64, to: u64) -> bool {
         for reset in self.resets.iter() {
             if reset.number != number && from <= reset.stamp && reset.stamp <= to {
                 return true;
@@ -208,7 +207,7 @@ impl OwnPackets {
     }
 
     /// Forgets the packets that come before the last one before a stamp.
-    pub(crate) fn forget_resets(&mut self, before: u64) {
+    pub fn forget_resets(&mut self, before: u64) {
         for _ in 0..self.resets.len() {
             match self.resets.get(1) {
                 Some(second) if second.stamp < before => {}

@@ -4,7 +4,7 @@ use cap_linklayers::LinkLayer;
 
 /// What the header of a frame of IEEE 802.11 says, by which another sending of it is known.
 #[derive(Clone, Copy, PartialEq, Eq)]
-pub(crate) struct LinkHeader {
+pub struct LinkHeader {
     /// The addresses, up to four, and zeros.
     addresses: [u8; 24],
     /// The sequence control.
@@ -15,11 +15,11 @@ pub(crate) struct LinkHeader {
 
 /// The frame of a record of IEEE 802.11.
 #[derive(Clone, Copy)]
-pub(crate) struct LinkFrame {
+pub struct LinkFrame {
     /// What all sendings of the frame have in common.
-    pub(crate) header: LinkHeader,
+    pub header: LinkHeader,
     /// Whether its retry bit is set.
-    pub(crate) retry: bool,
+    pub retry: bool,
 }
 
 /// The bit of the second octet of the frame control for a frame that is sent again.
@@ -34,7 +34,7 @@ const QOS: u8 = 0x80;
 impl LinkFrame {
     /// The header in the octets of a record of this link layer. `None` if it is of another, or ends
     /// before that.
-    pub(crate) fn of(layer: LinkLayer, octets: &[u8]) -> Option<LinkFrame> {
+    pub fn of(layer: LinkLayer, octets: &[u8]) -> Option<LinkFrame> {
         let start = match layer {
             LinkLayer::Ieee80211 => 0,
             LinkLayer::Radiotap => usize::from(u16::from_le_bytes([

@@ -1,7 +1,9 @@
 //! Records in the order of their stamps.
 
 use crate::kept_size::STAMP;
+use crate::kept_times::disorder;
 use crate::seen_record::SeenRecord;
+use its_duties::Claims;
 use std::alloc::{AllocError, Global};
 use std::collections::VecDeque;
 
@@ -17,7 +19,7 @@ const MOST_REPEATS: usize = 4096;
 /// The last records of the file, in the order of their stamps, and of the file if these are equal.
 /// They wait until no other record can come before them.
 #[derive(Drop)]
-pub(crate) struct Arrivals {
+pub struct Arrivals {
     alloc: Global,
     waiting: VecDeque<SeenRecord>,
     /// How many octets are kept of them.
@@ -29,24 +31,24 @@ pub(crate) struct Arrivals {
 }
 
 impl Arrivals {
-    /// No record yet, of a file in which a stamp may be so far below the greatest before it.
-    pub(crate) fn new(alloc: Global, disorder: u64) -> Arrivals {
+    /// No record yet, of a capture of which this is claimed.
+    pub fn new(alloc: Global, claims: &Claims) -> Arrivals {
         Arrivals {
             alloc,
             waiting: VecDeque::new(alloc),
             octets: 0,
             greatest: 0,
-            disorder,
+            disorder: disorder(claims),
         }
     }
 
     /// Whether the stamp of a record is not too far below the greatest.
-    pub(crate) fn is_in_order(&self, stamp: u64) -> bool {
+    pub fn is_in_order(&self, stamp: u64) -> bool {
         self.greatest <= stamp.saturating_add(self.disorder)
     }
 
     /// Adds the next record of the file.
-    pub(crate) fn add(&mut self, record: SeenRecord) -> Result<(), AllocError> {
+    pub fn add(&mut self, record: SeenRecord) -> Result<(), AllocError> {
         self.greatest = self.greatest.max(record.stamp);
         self.octets = self.octets.saturating_add(record.size());
         let mut later = Vec::new(self.alloc);
@@ -75,12 +77,12 @@ impl Arrivals {
     }
 
     /// How many records wait.
-    pub(crate) fn count(&self) -> usize {
+    pub fn count(&self) -> usize {
         self.waiting.len()
     }
 
     /// Takes the first record, if no other can come before it or be the first sending of its frame.
-    pub(crate) fn take(&mut self) -> Option<SeenRecord> {
+    pub fn take(&mut self) -> Option<SeenRecord> {
         let first = self.waiting.front()?;
         let passed = first.stamp.saturating_add(self.disorder.saturating_mul(2));
         if self.disorder == 0 || passed < self.greatest {
@@ -90,12 +92,12 @@ impl Arrivals {
     }
 
     /// Whether more records wait than may.
-    pub(crate) fn is_over(&self) -> bool {
+    pub fn is_over(&self) -> bool {
         MOST < self.waiting.len() || MOST_OCTETS < self.octets
     }
 
     /// Takes the first record, whether another one can come before it or not.
-    pub(crate) fn take_first(&mut self) -> Option<SeenRecord> {
+    pub fn take_first(&mut self) -> Option<SeenRecord> {
         let first = self.waiting.pop_front()?;
         self.octets = self.octets.saturating_sub(first.size());
         Some(first)
@@ -103,7 +105,7 @@ impl Arrivals {
 
     /// Notes a record as a repeat of a later one that waits and may be its first sending. Returns
     /// whether there is one.
-    pub(crate) fn note_repeat(&mut self, record: &SeenRecord) -> Result<bool, AllocError> {
+    pub fn note_repeat(&mut self, record: &SeenRecord) -> Result<bool, AllocError> {
         let last = record.stamp.saturating_add(self.disorder);
         for later in self.waiting.iter_mut() {
             let has_room = later.repeats.len() < MOST_REPEATS;
@@ -118,7 +120,7 @@ impl Arrivals {
 }
 
 /// Whether two records are of one frame of IEEE 802.11.
-pub(crate) fn is_same_sending(first: &SeenRecord, second: &SeenRecord) -> bool {
+fn is_same_sending(first: &SeenRecord, second: &SeenRecord) -> bool {
     match (first.link, second.link) {
         (Some(first_link), Some(second_link)) => {
             first_link.header == second_link.header

@@ -18,11 +18,11 @@ const MOST_OCTETS: usize = 1 << 22;
 /// A record that the station sent, or a packet for an area that it may have heard. It is judged once
 /// the capture has all that it is judged by.
 #[derive(Drop)]
-pub(crate) struct Waiting {
+pub struct Waiting {
     /// The record. If its retry bit is set, its first sending isn't in the capture.
-    pub(crate) record: SeenRecord,
+    pub record: SeenRecord,
     /// What was known when it was met.
-    pub(crate) met: MetRecord,
+    pub met: MetRecord,
 }
 
 impl Waiting {
@@ -48,14 +48,14 @@ impl Waiting {
 
 /// The records that wait, in the order of their stamps.
 #[derive(Drop)]
-pub(crate) struct WaitingFrames {
+pub struct WaitingFrames {
     frames: VecDeque<Waiting>,
     octets: usize,
 }
 
 impl WaitingFrames {
     /// No records yet.
-    pub(crate) fn new(alloc: Global) -> WaitingFrames {
+    pub fn new(alloc: Global) -> WaitingFrames {
         WaitingFrames {
             frames: VecDeque::new(alloc),
             octets: 0,
@@ -63,24 +63,24 @@ impl WaitingFrames {
     }
 
     /// How many wait.
-    pub(crate) fn count(&self) -> usize {
+    pub fn count(&self) -> usize {
         self.frames.len()
     }
 
     /// The stamp of the first one.
-    pub(crate) fn first_stamp(&self) -> Option<u64> {
+    pub fn first_stamp(&self) -> Option<u64> {
         Some(self.frames.front()?.record.stamp)
     }
 
     /// Adds one.
-    pub(crate) fn add(&mut self, waiting: Waiting) -> Result<(), AllocError> {
+    pub fn add(&mut self, waiting: Waiting) -> Result<(), AllocError> {
         self.octets = self.octets.saturating_add(waiting.record.size());
         self.frames.push_back(waiting)?;
         Ok(())
     }
 
     /// Notes another sending of a record.
-    pub(crate) fn repeat(&mut self, number: u64, stamp: u64) -> Result<(), AllocError> {
+    pub fn repeat(&mut self, number: u64, stamp: u64) -> Result<(), AllocError> {
         for waiting in self.frames.iter_mut() {
             if waiting.record.number == number && waiting.met.since.is_some() {
                 waiting.record.repeats.push(stamp)?;
@@ -91,12 +91,12 @@ impl WaitingFrames {
     }
 
     /// Whether more wait than may.
-    pub(crate) fn is_over(&self) -> bool {
+    pub fn is_over(&self) -> bool {
         MOST < self.frames.len() || MOST_OCTETS < self.octets
     }
 
     /// Takes the first one.
-    pub(crate) fn take_first(&mut self) -> Option<Waiting> {
+    pub fn take_first(&mut self) -> Option<Waiting> {
         let first = self.frames.pop_front()?;
         self.octets = self.octets.saturating_sub(first.record.size());
         Some(first)
@@ -104,7 +104,7 @@ impl WaitingFrames {
 
     /// Takes the first one, if the capture has all that it is judged by: the next record has this
     /// stamp.
-    pub(crate) fn take_due(&mut self, claims: &Claims, stamp: u64) -> Option<Waiting> {
+    pub fn take_due(&mut self, claims: &Claims, stamp: u64) -> Option<Waiting> {
         let end = self.frames.front()?.end(claims);
         if end < stamp {
             return self.take_first();

@@ -13,14 +13,16 @@ const MOST: usize = 65536;
 
 /// The source and the sequence number of a packet for an area.
 #[derive(Clone, Copy, PartialEq, Eq)]
-pub(crate) struct PacketId {
-    pub(crate) source: GnAddress,
-    pub(crate) sequence: u16,
+pub struct PacketId {
+    /// Its source.
+    pub source: GnAddress,
+    /// Its sequence number.
+    pub sequence: u16,
 }
 
 impl PacketId {
     /// That of a frame, if its packet is one for an area.
-    pub(crate) fn of(frame: &FrameView<'_>) -> Option<PacketId> {
+    pub fn of(frame: &FrameView<'_>) -> Option<PacketId> {
         let sequence = frame.packet.number()?;
         let source = frame.packet.vector().address();
         Some(PacketId { source, sequence })

@@ -1,79 +1,10 @@
-//! The records of a capture, as they are judged.
+//! Reading the records of a capture, as they are judged.
 
-use crate::kept_size::kept_size;
-use crate::link_header::LinkFrame;
 use cap_linklayers::{LinkFault, LinkLayer, frame_start};
 use cap_pcap::RecordHeader;
 use cap_records::{RecordReader, Selection, read_from};
-use its_duties::{Claims, FrameSource, RecordFacts, Role, role_of};
-use its_linkframe::{FrameFault, FrameView, read_frame};
+use cap_tap::{LinkFrame, NANOS, SeenRecord};
 use std::alloc::{AllocError, Global};
-
-/// A record of the capture.
-#[derive(Drop)]
-pub(crate) struct SeenRecord {
-    /// How many records are before it in the file.
-    pub(crate) number: u64,
-    /// Its time, in nanoseconds.
-    pub(crate) stamp: u64,
-    /// The number of its interface.
-    pub(crate) interface: u32,
-    /// The octets of its frame as Ethernet has them: none if not even the link addresses are read.
-    pub(crate) octets: Vec<u8>,
-    /// The capture doesn't have all octets of the frame.
-    pub(crate) cut: bool,
-    /// The capture has the link target.
-    pub(crate) known_target: bool,
-    /// The header of IEEE 802.11, if it has one.
-    pub(crate) link: Option<LinkFrame>,
-    /// When the link sent the frame again, or before this.
-    pub(crate) repeats: Vec<u64>,
-}
-
-impl SeenRecord {
-    /// The frame that it is, or why it is not one. One that is cut is not.
-    pub(crate) fn frame(&self) -> Result<FrameView<'_>, FrameFault> {
-        if self.cut {
-            return Err(FrameFault::Short);
-        }
-        read_frame(self.octets.as_slice())
-    }
-
-    /// What it is to the station, with the frame that it is.
-    pub(crate) fn role(&self, claims: &Claims, frame: &Result<FrameView<'_>, FrameFault>) -> Role {
-        let facts = RecordFacts {
-            interface: self.interface,
-            cut: self.cut,
-            known_target: self.known_target,
-            frame: match frame {
-                Ok(frame) => FrameSource::Frame(frame.packet.vector().address()),
-                Err(fault) => FrameSource::NoFrame(*fault),
-            },
-        };
-        role_of(claims, &facts, self.octets.as_slice())
-    }
-
-    /// How many octets are kept of it.
-    pub(crate) fn size(&self) -> usize {
-        kept_size(self.octets.len(), self.repeats.len())
-    }
-
-    /// Whether it is of IEEE 802.11.
-    pub(crate) fn is_wireless(&self) -> bool {
-        self.link.is_some()
-    }
-
-    /// Whether its retry bit is set.
-    pub(crate) fn is_retry(&self) -> bool {
-        match self.link {
-            Some(link) => link.retry,
-            None => false,
-        }
-    }
-}
-
-/// The nanoseconds of a millisecond.
-pub(crate) const NANOS: u64 = 1_000_000;
 
 /// What is read of a record: the record, or that its time is out of range.
 #[derive(Drop)]
@@ -99,7 +30,7 @@ impl SeenReader {
 }
 
 impl RecordReader for SeenReader {
-    ghost use Rattle.cmd_verdict.specs.Records.{ReadsSeen};
+    ghost use Rattle.cap_tap.specs.Records.{ReadsSeen};
 
     type Record = ReadRecord;
 

@@ -1,11 +1,12 @@
 //! What is kept of a capture, by which its records are judged.
 
-use crate::forwarded::{ForwardedPacket, ForwardedPackets};
+use crate::forwarded::{ForwardedPacket, ForwardedPackets, FoundEarlier};
 use crate::heard::HeardPackets;
 use crate::kept_times::{disorder, oldest, oldest_near, oldest_of_once};
 use crate::near_relays::NearRelays;
-use crate::owed::{reach, sent_from_to};
+use crate::owed::{CaptureTimes, FoundOwed, HeardFrame, Kept, reach, sent_from_to};
 use crate::own_packets::{OwnPackets, StepFrom};
+use crate::relays::{FoundOrigin, Relay, find_origin};
 use crate::seen_record::SeenRecord;
 use crate::source_runs::{KnownSince, SourceRuns};
 use crate::unread::{UnreadRecord, UnreadRecords};
@@ -15,11 +16,13 @@ use std::alloc::{AllocError, Global};
 
 /// What is kept of the records that were met.
 #[derive(Drop)]
-pub(crate) struct Tap {
-    pub(crate) claims: Claims,
+pub struct Tap {
+    /// What is claimed of the station and of the capture.
+    pub claims: Claims,
     pub(crate) heard: HeardPackets,
     pub(crate) unread: UnreadRecords,
-    pub(crate) own: OwnPackets,
+    /// The station's own packets.
+    pub own: OwnPackets,
     pub(crate) forwarded: ForwardedPackets,
     pub(crate) relays: NearRelays,
     runs: SourceRuns,
@@ -27,13 +30,14 @@ pub(crate) struct Tap {
 
 /// What a record is to the station, and what was known when it was met.
 #[derive(Clone, Copy)]
-pub(crate) struct MetRecord {
-    pub(crate) role: Role,
+pub struct MetRecord {
+    /// What it is to the station.
+    pub role: Role,
     /// The step to its sequence number, if there is one.
-    pub(crate) step: Option<StepFrom>,
+    pub step: Option<StepFrom>,
     /// What was known of its source, if the station may have received it and it is a packet for an
     /// area.
-    pub(crate) since: Option<KnownSince>,
+    pub since: Option<KnownSince>,
 }
 
 impl MetRecord {
@@ -47,7 +51,7 @@ impl MetRecord {
     }
 
     /// Whether it is judged.
-    pub(crate) fn is_judged(&self) -> bool {
+    pub fn is_judged(&self) -> bool {
         let is_sent = matches!(self.role, Role::Own | Role::Forwarded | Role::SentUnread);
         is_sent || self.since.is_some()
     }
@@ -55,7 +59,7 @@ impl MetRecord {
 
 impl Tap {
     /// Nothing yet.
-    pub(crate) fn new(alloc: Global, claims: &Claims) -> Tap {
+    pub fn new(alloc: Global, claims: &Claims) -> Tap {
         Tap {
             claims: *claims,
             heard: HeardPackets::new(alloc),
@@ -68,18 +72,14 @@ impl Tap {
     }
 
     /// Notes that records may be missing up to this stamp.
-    pub(crate) fn lose(&mut self, stamp: u64) {
+    pub fn lose(&mut self, stamp: u64) {
         self.heard.lose(stamp);
         self.own.lose(stamp);
         self.forwarded.lose(stamp);
     }
 
     /// Adds a record that is no repeat. No record is judged any more that was sent before `settled`.
-    pub(crate) fn add(
-        &mut self,
-        record: &SeenRecord,
-        settled: u64,
-    ) -> Result<MetRecord, AllocError> {
+    pub fn add(&mut self, record: &SeenRecord, settled: u64) -> Result<MetRecord, AllocError> {
         let frame = record.frame();
         let role = record.role(&self.claims, &frame);
         let mut met = MetRecord::of(role);
@@ -191,7 +191,7 @@ impl Tap {
 
     /// Adds a record as another sending of the frame of its first sending. Returns whether it is a
     /// packet for an area that the station may have received.
-    pub(crate) fn add_repeat(
+    pub fn add_repeat(
         &mut self,
         record: &SeenRecord,
         first: u64,
@@ -213,5 +213,25 @@ impl Tap {
             }
             _ => Ok(false),
         }
+    }
+
+    /// Finds what a forwarded packet was made from. The capture begins at this stamp.
+    pub fn find_origin(&self, begin: u64, relay: &Relay<'_>) -> FoundOrigin {
+        find_origin(&self.claims, &self.heard, &self.unread, begin, relay)
+    }
+
+    /// Finds whether a packet was forwarded before. The capture begins at this stamp.
+    pub fn find_earlier(
+        &self,
+        begin: u64,
+        packet: &ForwardedPacket,
+    ) -> Result<FoundEarlier, AllocError> {
+        self.forwarded
+            .find(&self.claims, &self.unread, begin, packet)
+    }
+
+    /// Finds what is known of a packet for an area that the station may have received.
+    pub fn find_owed(&self, times: CaptureTimes, frame: HeardFrame<'_>) -> FoundOwed {
+        Kept { tap: self, times }.find(frame)
     }
 }

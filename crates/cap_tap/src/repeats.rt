@@ -26,7 +26,7 @@ struct Sending {
 
 /// The last sendings of frames of IEEE 802.11.
 #[derive(Drop)]
-pub(crate) struct Repeats {
+pub struct Repeats {
     alloc: Global,
     sendings: VecDeque<Sending>,
     /// How many octets they have.
@@ -35,7 +35,7 @@ pub(crate) struct Repeats {
 
 impl Repeats {
     /// No sendings yet.
-    pub(crate) fn new(alloc: Global) -> Repeats {
+    pub fn new(alloc: Global) -> Repeats {
         Repeats {
             alloc,
             sendings: VecDeque::new(alloc),
@@ -44,7 +44,7 @@ impl Repeats {
     }
 
     /// The record of the first sending of a frame that this record is a repeat of, if there is one.
-    pub(crate) fn first_of(&self, record: &SeenRecord) -> Option<u64> {
+    pub fn first_of(&self, record: &SeenRecord) -> Option<u64> {
         let link = record.link?;
         if !link.retry || record.octets.len() < 14 {
             return None;
@@ -77,7 +77,7 @@ impl Repeats {
     }
 
     /// Notes a record as a sending of the frame that this record sent first.
-    pub(crate) fn note(&mut self, record: &SeenRecord, first: u64) -> Result<(), AllocError> {
+    pub fn note(&mut self, record: &SeenRecord, first: u64) -> Result<(), AllocError> {
         let Some(link) = record.link else {
             return Ok(());
         };
