@@ -169,10 +169,8 @@ impl Tap {
         frame: &Result<FrameView<'_>, FrameFault>,
         oldest: u64,
     ) -> Result<(), AllocError> {
-        let profile = Claims {
-            profile: true,
-            ..self.claims
-        };
+        let mut profile = self.claims;
+        profile.profile = true;
         let unread = UnreadRecord {
             stamp: record.stamp,
             number: record.number,

@@ -201,15 +201,22 @@ impl StationFile {
     /// What the known keys of a document say.
     fn of<'f>(alloc: Global, document: &Table) -> Result<StationFile, StationFault<'f>> {
         let station = Keys::of(alloc, document, TableName::Station)?;
-        let claims = with_station(&station)?;
+        let mut claims = station_claims(&station)?;
         let keys = Keys::of(alloc, document, TableName::Claims)?;
-        let claims = with_forwarding(&keys, claims)?;
-        let claims = with_sending(&keys, claims)?;
+        read_forwarding(&keys, &mut claims)?;
+        read_sending(&keys, &mut claims)?;
+        read_conduct(&keys, &mut claims)?;
         let capture = Keys::of(alloc, document, TableName::Capture)?;
-        let claims = with_capture(&capture, claims)?;
-        let clock = clock_of(&capture)?;
-        let clock_error = capture.number_or("clock_error", 0, MOST_WAIT, USUAL_CLOCK_ERROR)?;
-        let claims = with_records(&capture, claims)?;
+        StationFile::with_capture(&capture, claims)
+    }
+
+    /// These claims, with what the table of the capture says.
+    fn with_capture<'f>(keys: &Keys<'_>, claims: Claims) -> Result<StationFile, StationFault<'f>> {
+        let mut claims = claims;
+        read_capture(keys, &mut claims)?;
+        let clock = clock_of(keys)?;
+        let clock_error = keys.number_or("clock_error", 0, MOST_WAIT, USUAL_CLOCK_ERROR)?;
+        read_records(keys, &mut claims)?;
         Ok(StationFile {
             claims,
             clock,
@@ -245,7 +252,8 @@ fn not_table<'f>(alloc: Global, name: &str) -> Result<StationFault<'f>, AllocErr
     Ok(StationFault::NotTable(String::from_str(alloc, name)?))
 }
 
-/// The claims of a station with this address, of which nothing else is claimed: each key has its default.
+/// The claims of a station with this address, of which nothing else is claimed: each key has its
+/// default.
 pub(crate) fn usual_claims(address: GnAddress) -> Claims {
     Claims {
         address,
@@ -284,28 +292,29 @@ pub(crate) fn usual_claims(address: GnAddress) -> Claims {
 }
 
 /// What the table of the station says.
-fn with_station<'f>(keys: &Keys<'_>) -> Result<Claims, StationFault<'f>> {
-    let claims = usual_claims(address_of(keys)?);
-    let mac = mac_of(keys)?.unwrap_or(claims.mac);
-    let place = place_of(keys)?;
-    Ok(Claims {
-        mac,
-        place,
-        accuracy: keys.short_or("accuracy", 65535, claims.accuracy)?,
-        tolerance: keys.short_or("tolerance", 1000, claims.tolerance)?,
-        age: keys.number("age", 0, MOST_AGE)?,
-        mobile: keys.truth_if_any("mobile")?,
-        ..claims
-    })
+fn station_claims<'f>(keys: &Keys<'_>) -> Result<Claims, StationFault<'f>> {
+    let mut claims = usual_claims(address_of(keys)?);
+    if let Some(mac) = mac_of(keys)? {
+        claims.mac = mac;
+    }
+    claims.place = place_of(keys)?;
+    claims.accuracy = keys.short_or("accuracy", 65535, claims.accuracy)?;
+    claims.tolerance = keys.short_or("tolerance", 1000, claims.tolerance)?;
+    claims.age = keys.number("age", 0, MOST_AGE)?;
+    claims.mobile = keys.truth_if_any("mobile")?;
+    Ok(claims)
 }
 
 /// The station's address.
 fn address_of<'f>(keys: &Keys<'_>) -> Result<GnAddress, StationFault<'f>> {
-    let wrong = keys.wrong("address", Wanted::Address);
-    let Some(octets) = keys.digits::<8>("address", Wanted::Address)? else {
-        return Err(wrong);
+    let address = match keys.digits::<8>("address", Wanted::Address)? {
+        Some(octets) => GnAddress::from_u64(u64::from_be_bytes(octets)).ok(),
+        None => None,
     };
-    GnAddress::from_u64(u64::from_be_bytes(octets)).map_err(|_| wrong)
+    match address {
+        Some(address) => Ok(address),
+        None => Err(keys.wrong("address", Wanted::Address)),
+    }
 }
 
 /// Its link address, if there is one.
@@ -348,49 +357,60 @@ fn place_at<'f>(keys: &Keys<'_>, lat: i64, lon: i64) -> Result<Option<Place>, St
 }
 
 /// What the table of claims says of forwarding.
-fn with_forwarding<'f>(keys: &Keys<'_>, claims: Claims) -> Result<Claims, StationFault<'f>> {
-    let area = match keys.is_first("area", "simple", "other", "simple, other")? {
-        Some(true) => AreaForwarding::Simple,
-        _ => AreaForwarding::Other,
-    };
-    let elsewhere = match keys.is_first("elsewhere", "greedy", "other", "greedy, other")? {
-        Some(true) => NonAreaForwarding::Greedy,
-        _ => NonAreaForwarding::Other,
-    };
-    Ok(Claims {
-        area,
-        elsewhere,
-        remember: keys.number_or("remember", 1, 256, claims.remember)?,
-        life: keys.number_or("life", 1, MOST_LIFE, claims.life)?,
-        capacity: keys.number("capacity", 1, 4096)?,
-        profile: keys.truth("profile")?,
-        ..claims
-    })
+fn read_forwarding<'f>(keys: &Keys<'_>, claims: &mut Claims) -> Result<(), StationFault<'f>> {
+    claims.area = area_of(keys)?;
+    claims.elsewhere = elsewhere_of(keys)?;
+    claims.remember = keys.number_or("remember", 1, 256, claims.remember)?;
+    claims.life = keys.number_or("life", 1, MOST_LIFE, claims.life)?;
+    claims.capacity = keys.number("capacity", 1, 4096)?;
+    claims.profile = keys.truth("profile")?;
+    Ok(())
+}
+
+/// How the station forwards inside of an area.
+fn area_of<'f>(keys: &Keys<'_>) -> Result<AreaForwarding, StationFault<'f>> {
+    match keys.is_first("area", "simple", "other", "simple, other")? {
+        Some(true) => Ok(AreaForwarding::Simple),
+        _ => Ok(AreaForwarding::Other),
+    }
+}
+
+/// How it forwards outside of an area.
+fn elsewhere_of<'f>(keys: &Keys<'_>) -> Result<NonAreaForwarding, StationFault<'f>> {
+    match keys.is_first("elsewhere", "greedy", "other", "greedy, other")? {
+        Some(true) => Ok(NonAreaForwarding::Greedy),
+        _ => Ok(NonAreaForwarding::Other),
+    }
 }
 
 /// What the table of claims says of what the station sends by itself.
-fn with_sending<'f>(keys: &Keys<'_>, claims: Claims) -> Result<Claims, StationFault<'f>> {
-    let interval = keys.number_or("interval", 0, MOST_LIFE, claims.interval)?;
-    let jitter = keys.number_or("jitter", 0, MOST_LIFE, claims.jitter)?;
-    let reset = match keys.is_first("reset", "any", "shb", "any, shb")? {
-        Some(true) => Some(BeaconReset::Any),
-        Some(false) => Some(BeaconReset::Shb),
-        None => None,
-    };
-    Ok(Claims {
-        interval,
-        jitter,
-        reset,
-        lifetime: keys.number_or("lifetime", 0, MOST_LIFETIME, claims.lifetime)?,
-        modulus: modulus_of(keys)?,
-        gapless: keys.truth("gapless")?,
-        rate: keys.number_or("rate", 1, 1_000_000, claims.rate)?,
-        steady: keys.truth("steady")?,
-        fresh: keys.truth("fresh")?,
-        unlimited: keys.truth("unlimited")?,
-        unbuffered: keys.truth("unbuffered")?,
-        ..claims
-    })
+fn read_sending<'f>(keys: &Keys<'_>, claims: &mut Claims) -> Result<(), StationFault<'f>> {
+    claims.interval = keys.number_or("interval", 0, MOST_LIFE, claims.interval)?;
+    claims.jitter = keys.number_or("jitter", 0, MOST_LIFE, claims.jitter)?;
+    claims.reset = reset_of(keys)?;
+    claims.lifetime = keys.number_or("lifetime", 0, MOST_LIFETIME, claims.lifetime)?;
+    claims.modulus = modulus_of(keys)?;
+    Ok(())
+}
+
+/// What the table of claims says of what the station does at all times.
+fn read_conduct<'f>(keys: &Keys<'_>, claims: &mut Claims) -> Result<(), StationFault<'f>> {
+    claims.gapless = keys.truth("gapless")?;
+    claims.rate = keys.number_or("rate", 1, 1_000_000, claims.rate)?;
+    claims.steady = keys.truth("steady")?;
+    claims.fresh = keys.truth("fresh")?;
+    claims.unlimited = keys.truth("unlimited")?;
+    claims.unbuffered = keys.truth("unbuffered")?;
+    Ok(())
+}
+
+/// Which packets put its beacon off, if the file says it.
+fn reset_of<'f>(keys: &Keys<'_>) -> Result<Option<BeaconReset>, StationFault<'f>> {
+    match keys.is_first("reset", "any", "shb", "any, shb")? {
+        Some(true) => Ok(Some(BeaconReset::Any)),
+        Some(false) => Ok(Some(BeaconReset::Shb)),
+        None => Ok(None),
+    }
 }
 
 /// The modulus of sequence numbers, if there is one.
@@ -406,16 +426,14 @@ fn modulus_of<'f>(keys: &Keys<'_>) -> Result<Option<SequenceModulus>, StationFau
 }
 
 /// What the table of the capture says, up to its clock.
-fn with_capture<'f>(keys: &Keys<'_>, claims: Claims) -> Result<Claims, StationFault<'f>> {
-    Ok(Claims {
-        sent: keys.truth("sent")?,
-        received: keys.truth("received")?,
-        delivered: keys.truth("delivered")?,
-        within: keys.number_or("within", 0, MOST_WAIT, claims.within)?,
-        queue: keys.number_or("queue", 0, MOST_WAIT, claims.queue)?,
-        skew: keys.number_or("skew", 0, MOST_WAIT, claims.skew)?,
-        ..claims
-    })
+fn read_capture<'f>(keys: &Keys<'_>, claims: &mut Claims) -> Result<(), StationFault<'f>> {
+    claims.sent = keys.truth("sent")?;
+    claims.received = keys.truth("received")?;
+    claims.delivered = keys.truth("delivered")?;
+    claims.within = keys.number_or("within", 0, MOST_WAIT, claims.within)?;
+    claims.queue = keys.number_or("queue", 0, MOST_WAIT, claims.queue)?;
+    claims.skew = keys.number_or("skew", 0, MOST_WAIT, claims.skew)?;
+    Ok(())
 }
 
 /// The clock of the stamps.
@@ -427,19 +445,16 @@ fn clock_of<'f>(keys: &Keys<'_>) -> Result<StampClock, StationFault<'f>> {
 }
 
 /// What the table of the capture says after its clock.
-fn with_records<'f>(keys: &Keys<'_>, claims: Claims) -> Result<Claims, StationFault<'f>> {
-    let until = match keys.integer("until", 0, MOST_UNTIL)? {
+fn read_records<'f>(keys: &Keys<'_>, claims: &mut Claims) -> Result<(), StationFault<'f>> {
+    claims.until = match keys.integer("until", 0, MOST_UNTIL)? {
         Some(until) => u64::try_from(until).ok(),
         None => None,
     };
     if keys.number("tap", 0, 63)?.unwrap_or(0) != 0 {
         return Err(keys.wrong("tap", Wanted::Tap));
     }
-    Ok(Claims {
-        until,
-        interface: keys.number("interface", 0, 65535)?,
-        ..claims
-    })
+    claims.interface = keys.number("interface", 0, 65535)?;
+    Ok(())
 }
 
 /// Refuses a document with an unknown table or key: with the first, in the order of the lines that

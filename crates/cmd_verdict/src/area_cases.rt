@@ -69,10 +69,9 @@ pub(crate) fn area_target_case(
 
 /// The same claims of a station that forwards to all inside of an area.
 fn simple_claims(claims: &Claims) -> Claims {
-    Claims {
-        area: AreaForwarding::Simple,
-        ..*claims
-    }
+    let mut simple = *claims;
+    simple.area = AreaForwarding::Simple;
+    simple
 }
 
 /// What an inconclusive verdict needs, by the one of a station that forwards to all inside of an area.

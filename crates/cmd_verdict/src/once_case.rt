@@ -62,15 +62,13 @@ fn again_doubt(claims: &Claims, found: &FoundAgain) -> Text {
 
 /// The claims with which a packet that was forwarded again breaks the rule.
 fn again_needs(claims: &Claims, found: &FoundAgain) -> Needs {
-    let all = Claims {
-        area: AreaForwarding::Simple,
-        capacity: Some(claims.capacity.unwrap_or(LARGEST)),
-        steady: true,
-        fresh: true,
-        unbuffered: true,
-        received: true,
-        ..*claims
-    };
+    let mut all = *claims;
+    all.area = AreaForwarding::Simple;
+    all.capacity = Some(claims.capacity.unwrap_or(LARGEST));
+    all.steady = true;
+    all.fresh = true;
+    all.unbuffered = true;
+    all.received = true;
     let stays_unread = found.unread.is_some_and(|unread| unread.despite_profile);
     let all_read = !stays_unread && !found.too_many;
     if !is_fail(&judge_once(&all, found.earlier(&all, all_read))) {

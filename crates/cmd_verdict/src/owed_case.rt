@@ -75,18 +75,16 @@ fn doubt_text(doubt: Doubt, found: &FoundOwed) -> Text {
 
 /// The claims with which a packet would be owed.
 fn owed_needs(claims: &Claims, frame: &FrameView<'_>, found: &FoundOwed) -> Needs {
-    let all = Claims {
-        area: AreaForwarding::Simple,
-        capacity: Some(claims.capacity.unwrap_or(LARGEST)),
-        sent: true,
-        received: true,
-        delivered: true,
-        unlimited: true,
-        unbuffered: true,
-        steady: true,
-        fresh: true,
-        ..*claims
-    };
+    let mut all = *claims;
+    all.area = AreaForwarding::Simple;
+    all.capacity = Some(claims.capacity.unwrap_or(LARGEST));
+    all.sent = true;
+    all.received = true;
+    all.delivered = true;
+    all.unlimited = true;
+    all.unbuffered = true;
+    all.steady = true;
+    all.fresh = true;
     let helps = is_helped(found.gaps.unread)
         && found.gaps.sent_unread.is_none()
         && !found.gaps.too_many;

@@ -49,14 +49,11 @@ fn numbers_case(claims: &Claims, own: &OwnPackets, waiting: &Waiting) -> Option<
 
 /// What a verdict on a sequence number needs.
 fn numbers_needs(claims: &Claims, step: NumberStep) -> Needs {
-    let steady = Claims {
-        steady: true,
-        ..*claims
-    };
-    Needs {
-        steady: is_fail(&judge_numbers(&steady, step)),
-        ..Needs::default()
-    }
+    let mut steady = *claims;
+    steady.steady = true;
+    let mut needs = Needs::default();
+    needs.steady = is_fail(&judge_numbers(&steady, step));
+    needs
 }
 
 /// How many numbers were not seen.
@@ -138,17 +135,12 @@ fn passes_but_for(claims: &Claims, gap: BeaconGap) -> bool {
 
 /// What a verdict on a beacon needs.
 fn beacon_needs(claims: &Claims, gap: BeaconGap) -> Needs {
-    let steady = Claims {
-        steady: true,
-        ..*claims
-    };
-    let sent = Claims {
-        sent: true,
-        ..*claims
-    };
-    Needs {
-        steady: is_fail(&judge_beacon(&steady, gap)),
-        sent: judge_beacon(&sent, gap) == Verdict::Pass,
-        ..Needs::default()
-    }
+    let mut steady = *claims;
+    steady.steady = true;
+    let mut sent = *claims;
+    sent.sent = true;
+    let mut needs = Needs::default();
+    needs.steady = is_fail(&judge_beacon(&steady, gap));
+    needs.sent = judge_beacon(&sent, gap) == Verdict::Pass;
+    needs
 }
