@@ -137,7 +137,7 @@ fn is_made_from(claims: &Claims, packet: &HeardPacket, relay: &NearRelay) -> boo
 
 impl Kept<'_> {
     /// Finds what is known of a heard packet.
-    pub(crate) fn find(&self, frame: HeardFrame<'_>) -> FoundOwed {
+    pub(crate) fn find(&self, frame: &HeardFrame<'_>) -> FoundOwed {
         let claims = &self.tap.claims;
         let (first, last) = sent_from_to(frame.record);
         let to = last.saturating_add(span(claims));
@@ -219,7 +219,7 @@ impl Kept<'_> {
     /// The copies that came beside a packet. `start`: since when its number is new.
     fn copies(
         &self,
-        frame: HeardFrame<'_>,
+        frame: &HeardFrame<'_>,
         own: Option<&HeardPacket>,
         start: u64,
         beside: Stretch,
@@ -255,7 +255,7 @@ impl Kept<'_> {
     /// The frame that a packet caused.
     fn caused(
         &self,
-        frame: HeardFrame<'_>,
+        frame: &HeardFrame<'_>,
         own: Option<&HeardPacket>,
         is_new: bool,
         sent: Stretch,
@@ -285,7 +285,7 @@ impl Kept<'_> {
     /// Whether a frame was made from a copy of a packet.
     fn is_of_copy(
         &self,
-        frame: HeardFrame<'_>,
+        frame: &HeardFrame<'_>,
         own: Option<&HeardPacket>,
         relay: &NearRelay,
     ) -> bool {

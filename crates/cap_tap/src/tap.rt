@@ -229,7 +229,7 @@ impl Tap {
     }
 
     /// Finds what is known of a packet for an area that the station may have received.
-    pub fn find_owed(&self, times: CaptureTimes, frame: HeardFrame<'_>) -> FoundOwed {
+    pub fn find_owed(&self, times: CaptureTimes, frame: &HeardFrame<'_>) -> FoundOwed {
         Kept { tap: self, times }.find(frame)
     }
 }

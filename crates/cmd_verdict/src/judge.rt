@@ -112,7 +112,8 @@ impl Judge {
             return Ok(());
         }
         self.repeats.note(&record, record.number)?;
-        let met = self.tap.add(&record, self.settled(record.stamp))?;
+        let settled = self.settled(record.stamp);
+        let met = self.tap.add(&record, settled)?;
         if matches!(met.role, Role::SentOther) {
             self.others = self.others.saturating_add(1);
         }
@@ -189,16 +190,17 @@ impl Judge {
         let times = self.times();
         match (waiting.met.role, &record.frame()) {
             (Role::Own, Ok(frame)) => {
-                put_all(record, own_cases(tap, waiting, frame).as_slice(), sink)
+                let cases = own_cases(tap, waiting, frame);
+                put_all(record, cases.as_slice(), sink)
             }
             (Role::Forwarded, Ok(frame)) => {
                 let cases = forwarded_cases(tap, record, frame, times.begin)?;
                 put_all(record, cases.as_slice(), sink)
             }
-            (Role::Heard, Ok(frame)) => {
-                let case = owed_case_of(tap, waiting, frame, times);
-                put_all(record, [case].as_slice(), sink)
-            }
+            (Role::Heard, Ok(frame)) => match owed_case_of(tap, waiting, frame, times) {
+                Some(case) => sink.put(record, case),
+                None => Ok(()),
+            },
             _ => sink.put(record, form_case(&tap.claims, record)),
         }
     }

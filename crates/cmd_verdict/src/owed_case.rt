@@ -24,7 +24,7 @@ pub(crate) fn owed_case_of(
         packet: PacketId::of(frame)?,
         since: waiting.met.since?,
     };
-    let found = tap.find_owed(times, heard);
+    let found = tap.find_owed(times, &heard);
     owed_case(&tap.claims, frame, &found)
 }
 
