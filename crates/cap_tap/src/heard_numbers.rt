@@ -82,7 +82,7 @@ impl HeardNumbers {
         frame: &FrameView<'_>,
         oldest: u64,
     ) -> Result<(), AllocError> {
-        let Some(packet) = PacketId::of(frame) else {
+        let Some(PacketId { source, sequence }) = PacketId::of(frame) else {
             return Ok(());
         };
         self.forget(oldest);
@@ -93,7 +93,7 @@ impl HeardNumbers {
                 record: record.number,
                 stamp: *stamp,
                 before,
-                packet,
+                packet: PacketId { source, sequence },
             })?;
             before = Some(*stamp);
         }
@@ -101,7 +101,7 @@ impl HeardNumbers {
             record: record.number,
             stamp: record.stamp,
             before,
-            packet,
+            packet: PacketId { source, sequence },
         })
     }
 
