@@ -88,7 +88,7 @@ fn beacon_case(
     }
     let found = gap_before(claims, own, waiting)?;
     let verdict = judge_beacon(claims, found.gap);
-    let text = beacon_text(claims, verdict, found);
+    let text = beacon_text(claims, &verdict, &found);
     let needs = beacon_needs(claims, found.gap);
     Some(Case::of(Duty::BeaconNotEarly, verdict, text).needing(needs))
 }
@@ -115,16 +115,23 @@ fn gap_before(claims: &Claims, own: &OwnPackets, waiting: &Waiting) -> Option<Fo
 }
 
 /// What a verdict on a beacon says.
-fn beacon_text(claims: &Claims, verdict: Verdict, found: FoundGap) -> Text {
+fn beacon_text(claims: &Claims, verdict: &Verdict, found: &FoundGap) -> Text {
     let since = found.gap.since;
-    match (verdict, found.hidden) {
-        (Verdict::Fail(_), _) => Text::BeaconEarly(since, found.record, claims.interval),
-        (Verdict::Inconclusive(_), Some(hidden)) if passes_but_for(claims, found.gap) => {
-            Text::NotRead(hidden)
+    let after = Text::After(since, found.record);
+    match verdict {
+        Verdict::Fail(_) => Text::BeaconEarly(since, found.record, claims.interval),
+        Verdict::Inconclusive(_) if passes_but_for(claims, found.gap) => {
+            gap_doubt(found).unwrap_or(after)
         }
-        (Verdict::Inconclusive(_), None) if found.lacks && passes_but_for(claims, found.gap) =>
-            Text::TooMany,
-        _ => Text::After(since, found.record),
+        _ => after,
+    }
+}
+
+/// Why it isn't known whether a beacon is alone.
+fn gap_doubt(found: &FoundGap) -> Option<Text> {
+    match found.hidden {
+        Some(hidden) => Some(Text::NotRead(hidden)),
+        None => found.lacks.then_some(Text::TooMany),
     }
 }
 

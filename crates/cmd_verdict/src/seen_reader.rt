@@ -30,7 +30,7 @@ impl SeenReader {
 }
 
 impl RecordReader for SeenReader {
-    ghost use Rattle.cap_tap.specs.Records.{ReadsSeen};
+    ghost use Rattle.cmd_verdict.specs.Records.{ReadsSeen};
 
     type Record = ReadRecord;
 
