@@ -25,7 +25,10 @@ pub fn duties_of<'a>(matches: &ArgMatches<'a>) -> Result<DutySet, BadArgument<'a
         return Ok(DutySet::all());
     };
     let wanted = "a list of D1 to D6, D10, D12 to D17, D19 and D20";
-    DutySet::listed(list).map_err(|_| BadArgument::Value("duty", list, wanted))
+    match DutySet::listed(list) {
+        Ok(duties) => Ok(duties),
+        Err(_) => Err(BadArgument::Value("duty", list, wanted)),
+    }
 }
 
 /// Which verdicts are printed, by `--all` and `--inconclusive`.
