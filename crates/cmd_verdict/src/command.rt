@@ -15,6 +15,7 @@ use cap_records::{CaptureFile, FileFault, Pulled, Records, Selection, open_recor
 use cmd_iut::{ClaimSet, Premises, PremisesObject, StationFault, StationFile};
 use cmd_reporting::{Fault, Io, OutputFormat, Status, is_standard, open};
 use cmd_times::{Clock, Instant, Time};
+use its_duties::Claims;
 use its_linkframe::{Counted, Source};
 use its_words::frames::Explanation;
 use std::alloc::Global;
@@ -114,12 +115,7 @@ where
         assumed: what.assumed,
         version: what.version,
     };
-    if io.format.json {
-        writeln!(io.out, "{}", PremisesObject(premises))?;
-    } else {
-        writeln!(io.out, "{premises}")?;
-    }
-    let mut judge = Judge::new(alloc, &premises.claims());
+    print_premises(premises, io)?;
     let mut reporter = Reporter {
         out: &mut io.out,
         json: io.format.json,
@@ -131,11 +127,52 @@ where
         first: Instant::of_nanos(0),
         counts: VerdictCounts::new(),
     };
-    let fault = judge_records(alloc, what, capture, &mut judge, &mut reporter)?;
-    judge.end(&mut reporter)?;
+    let judged = judge_capture(alloc, what, &premises.claims(), capture, &mut reporter)?;
     let counts = reporter.counts;
-    print_total(what, io.format, &counts, &judge, &mut io.out)?;
-    Ok(end_with(what, io.format, &counts, fault, &mut io.err))
+    print_total(what, io.format, &counts, judged, &mut io.out)?;
+    Ok(end_with(what, io.format, &counts, judged.ended, &mut io.err))
+}
+
+/// Prints the first line.
+fn print_premises<'f, W: Write, E>(
+    premises: Premises<'_>,
+    io: &mut Io<W, E>,
+) -> Result<(), Fault<'f>> {
+    if io.format.json {
+        writeln!(io.out, "{}", PremisesObject(premises))?;
+    } else {
+        writeln!(io.out, "{premises}")?;
+    }
+    Ok(())
+}
+
+/// How far a capture was judged.
+#[derive(Clone, Copy)]
+struct Judged {
+    /// Why it wasn't read to its end, if it wasn't.
+    ended: Option<Ended>,
+    /// How many records are repeats of the link.
+    repeats: u64,
+    /// How many frames of other types the station sent.
+    others: u64,
+}
+
+/// Judges a capture.
+fn judge_capture<'a, S: Source + Drop, W: Write>(
+    alloc: Global,
+    what: &VerdictOptions<'a>,
+    claims: &Claims,
+    capture: CaptureFile<S>,
+    reporter: &mut Reporter<'_, W>,
+) -> Result<Judged, Fault<'a>> {
+    let mut judge = Judge::new(alloc, claims);
+    let ended = judge_records(alloc, what, capture, &mut judge, reporter)?;
+    judge.end(reporter)?;
+    Ok(Judged {
+        ended,
+        repeats: judge.repeated,
+        others: judge.others,
+    })
 }
 
 /// Why a capture isn't read on, and after how many records.
@@ -247,15 +284,15 @@ fn print_total<'f, W: Write>(
     what: &VerdictOptions<'_>,
     format: OutputFormat,
     counts: &VerdictCounts,
-    judge: &Judge,
+    judged: Judged,
     out: &mut W,
 ) -> Result<(), Fault<'f>> {
     if format.json {
         let total = TotalObject {
             counts,
             duties: &what.duties,
-            repeats: judge.repeated,
-            others: judge.others,
+            repeats: judged.repeats,
+            others: judged.others,
         };
         writeln!(out, "{total}")?;
     } else {
