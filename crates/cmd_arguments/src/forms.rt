@@ -30,14 +30,14 @@ enum Argument {
     Choice(&'static str, &'static str, &'static [&'static str], &'static str),
 }
 
-/// A command: its name, what it does, its arguments, those that select records, and the end of its
-/// help.
+/// A command: its name, what it does, its arguments, what further options of it select, and the end
+/// of its help.
 #[derive(Clone, Copy)]
 struct Form {
     name: &'static str,
     about: &'static str,
     arguments: &'static [Argument],
-    choosing: &'static [Argument],
+    selecting: Selecting,
     example: &'static str,
 }
 
@@ -241,49 +241,51 @@ const OUTPUT: Argument = Argument::LetterValue(
     "File to write, the same as OUT",
 );
 
-/// The options that select records.
-const CHOOSING: &[Argument] = &[
-    KIND,
-    SOURCE,
-    FROM_MAC,
-    TO_MAC,
-    PORT,
-    HOPS,
-    CLASS,
-    NUMBER,
-    AREA,
-    ANY,
-    NOT,
-    SINCE,
-    UNTIL,
-    REFUSED,
-    NOT_GEONETWORKING,
-    COUNT,
-];
+/// The options that select frames by the ends of their packet.
+static ENDS: [Argument; 4] = [KIND, SOURCE, FROM_MAC, TO_MAC];
 
-/// The options that select frames, for a command that follows them over several captures.
-const CHOOSING_FRAMES: &[Argument] = &[
-    KIND,
-    SOURCE,
-    FROM_MAC,
-    TO_MAC,
-    PORT,
-    HOPS,
-    CLASS,
-    NUMBER,
-    AREA,
-    ANY,
-    NOT,
-    SINCE,
-    UNTIL,
-    NOT_GEONETWORKING,
-];
+/// The options that select frames by what is in them, and records by their time.
+static CONTENTS: [Argument; 8] = [HOPS, CLASS, NUMBER, AREA, ANY, NOT, SINCE, UNTIL];
 
-/// The options that select records, for a command whose `--port` opens a port.
-const CHOOSING_TO_ANY_PORT: &[Argument] = &[
-    KIND, SOURCE, FROM_MAC, TO_MAC, HOPS, CLASS, NUMBER, AREA, ANY, NOT, SINCE, UNTIL, REFUSED,
-    COUNT,
-];
+// A function for each list: a table that repeats them takes the check long.
+
+fn ends() -> &'static [Argument] {
+    &ENDS
+}
+
+fn contents() -> &'static [Argument] {
+    &CONTENTS
+}
+
+/// What the options of a command select.
+#[derive(Clone, Copy)]
+enum Selecting {
+    /// It has no such options.
+    Nothing,
+    /// Records.
+    Records,
+    /// Frames, for a command that follows them over several captures.
+    Frames,
+    /// Records, for a command whose `--port` opens a port.
+    RecordsToAnyPort,
+}
+
+impl Selecting {
+    /// Returns the options in groups, in the order of the help.
+    fn options(self) -> [&'static [Argument]; 4] {
+        match self {
+            Selecting::Nothing => [&[], &[], &[], &[]],
+            Selecting::Records => [
+                ends(),
+                &[PORT],
+                contents(),
+                &[REFUSED, NOT_GEONETWORKING, COUNT],
+            ],
+            Selecting::Frames => [ends(), &[PORT], contents(), &[NOT_GEONETWORKING]],
+            Selecting::RecordsToAnyPort => [ends(), &[], contents(), &[REFUSED, COUNT]],
+        }
+    }
+}
 
 /// Adds all commands to a program, each with its arguments, in the order of the help.
 pub fn add_commands<'a>(alloc: Global, program: Command<'a>) -> Result<Command<'a>, AllocError> {
@@ -299,15 +301,23 @@ pub fn command_named<'a>(
     program: &str,
     name: &str,
 ) -> Result<Option<Command<'a>>, AllocError> {
+    let Some(form) = form_named(name) else {
+        return Ok(None);
+    };
+    let called = format!(in alloc; "{program} {name}")?;
+    Ok(Some(form.command(alloc)?.bin_name(called.as_str())?))
+}
+
+/// The form of the command of this name, if there is one.
+fn form_named(name: &str) -> Option<&'static Form> {
     for forms in [readers(), makers(), runners(), stations()] {
         for form in forms {
             if form.name == name {
-                let called = format!(in alloc; "{program} {name}")?;
-                return Ok(Some(form.command(alloc)?.bin_name(called.as_str())?));
+                return Some(form);
             }
         }
     }
-    Ok(None)
+    None
 }
 
 fn add_forms<'a>(
@@ -349,7 +359,7 @@ static READERS: [Form; 4] = [
             CAPTURE, FORMAT, JSON, EXPLAIN, NO_EXPLAIN, COLOR, TIME, FIELDS, PARTIAL, SIGNED,
             ALL_KINDS,
         ],
-        choosing: CHOOSING,
+        selecting: Selecting::Records,
         example: "\
 Keys of --fields: moment, from, to, kind, address, tst, lat, lon, pai, speed, heading, lt, tc,
 mobile, hops, max_hops, number, shape, alat, alon, a, b, angle, port, info, payload, refused,
@@ -366,7 +376,7 @@ Example:
         arguments: &[
             CAPTURE, FORMAT, JSON, EXPLAIN, NO_EXPLAIN, SIGNED, ALL_KINDS,
         ],
-        choosing: CHOOSING,
+        selecting: Selecting::Records,
         example: "\
 Example:
   geostation check first.cap",
@@ -389,7 +399,7 @@ Example:
             SIGNED,
             ALL_KINDS,
         ],
-        choosing: CHOOSING,
+        selecting: Selecting::Records,
         example: "\
 Example:
   geostation stats first.cap",
@@ -432,7 +442,7 @@ Example:
             SIGNED,
             ALL_KINDS,
         ],
-        choosing: CHOOSING_FRAMES,
+        selecting: Selecting::Frames,
         example: "\
 Example:
   geostation follow near.pcapng far.pcapng --summary",
@@ -461,7 +471,7 @@ static MAKERS: [Form; 2] = [
             NO_EXPLAIN,
             QUIET,
         ],
-        choosing: CHOOSING,
+        selecting: Selecting::Records,
         example: "\
 Example:
   geostation convert first.cap first.pcapng",
@@ -487,7 +497,7 @@ Example:
             NO_EXPLAIN,
             QUIET,
         ],
-        choosing: &[],
+        selecting: Selecting::Nothing,
         example: "\
 Example, for a file of lines such as '1000 ffffffffffff0200..':
   geostation import frames.txt frames.cap",
@@ -543,7 +553,7 @@ static RUNNERS: [Form; 3] = [
             STRICT,
             QUIET,
         ],
-        choosing: &[],
+        selecting: Selecting::Nothing,
         example: "\
 Example:
   geostation sim warning.toml",
@@ -581,7 +591,7 @@ Example:
             NO_EXPLAIN,
             QUIET,
         ],
-        choosing: &[],
+        selecting: Selecting::Nothing,
         example: "\
 Example:
   geostation view warning.toml -o warning.html",
@@ -590,7 +600,7 @@ Example:
         name: "mesh",
         about: "Run a scenario over UDP sockets on the loopback interface",
         arguments: &[SCENARIO, FRAMES, TO, JSON, EXPLAIN, NO_EXPLAIN, STRICT],
-        choosing: &[],
+        selecting: Selecting::Nothing,
         example: "\
 Example:
   geostation mesh warning.toml",
@@ -645,7 +655,7 @@ static STATIONS: [Form; 3] = [
             EXPLAIN,
             NO_EXPLAIN,
         ],
-        choosing: CHOOSING_TO_ANY_PORT,
+        selecting: Selecting::RecordsToAnyPort,
         example: "\
 Example:
   geostation replay first.cap 1400020000000002 0 0 --port 2002",
@@ -686,7 +696,7 @@ Example:
             ),
             FORMAT,
         ],
-        choosing: &[],
+        selecting: Selecting::Nothing,
         example: "\
 Claims of --assume: sent, received, delivered, fresh, steady, gapless, unlimited, unbuffered,
 profile
@@ -730,7 +740,7 @@ Example:
                 "Copies that cancel a frame that waits, 1 to 3 [default: 2]",
             ),
         ],
-        choosing: &[],
+        selecting: Selecting::Nothing,
         example: "\
 Example:
   echo '{\"at\":3000,\"do\":\"tick\",\"jitter\":0}' | geostation station 1400020000000001 0 0",
@@ -798,12 +808,26 @@ fn option<'a>(
 impl Form {
     /// Returns the command for clap.
     fn command<'a>(&self, alloc: Global) -> Result<Command<'a>, AllocError> {
-        let mut command = Command::new(alloc, self.name)
+        let command = Command::new(alloc, self.name)
             .about(self.about)
             .after_help(self.example);
-        for argument in self.arguments.iter().chain(self.choosing) {
-            command = command.arg(argument.to_clap(alloc)?)?;
+        let mut command = with_arguments(alloc, command, self.arguments)?;
+        for group in self.selecting.options() {
+            command = with_arguments(alloc, command, group)?;
         }
         Ok(command)
     }
+}
+
+/// Adds these arguments to a command.
+fn with_arguments<'a>(
+    alloc: Global,
+    command: Command<'a>,
+    arguments: &[Argument],
+) -> Result<Command<'a>, AllocError> {
+    let mut command = command;
+    for argument in arguments {
+        command = command.arg(argument.to_clap(alloc)?)?;
+    }
+    Ok(command)
 }
