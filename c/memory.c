@@ -1,7 +1,7 @@
 /* Prints what a station allocates, one line per size of its tables: `capacity remember`, the bytes, and
  * the size of each block. The first line is for the defaults. Ends with 1 if a station allocates more
  * when as many neighbours appear as its table holds, if a block is left when it is freed, or if one
- * that contends allocates over 7680 bytes more.
+ * that contends allocates over 8704 bytes more.
  *
  * Built with -Wl,--wrap=malloc,--wrap=calloc,--wrap=realloc,--wrap=free. */
 #include "geostation.h"
@@ -141,8 +141,8 @@ static size_t size_of(const struct geostation_config *config) {
 static void check_contention(struct geostation_config config) {
     const size_t simple = size_of(&config);
     config.area_forwarding = GEOSTATION_CONTENTION;
-    if (size_of(&config) > simple + 7680) {
-        fail("a station that contends allocates over 7680 bytes more");
+    if (size_of(&config) > simple + 8704) {
+        fail("a station that contends allocates over 8704 bytes more");
     }
 }
 

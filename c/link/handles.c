@@ -4,7 +4,7 @@
 #include <inttypes.h>
 #include <string.h>
 
-enum { HELD_PLACES = 7680 /* bytes for held frames, at most */ };
+enum { HELD_PLACES = 8704 /* bytes for held frames, at most */ };
 
 static geostation_handle *make(const struct geostation_config *c) {
     geostation_handle *handle;
