@@ -26,6 +26,7 @@ import test_own
 import test_security
 import test_service
 import test_standard
+import test_verdict
 from air import Air
 from common import (OTHER, PROGRAM, connect, connect_once_it_listens, has, notes, stamp,
                     udp)
@@ -438,7 +439,7 @@ def main():
     tests = {}
     for module in (sys.modules[__name__], test_client_rights, test_clock, test_contention,
                    test_faults, test_fixes, test_forger, test_limits, test_own, test_security,
-                   test_service, test_standard):
+                   test_service, test_standard, test_verdict):
         named = ((k, v) for k, v in vars(module).items() if k.startswith("test_"))
         found = {k: v for k, v in named if callable(v)}
         assert not tests.keys() & found.keys(), tests.keys() & found.keys()
