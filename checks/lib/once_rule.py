@@ -11,6 +11,7 @@ from dataclasses import dataclass, replace
 from pathlib import Path
 
 from verdict_frames import (
+    AROUND,
     BEGIN,
     CLAIMS,
     FAR,
@@ -32,7 +33,6 @@ from verdict_frames import (
 )
 
 FIRST = "the first time"
-AROUND = WITHIN + 2  # W + 2K in ms, with a skew of 0
 
 
 def claims_of(**values: str) -> str:

@@ -6,8 +6,9 @@ import sys
 from dataclasses import dataclass, replace
 from pathlib import Path
 
-from once_rule import AROUND, claims_of
+from once_rule import claims_of
 from verdict_frames import (
+    AROUND,
     AWAY,
     FAR,
     LIFE,

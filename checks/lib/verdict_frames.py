@@ -41,6 +41,7 @@ skew = 0
 """
 JUDGED = "D1 D2 D3 D4 D5 D6 D10 D12 D13 D14 D15 D16 D17 D19 D20".split()
 LIFE, WITHIN, REMEMBER = 20_000, 20, 8  # ms, ms, numbers
+AROUND = WITHIN + 2  # W + 2K in ms, with a skew of 0
 HOME = 115000000  # the longitude of the station that is judged
 OUTSIDE = "outside the area: not judged"
 BEGIN = 1_795_572_000_000  # ms since 1970, of the first record
