@@ -11,6 +11,8 @@ import frames
 from net import NO_LIMITS, PATIENCE, Daemon
 
 PROGRAM = sys.argv[1]
+TOP = Path(__file__).resolve().parents[3]
+GEOSTATION = Path(os.environ.get("GEOSTATION") or TOP / "crates/geostation/out/geostation").absolute()
 CLOCK = os.environ.get("GEOSTATION_TEST_CLOCK")
 OTHER = 0x1400020000000009
 PLACE = ("--position", "51.47765,-0.001")

@@ -1,6 +1,7 @@
 #!/usr/bin/env python3
 """Builds daemons with a mistake: in what they do with an entity's answers, by which a forger has to be
-seen to gain, and in what they do with held frames. Each has a test that fails.
+seen to gain, in what they do with held frames, and in what they forward. Each has a test that fails.
+Those of the last kind are left out if the program `geostation`, which judges them, is not built.
 
     planted.py PREFIX    PREFIX has the library and its header; CC is the compiler
 """
@@ -12,9 +13,12 @@ import sys
 import tempfile
 from pathlib import Path
 
+from common import GEOSTATION
+
 TEST = Path(__file__).resolve().parent
 
 FORGER, COPY, END = "test_forger", "test_copy_that_waits_in_the_socket", "test_end_with_held_frames"
+JUDGED = "test_verdict_without_limits"
 # A test, a name, a file, what stands there once, and what is planted.
 MISTAKES = [
     (FORGER, "an answer kept for another message", "kept.c",
@@ -36,6 +40,14 @@ MISTAKES = [
      "    if (releases) {\n        releases_turn(&p->station);\n    }\n    if (on[LINK].revents != 0) {"),
     (END, "held frames that are lost at the end", "loop.c",
      "    release_last(p);", "    (void)release_last;"),
+    (JUDGED, "a payload that is changed", "station.c",
+     "        forwards_put(s->forwards, s->frame, length, since);",
+     "        s->frame[length - 1] ^= 1;\n"
+     "        forwards_put(s->forwards, s->frame, length, since);"),
+    (JUDGED, "a frame that is forwarded twice", "station.c",
+     "        forwards_put(s->forwards, s->frame, length, since);",
+     "        forwards_put(s->forwards, s->frame, length, since);\n"
+     "        forwards_put(s->forwards, s->frame, length, since);"),
 ]
 
 
@@ -63,13 +75,15 @@ def is_seen(program, test):
 
 def main(prefix):
     os.environ["PYTHONDONTWRITEBYTECODE"] = "1"
-    for test, mistake, name, old, new in MISTAKES:
+    has_judge = os.access(GEOSTATION, os.X_OK)
+    mistakes = [mistake for mistake in MISTAKES if has_judge or mistake[0] != JUDGED]
+    for test, mistake, name, old, new in mistakes:
         with tempfile.TemporaryDirectory() as room:
             seen, run = is_seen(build(prefix, Path(room), name, old, new), test)
         if not seen:
             print(f"nobody saw {mistake}:\n{run.stdout}{run.stderr}")
             return 1
-    print(f"{len(MISTAKES)} daemons with a planted mistake are seen")
+    print(f"{len(mistakes)} daemons with a planted mistake are seen")
     return 0
 
 

@@ -7,18 +7,15 @@ import subprocess
 import tempfile
 import time
 from collections import Counter
-from pathlib import Path
 
 import frames
 from air import Air
-from common import PROGRAM, has, notes, write
+from common import GEOSTATION, PROGRAM, has, notes, write
 from frames import GBC
 from net import NO_LIMITS, PATIENCE, Net
 from tap import Tap
 from test_contention import CONTENDS, NORTH
 
-TOP = Path(__file__).resolve().parents[3]
-GEOSTATION = Path(os.environ.get("GEOSTATION") or TOP / "crates/geostation/out/geostation").absolute()
 WITHIN = 500  # ms, beyond the longest wait of the daemon and of a busy machine
 WARNINGS = 128  # more at once than the default limits let through
 FILE = """[station]
