@@ -10,6 +10,7 @@ import random
 import re
 import subprocess
 import sys
+from collections import Counter
 from pathlib import Path
 
 from obeying import replay
@@ -111,9 +112,15 @@ class Passes:
         self.duties = dict.fromkeys(JUDGED, 0)
 
     def add(self, lines: list[dict], total: dict) -> None:
+        """Adds the verdicts on a station, of which the last object has the counts."""
         self.stations, self.verdicts = self.stations + 1, self.verdicts + len(lines)
-        for duty, counts in total["total"].items():
-            self.duties[duty] += counts["pass"]
+        counts = Counter((line["duty"], line["result"]) for line in lines)
+        table = total["total"].items()
+        summed = {(duty, it): n for duty, results in table for it, n in results.items() if n}
+        if summed != dict(counts):
+            sys.exit(f"the table {summed} of verdicts {dict(counts)}")
+        for duty in JUDGED:
+            self.duties[duty] += counts[duty, "pass"]
 
     def check(self, what: str) -> None:
         for duty, passed in self.duties.items():
