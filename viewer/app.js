@@ -167,10 +167,10 @@
     const count = (value, one, more = `${one}s`) =>
       `${grouped(value)} ${value === 1 ? one : more}`;
     const {total, run, verdicts} = state;
-    const told = verdicts ? [`verdicts: ${geostation.verdicts.countWords(verdicts.counts)}`] : [];
+    const counted = verdicts ? [`verdicts: ${geostation.verdicts.countWords(verdicts.counts)}`] : [];
     const stations = count(run.stations.length, 'station');
     if (run.isCapture) {
-      return void tell([stations, count(total.events, 'record'), ...told].join(' · '));
+      return void tell([stations, count(total.events, 'record'), ...counted].join(' · '));
     }
     tell([stations, count(total.events, 'event'),
       count(total.frames, 'frame'), count(total.deliveries, 'delivery', 'deliveries'),
@@ -179,7 +179,7 @@
       count(total.refused, 'refused', 'refused'),
       ...(run.air?.contends ? [count(total.held, 'held', 'held'),
         count(total.cancelled, 'cancelled', 'cancelled')] : []),
-      ...told].join(' · '));
+      ...counted].join(' · '));
   }
 
   function rowCount() {

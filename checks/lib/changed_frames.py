@@ -102,7 +102,7 @@ def own_target(change: Change) -> Expected:
 
 def source_place(packet: bytes) -> int | None:
     """Where the source is by the header type: octet 12 of a BEACON or SHB, octet 16 of other kinds. None
-    if the Basic Header has no Common Header after it, or the type is none of the standard's."""
+    if the Basic Header has no Common Header after it, or the standard has no such type."""
     header_type, sub_type = packet[5] >> 4, packet[5] & 15
     if packet[0] & 15 != 1 or not 1 <= header_type <= 6:
         return None
@@ -123,7 +123,7 @@ def form_doubt(change: Change, code: str) -> str | None:
 
 
 def names_another(packet: bytes) -> bool:
-    """Whether the source can be found, and is none of the station's."""
+    """Whether the source can be found and isn't the station."""
     place = source_place(packet)
     return place is not None and packet[place : place + 8] != STATION.to_bytes(8, "big")
 
@@ -138,7 +138,7 @@ def unread_own(change: Change, code: str) -> Expected:
 
 
 def gap_after(name: str) -> set[tuple[str, str, str]]:
-    """The number that is missing if this packet is none of the station's own."""
+    """The number that is missing if the station didn't send this packet."""
     after = {"own 1": "own 2", "own 2": "own 3"}.get(name)
     return {("D6", after, "1 numbers were not seen")} if after else set()
 
