@@ -1,35 +1,35 @@
 -- Ethernet: target, source, up to two tags of IEEE 802.1Q, and the type.
-use Rattle.std.specs.Prelude.{◌≡◌, ℕ, ◌+◌, ◌%◌, ◌<◌, ◌≤◌, ◌⊎◌, Option, Some, None, List, length, drop}
-use Rattle.byteorder.specs.Endian.{big_number}
+use Rattle.std.specs.Prelude.{ℕ, ◌%◌, ◌==◌, ◌||◌, Bool, Option, Some, None, List, length, Result}
+use Rattle.std.specs.Prelude.{nat_lt, if◌then◌else◌}
+use Rattle.its_formats.specs.Format.{ends, value_of}
+use Rattle.cap_linklayers.specs.declared.link.LinkFault.{LinkFault}
+use Rattle.cap_linklayers.specs.LinkFormats.{Format, walk, any_number, skipped}
 
--- a tag begins at this octet: of a customer (8100), of a service (88a8), or of a service in the form
+-- the protocols of a tag: of a customer (8100), of a service (88a8), or of a service in the form
 -- that was used before IEEE 802.1ad (9100)
-pub record IsTag (w : List ℕ) (n : ℕ) : Type 0 where
-  pub inside : n + 2 ≤ length w
-  pub protocol : (big_number 2 (drop n w) ≡ 33024)
-      ⊎ ((big_number 2 (drop n w) ≡ 34984) ⊎ (big_number 2 (drop n w) ≡ 37120))
+abbrev pub is_tag : ℕ → Bool
+is_tag protocol = protocol == 33024 || protocol == 34984 || protocol == 37120
 
-abbrev pub HasOneTag : List ℕ → Type 0
-HasOneTag w = IsTag w 12 × ¬ IsTag w 16
+-- Where the type begins in a record of so many octets: behind the addresses, or behind one tag or
+-- two. A tag has its protocol and two octets more. Without a tag the record may end anywhere.
+unfoldable pub ethernet_format : ℕ → Format ℕ
+ethernet_format size =
+    if nat_lt size 14 then ends 12 else
+    skipped 12 (any_number 2 λ first.
+    if is_tag first
+    then skipped 2 (any_number 2 λ second.
+    if is_tag second then skipped 2 (any_number 2 λ _. ends 20) else ends 16) else ends 12)
 
-abbrev pub HasTwoTags : List ℕ → Type 0
-HasTwoTags w = IsTag w 12 × IsTag w 16
+-- where the type of a frame begins, or the first fault: the record ends before the type behind a tag
+abbrev pub type_in : List ℕ → Result ℕ LinkFault
+type_in w = value_of (walk (ethernet_format (length w)) w)
 
--- Where the type of a frame begins: behind the addresses, or behind one tag or two and wholly there.
-abbrev pub IsTypeAt : List ℕ → ℕ → Type 0
-IsTypeAt w at =
-    ((¬ IsTag w 12) × (at ≡ 12))
-    ⊎ (HasOneTag w × (18 ≤ length w) × (at ≡ 16))
-    ⊎ (HasTwoTags w × (22 ≤ length w) × (at ≡ 20))
+-- the VLAN identifier of the first tag, its lowest 12 bits, if a record of so many octets has it
+unfoldable pub identifier_format : ℕ → Format (Option ℕ)
+identifier_format size =
+    if nat_lt size 16 then ends None else
+    skipped 12 (any_number 2 λ first.
+    if is_tag first then any_number 2 (λ control. ends (Some (control % 4096))) else ends None)
 
--- the record ends before the type behind a tag
-abbrev pub EndsInTag : List ℕ → Type 0
-EndsInTag w = (IsTag w 12 × (length w < 18)) ⊎ (HasTwoTags w × (length w < 22))
-
--- The VLAN identifier of the first tag, its lowest 12 bits, where the tag is there.
-abbrev pub HasIdentifier : List ℕ → Type 0
-HasIdentifier w = IsTag w 12 × (16 ≤ length w)
-
-abbrev pub IsIdentifier : List ℕ → Option ℕ → Type 0
-IsIdentifier w None = ¬ HasIdentifier w
-IsIdentifier w (Some id) = HasIdentifier w × (id ≡ big_number 2 (drop 14 w) % 4096)
+abbrev pub identifier_in : List ℕ → Result (Option ℕ) LinkFault
+identifier_in w = value_of (walk (identifier_format (length w)) w)

@@ -1,6 +1,6 @@
 -- What the headers of a link layer say of a record beside its frame.
-use Rattle.std.specs.Prelude.{◌≡◌, ℕ, List, None, false}
-use Rattle.cap_linklayers.specs.Ethernet.{IsIdentifier}
+use Rattle.std.specs.Prelude.{◌≡◌, ℕ, List, None, Ok, false}
+use Rattle.cap_linklayers.specs.Ethernet.{identifier_in}
 use Rattle.cap_linklayers.specs.Ieee80211.{is_retry_at}
 use Rattle.cap_linklayers.specs.Radiotap.{IsRate, IsRetryBehind, IsSignal}
 use Rattle.cap_linklayers.specs.declared.facts.LinkFacts.{LinkFacts}
@@ -10,7 +10,7 @@ use Rattle.cap_linklayers.specs.declared.link.LinkLayer.TheVariants as layers
 -- a tag of Ethernet
 abbrev pub AreTagged : List ℕ → LinkFacts → Type 0
 AreTagged w facts =
-    IsIdentifier w facts.vlan × (facts.signal ≡ None) × (facts.rate ≡ None)
+    (identifier_in w ≡ Ok facts.vlan) × (facts.signal ≡ None) × (facts.rate ≡ None)
     × (facts.retry ≡ false)
 
 -- fields of radiotap, and the retry bit of the header behind it

@@ -1,3 +1,4 @@
+pub mod LinkFormats
 pub mod Cooked
 pub mod Ethernet
 pub mod Facts

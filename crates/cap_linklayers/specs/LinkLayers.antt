@@ -1,13 +1,12 @@
 -- The frame of a record of each link layer, and the first rule of its layer that doesn't hold.
 use Rattle.std.specs.Prelude.{◌≡◌, ℕ, ◌+◌, ◌-◌, ◌<◌, ◌≤◌, ◌⊎◌, Bool, true, false}
 use Rattle.std.specs.Prelude.{List, [], ◌∷◌, ◌++◌, length, take, drop}
-use Rattle.std.specs.Prelude.{Option, None, Some, ◌==◌, if◌then◌else◌}
+use Rattle.std.specs.Prelude.{Option, None, Some, Ok, Err, ◌==◌, if◌then◌else◌}
 use Rattle.its_linkframe.specs.Frames.{IsFrame}
-use Rattle.cap_linklayers.specs.Cooked.{IsSll, IsSllFault, IsSll2, IsSll2Fault}
-use Rattle.cap_linklayers.specs.Ethernet.{IsTypeAt, EndsInTag}
-use Rattle.cap_linklayers.specs.Ieee80211.{IsHeader, IsHeaderFault, has_bit}
+use Rattle.cap_linklayers.specs.Cooked.{IsCooked, IsCookedFault, sll_format, sll2_format}
+use Rattle.cap_linklayers.specs.Ethernet.{type_in}
+use Rattle.cap_linklayers.specs.Ieee80211.{IsHeaderFault, data_at, has_bit}
 use Rattle.cap_linklayers.specs.Radiotap.{IsRadiotap, IsRadiotapFault}
-use Rattle.cap_linklayers.specs.declared.ieee80211.DataHeader.{DataHeader}
 use Rattle.cap_linklayers.specs.declared.link.LinkFault.{LinkFault}
 use Rattle.cap_linklayers.specs.declared.link.LinkFault.TheVariants as faults
 use Rattle.cap_linklayers.specs.declared.link.LinkLayer.{LinkLayer}
@@ -38,10 +37,6 @@ abbrev pub link_code_of : LinkFault → List ℕ
 link_code_of faults.Short = 76 ∷ 49 ∷ []
 link_code_of faults.Kind = 76 ∷ 50 ∷ []
 
--- target and source of a header, and the type with what follows it
-abbrev pub joined : DataHeader → List ℕ → List ℕ
-joined h w = (take 6 (drop h.target w) ++ take 6 (drop h.source w)) ++ drop h.kind w
-
 -- Octets, which are a frame and four octets behind it, are read without these: a check sequence,
 -- whatever its value. Others stay.
 abbrev pub IsUnchecked : List ℕ → List ℕ → Type 0
@@ -57,13 +52,16 @@ is_checked h = has_bit 16 h.flags
 abbrev pub is_filled : RadiotapHeader → Bool
 is_filled h = has_bit 32 h.flags
 
--- the frame of IEEE 802.11 from an octet on, and the same without a check sequence behind it
-abbrev pub IsData : Bool → ℕ → List ℕ → List ℕ → Type 0
-IsData filled at w f = (h : DataHeader) × IsHeader filled w at h × (f ≡ joined h w)
+-- the frame of IEEE 802.11 from an octet on: what the format says, and what follows it
+pub record IsData (filled : Bool) (at : ℕ) (w f : List ℕ) : Type 0 where
+  pub front : List ℕ
+  pub end : ℕ
+  pub reading : data_at filled w at ≡ Ok (front, end)
+  pub frame : f ≡ front ++ drop end w
 
+-- the same without a check sequence behind it
 abbrev pub IsUncheckedData : Bool → ℕ → List ℕ → List ℕ → Type 0
-IsUncheckedData filled at w f =
-    (h : DataHeader) × IsHeader filled w at h × IsUnchecked (joined h w) f
+IsUncheckedData filled at w f = (r : List ℕ) × IsData filled at w r × IsUnchecked r f
 
 -- A record's octets behind a radiotap header: where they end with a check sequence, its four octets
 -- go first; else one may still stand behind the frame.
@@ -76,11 +74,11 @@ IsFrameBehind r w f =
 -- the frame of a record
 abbrev pub IsFrameIn : LinkLayer → List ℕ → List ℕ → Type 0
 IsFrameIn layers.Bare w f = f ≡ w
-IsFrameIn layers.Ethernet w f = (at : ℕ) × IsTypeAt w at × (f ≡ take 12 w ++ drop at w)
+IsFrameIn layers.Ethernet w f = (at : ℕ) × (type_in w ≡ Ok at) × (f ≡ take 12 w ++ drop at w)
 IsFrameIn layers.Ieee80211 w f = IsUncheckedData false 0 w f
 IsFrameIn layers.Radiotap w f = (r : RadiotapHeader) × IsRadiotap w r × IsFrameBehind r w f
-IsFrameIn layers.Sll w f = IsSll w f
-IsFrameIn layers.Sll2 w f = IsSll2 w f
+IsFrameIn layers.Sll w f = IsCooked sll_format w f
+IsFrameIn layers.Sll2 w f = IsCooked sll2_format w f
 
 abbrev pub IsFaultBehind : RadiotapHeader → List ℕ → LinkFault → Type 0
 IsFaultBehind r w f =
@@ -92,9 +90,9 @@ IsFaultBehind r w f =
 -- The first rule that doesn't hold.
 abbrev pub IsLinkFault : LinkLayer → List ℕ → LinkFault → Type 0
 IsLinkFault layers.Bare w f = ⊥
-IsLinkFault layers.Ethernet w f = (f ≡ faults.Short) × EndsInTag w
+IsLinkFault layers.Ethernet w f = type_in w ≡ Err f
 IsLinkFault layers.Ieee80211 w f = IsHeaderFault false w 0 f
 IsLinkFault layers.Radiotap w f =
     IsRadiotapFault w f ⊎ ((r : RadiotapHeader) × IsRadiotap w r × IsFaultBehind r w f)
-IsLinkFault layers.Sll w f = IsSllFault w f
-IsLinkFault layers.Sll2 w f = IsSll2Fault w f
+IsLinkFault layers.Sll w f = IsCookedFault sll_format w f
+IsLinkFault layers.Sll2 w f = IsCookedFault sll2_format w f

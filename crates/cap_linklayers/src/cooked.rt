@@ -1,20 +1,22 @@
-//! Linux cooked captures, as of the interface `any`: a header with the source's address and the type.
+//! Linux cooked captures, for example of the interface `any`: a header with the address of the
+//! source and the type.
 
 ghost use Rattle.std.specs.Prelude.{◌≡◌, ◌+◌, ◌≤◌, ◌++◌, IfOk, IfErr, length, take, drop};
-ghost use Rattle.cap_linklayers.specs.Cooked.{IsSll, IsSllFault, IsSll2, IsSll2Fault};
-ghost use Rattle.cap_linklayers.specs.Cooked.{cooked, is_shared as shared_by, target_of};
+ghost use Rattle.byteorder.specs.Endian.{big_number};
+ghost use Rattle.cap_linklayers.specs.Cooked.{IsCooked, IsCookedFault, sll_format, sll2_format};
+ghost use Rattle.cap_linklayers.specs.Cooked.{is_shared as shared_by, target_of};
 
 use crate::link::LinkFault;
 use byteorder::{BigEndian, ByteOrder};
 
-/// The octets of an address, of two, and of these with the type.
+/// The sizes of one address, of two addresses, and of two addresses with the type, in octets.
 const ADDRESS: usize = 6;
 
 const ADDRESSES: usize = 12;
 
 const LINK_HEADER: usize = 14;
 
-/// The octets of a type.
+/// The size of a type, in octets.
 const TYPE: usize = 2;
 
 /// Packet types of frames that went to more than one station.
@@ -22,8 +24,11 @@ const BROADCAST: u16 = 1;
 
 const MULTICAST: u16 = 2;
 
-/// The octets of a header of version 1, and where its parts stand: address length, address, type.
+/// The size of a header of version 1, and the positions of its parts: packet type, address length,
+/// address, type.
 const SLL: usize = 16;
+
+const SLL_PACKET: usize = 0;
 
 const SLL_LENGTH: usize = 4;
 
@@ -31,7 +36,8 @@ const SLL_ADDRESS: usize = 6;
 
 const SLL_TYPE: usize = 14;
 
-/// The same of version 2, whose packet type stands before the address length.
+/// The size of a header of version 2, and the positions of its parts: packet type, address length,
+/// address, type.
 const SLL2: usize = 20;
 
 const SLL2_PACKET: usize = 10;
@@ -42,29 +48,35 @@ const SLL2_ADDRESS: usize = 12;
 
 const SLL2_TYPE: usize = 0;
 
-/// Brings the frame of a record of version 1 together in its buffer, and returns where it begins.
-/// `Short` if the record ends before its header does, `Kind` if the address hasn't 6 octets.
+/// Puts the frame of a record of version 1 together in its buffer, and returns where it begins.
+/// Returns `Short` if the record is shorter than its header, and `Kind` if the address length is
+/// not 6.
+#[tactic(auto, unfolding(crate::specs::Cooked::sll_format, its_formats::specs::Format::number_at, its_formats::specs::Format::octets_at))]
 pub(crate) fn sll_start(octets: &mut Vec<u8>) -> Result<usize, LinkFault>
-    ensures frame { IfOk result (λ at. IsSll octets.old.items (drop at octets.new.items)) }
+    ensures frame { IfOk result
+        (λ at. IsCooked sll_format octets.old.items (drop at octets.new.items)) }
     ensures inside { IfOk result (λ at. at ≤ length octets.new.items) }
-    ensures fault { IfErr result (IsSllFault octets.old.items) }
+    ensures fault { IfErr result (IsCookedFault sll_format octets.old.items) }
 {
     if octets.len() < SLL {
         return Err(LinkFault::Short);
     }
-    if usize::from(BigEndian::read_u16(&octets.as_slice()[SLL_LENGTH..])) != ADDRESS {
+    if usize::from(u16_in(octets.as_slice(), SLL_LENGTH)) != ADDRESS {
         return Err(LinkFault::Kind);
     }
-    let shared = is_shared(BigEndian::read_u16(octets.as_slice()));
+    let shared = is_shared(u16_in(octets.as_slice(), SLL_PACKET));
     let header = header_of(octets.as_slice(), shared, SLL_ADDRESS, SLL_TYPE);
     Ok(put_header(octets.as_mut_slice(), SLL, &header))
 }
 
-/// The same of version 2.
+/// Puts the frame of a record of version 2 together in its buffer, and returns where it begins.
+/// Returns the faults of `sll_start`.
+#[tactic(auto, unfolding(crate::specs::Cooked::sll2_format, its_formats::specs::Format::number_at, its_formats::specs::Format::octets_at))]
 pub(crate) fn sll2_start(octets: &mut Vec<u8>) -> Result<usize, LinkFault>
-    ensures frame { IfOk result (λ at. IsSll2 octets.old.items (drop at octets.new.items)) }
+    ensures frame { IfOk result
+        (λ at. IsCooked sll2_format octets.old.items (drop at octets.new.items)) }
     ensures inside { IfOk result (λ at. at ≤ length octets.new.items) }
-    ensures fault { IfErr result (IsSll2Fault octets.old.items) }
+    ensures fault { IfErr result (IsCookedFault sll2_format octets.old.items) }
 {
     if octets.len() < SLL2 {
         return Err(LinkFault::Short);
@@ -75,6 +87,15 @@ pub(crate) fn sll2_start(octets: &mut Vec<u8>) -> Result<usize, LinkFault>
     let shared = is_shared(u16::from(octets.as_slice()[SLL2_PACKET]));
     let header = header_of(octets.as_slice(), shared, SLL2_ADDRESS, SLL2_TYPE);
     Ok(put_header(octets.as_mut_slice(), SLL2, &header))
+}
+
+/// The number of the two octets at a place.
+fn u16_in(octets: &[u8], at: usize) -> u16
+    requires small { at ≤ 16 }
+    requires inside { at + 2 ≤ length octets.now }
+    ensures { result ≡ big_number 2 (drop at octets.now) }
+{
+    BigEndian::read_u16(&octets[at..])
 }
 
 /// Whether a frame of this packet type went to more than one station.
@@ -98,7 +119,7 @@ fn header_of(octets: &[u8], shared: bool, source: usize, kind: usize) -> [u8; LI
     header
 }
 
-/// The addresses of target and source, side by side.
+/// The addresses of target and source, one after the other.
 fn addresses_of(octets: &[u8], shared: bool, source: usize) -> [u8; ADDRESSES]
     requires { source + 6 ≤ length octets.now }
     ensures { result ≡ target_of shared ++ take 6 (drop source octets.now) }
@@ -109,8 +130,8 @@ fn addresses_of(octets: &[u8], shared: bool, source: usize) -> [u8; ADDRESSES]
     addresses
 }
 
-/// What stands for the target's address: the broadcast's if the frame went to more than one
-/// station, else 0, as the header doesn't say it.
+/// Returns the target's address, which the header does not have: the broadcast address if the frame
+/// was sent to more than one station, and 0 otherwise.
 fn target(shared: bool) -> [u8; ADDRESS]
     ensures { result ≡ target_of shared }
 {

@@ -1,4 +1,4 @@
-//! What the headers of a link layer say of a record beside its frame.
+//! What the headers of a link layer say about a record besides its frame.
 
 ghost use Rattle.cap_linklayers.specs.Facts.{AreFacts, AreNone};
 
@@ -7,7 +7,7 @@ use crate::ieee80211::is_retry;
 use crate::link::LinkLayer;
 use crate::radiotap::{is_retry_behind, rate_of, signal_of};
 
-/// What the headers of a link layer say of a record beside its frame.
+/// What the headers of a link layer say about a record besides its frame.
 #[derive(Clone, Copy, Debug, PartialEq, Eq)]
 pub struct LinkFacts {
     /// The VLAN identifier of the first tag of Ethernet, 0 to 4095.
@@ -21,7 +21,7 @@ pub struct LinkFacts {
 }
 
 impl LinkFacts {
-    /// Nothing.
+    /// Returns no facts: each is `None`, and `retry` is `false`.
     pub fn none() -> LinkFacts
         ensures { AreNone result }
     {

@@ -1,5 +1,5 @@
-//! The link layers of captured records, Ethernet, IEEE 802.11, radiotap and Linux cooked captures, the
-//! frames in them, and what their headers say beside.
+//! The link layers of captured records: Ethernet, IEEE 802.11, radiotap and Linux cooked captures.
+//! Finds the frame in a record, and reads what the headers say besides the frame.
 //!
 //! # What is proved
 //!

@@ -2,10 +2,10 @@
 
 ghost use Rattle.std.specs.Prelude.{◌≡◌, ◌+◌, ◌-◌, ◌≤◌, ◌++◌, IfOk, IfErr};
 ghost use Rattle.std.specs.Prelude.{length, take, drop};
-ghost use Rattle.cap_linklayers.specs.LinkLayers.{IsFrameIn, IsLinkFault, layer_number, layer_of, joined};
+ghost use Rattle.cap_linklayers.specs.LinkLayers.{IsFrameIn, IsLinkFault, layer_number, layer_of};
 ghost use Rattle.cap_linklayers.specs.LinkLayers.{IsUnchecked, IsFrameBehind, IsFaultBehind};
 ghost use Rattle.cap_linklayers.specs.LinkLayers.{IsData, IsUncheckedData, link_code_of};
-ghost use Rattle.cap_linklayers.specs.Ieee80211.{IsHeaderFault};
+ghost use Rattle.cap_linklayers.specs.Ieee80211.{IsHeaderFault, joined};
 
 use crate::cooked::{sll_start, sll2_start};
 use crate::ethernet::type_at;
@@ -15,31 +15,31 @@ use its_linkframe::{LONGEST_SECURED_FRAME, read_frame};
 use std::error::Error;
 use std::fmt;
 
-/// The octets of an address, and of the two before a type.
+/// The size of an address, and of the two addresses before a type, in octets.
 const ADDRESS: usize = 6;
 
 const ADDRESSES: usize = 12;
 
-/// The octets of a check sequence.
+/// The size of a check sequence, in octets.
 const CHECK: usize = 4;
 
-/// How many octets of a record have to be kept for its frame to be judged: further ones change
-/// nothing. Before a frame's type a radiotap header has 65535 octets at most, that of IEEE 802.11
-/// 36, and LLC with SNAP 6. A frame of more than 1468 octets is refused by its length, a secured one
-/// of more than 2310, and 4 more may be a check sequence.
+/// How many octets of a record have to be kept to judge its frame. Further octets change nothing.
+/// Before the type of a frame, a radiotap header has at most 65535 octets, the header of IEEE
+/// 802.11 at most 36, and LLC with SNAP 6. A frame of more than 1468 octets is refused by its
+/// length, and so is a secured frame of more than 2310. Another 4 octets may be a check sequence.
 pub const LONGEST_RECORD: usize = 65535 + 36 + 6 + (LONGEST_SECURED_FRAME + 1) + CHECK;
 
-/// A link layer that records are read of.
+/// A link layer from which records are read.
 #[derive(Clone, Copy, Debug, PartialEq, Eq)]
 pub enum LinkLayer {
-    /// None: a record is the frame itself, without a header before it. Files with link types have it
-    /// as Ethernet.
+    /// None: a record is the frame itself, without a header before it. A file with link types has
+    /// such records as Ethernet.
     Bare,
     /// Ethernet: link type 1.
     Ethernet,
     /// IEEE 802.11: link type 105.
     Ieee80211,
-    /// IEEE 802.11 behind a radiotap header: link type 127.
+    /// IEEE 802.11 after a radiotap header: link type 127.
     Radiotap,
     /// A Linux cooked capture, version 1: link type 113.
     Sll,
@@ -47,16 +47,16 @@ pub enum LinkLayer {
     Sll2,
 }
 
-/// Why a record of a link layer holds no frame that could be checked.
+/// Why no frame can be read from a record of a link layer.
 #[derive(Clone, Copy, Debug, PartialEq, Eq)]
 pub enum LinkFault {
     /// L1: the record ends before the octets that its link layer needs.
     Short,
-    /// L2: they say another kind of frame than one of plain data.
+    /// L2: by these octets the frame is not one of plain data.
     Kind,
 }
 
-/// The link layer of this number, of those that are read.
+/// Returns the link layer with this link type, if it is one that is read.
 pub fn link_layer(number: u32) -> Option<LinkLayer>
     ensures { result ≡ layer_of number }
 {
@@ -71,7 +71,7 @@ pub fn link_layer(number: u32) -> Option<LinkLayer>
 }
 
 impl LinkLayer {
-    /// Its number in pcap and pcapng. A bare frame is one of Ethernet there.
+    /// Returns its link type in pcap and pcapng. A bare frame is one of Ethernet there.
     pub fn number(self) -> u32
         ensures { result ≡ layer_number self }
     {
@@ -109,23 +109,24 @@ impl fmt::Display for LinkFault {
 
 impl Error for LinkFault {}
 
-/// Brings the frame of a record together in the record's own buffer, and returns where it begins
-/// there; it goes to the buffer's end. It is the addresses of target and source, the type, and what
-/// follows that: without tags of Ethernet, without a radiotap header and that of IEEE 802.11, and,
-/// of these two, without a check sequence behind a whole frame. Octets that fill a frame up stay. A
-/// cooked capture has no target: the broadcast address stands for it where the packet type is 1 or
-/// 2 (broadcast, multicast), else the address 0. No memory is taken.
+/// Puts the frame of a record together in the record's own buffer, and returns where it begins
+/// there. It ends at the end of the buffer. The frame has the addresses of target and source, the
+/// type, and what follows the type. Tags of Ethernet, a radiotap header and the header of IEEE
+/// 802.11 are left out. For the last two a check sequence after a whole frame is left out too.
+/// Octets that pad a frame stay. A cooked capture has no target address: it is the broadcast
+/// address if the packet type is 1 or 2 (broadcast, multicast), and 0 otherwise. No memory is
+/// allocated.
 ///
-/// `Short` or `Kind` by the first rule of the link layer that doesn't hold; what the buffer has then
-/// isn't said.
+/// Returns `Short` or `Kind` for the first rule of the link layer that is broken. The content of
+/// the buffer is then not specified.
 ///
 /// - `frame`, `inside`: the frame of a record, from that octet of its buffer to the end
-///   (`IsFrameIn`): all octets of a bare one; of Ethernet without one tag or two; of IEEE 802.11
-///   and behind a radiotap header the two addresses that the header names, then the type behind LLC
-///   with SNAP and all that follows, without a check sequence behind a whole frame; of a Linux
-///   cooked capture what stands for the target, the header's source and type, and what follows the
-///   header.
-/// - `fault`: the first rule of the link layer that doesn't hold, L1 or L2 (`IsLinkFault`).
+///   (`IsFrameIn`). It is all octets of a bare record. With Ethernet one or two tags are left out.
+///   With IEEE 802.11 and radiotap it is the two addresses that the header names, then the type
+///   after LLC with SNAP and all that follows, without a check sequence after a whole frame. With a
+///   Linux cooked capture it is the target address as above, the source and type of the header, and
+///   what follows the header.
+/// - `fault`: the first rule of the link layer that is broken, L1 or L2 (`IsLinkFault`).
 pub fn frame_start(layer: LinkLayer, octets: &mut Vec<u8>) -> Result<usize, LinkFault>
     ensures frame { IfOk result
         (λ at. IsFrameIn layer octets.old.items (drop at octets.new.items)) }
@@ -145,7 +146,7 @@ pub fn frame_start(layer: LinkLayer, octets: &mut Vec<u8>) -> Result<usize, Link
     }
 }
 
-/// The frame of Ethernet, without tags.
+/// Finds the frame of an Ethernet record, without tags.
 fn untag(octets: &mut Vec<u8>) -> Result<usize, LinkFault>
     ensures frame { IfOk result
         (λ at. IsFrameIn LinkLayer.Ethernet octets.old.items (drop at octets.new.items)) }
@@ -161,7 +162,7 @@ fn untag(octets: &mut Vec<u8>) -> Result<usize, LinkFault>
     Ok(put_before(octets, kind, &addresses))
 }
 
-/// The frame behind a radiotap header.
+/// Finds the frame that follows a radiotap header.
 fn behind_radiotap(octets: &mut Vec<u8>, radiotap: RadiotapHeader) -> Result<usize, LinkFault>
     requires inside { radiotap.length ≤ length octets.old.items }
     requires bound { radiotap.length ≤ 65535 }
@@ -181,7 +182,7 @@ fn behind_radiotap(octets: &mut Vec<u8>, radiotap: RadiotapHeader) -> Result<usi
     data(octets, radiotap.length, filled)
 }
 
-/// The frame of IEEE 802.11 from this octet on.
+/// Finds the frame of IEEE 802.11 whose header begins at this octet.
 fn data(octets: &mut Vec<u8>, at: usize, filled: bool) -> Result<usize, LinkFault>
     requires { at ≤ 65535 }
     ensures frame { IfOk result
@@ -193,7 +194,8 @@ fn data(octets: &mut Vec<u8>, at: usize, filled: bool) -> Result<usize, LinkFaul
     Ok(join(octets, header))
 }
 
-/// The same without a check sequence behind it.
+/// Finds the frame of IEEE 802.11 whose header begins at this octet, and leaves out a check
+/// sequence after it.
 fn unchecked_data(octets: &mut Vec<u8>, at: usize, filled: bool) -> Result<usize, LinkFault>
     requires { at ≤ 65535 }
     ensures frame { IfOk result
@@ -205,7 +207,7 @@ fn unchecked_data(octets: &mut Vec<u8>, at: usize, filled: bool) -> Result<usize
     Ok(join_unchecked(octets, header))
 }
 
-/// Joins a frame, and leaves out a check sequence behind it.
+/// Joins a frame as `join` does, and leaves out a check sequence after it.
 fn join_unchecked(octets: &mut Vec<u8>, header: DataHeader) -> usize
     requires target { header.target + 6 ≤ length octets.old.items }
     requires source { header.source + 6 ≤ length octets.old.items }
@@ -243,7 +245,7 @@ fn put_before(octets: &mut Vec<u8>, kind: usize, addresses: &[u8; ADDRESSES]) ->
     copy_before(octets.as_mut_slice(), kind, addresses)
 }
 
-/// The same of the buffer's octets.
+/// Does the work of `put_before` on the octets of the buffer.
 fn copy_before(octets: &mut [u8], kind: usize, addresses: &[u8; ADDRESSES]) -> usize
     requires low { 12 ≤ kind }
     requires high { kind ≤ length octets.old }
@@ -256,7 +258,7 @@ fn copy_before(octets: &mut [u8], kind: usize, addresses: &[u8; ADDRESSES]) -> u
     start
 }
 
-/// The two addresses, side by side.
+/// The two addresses, target before source.
 fn addresses_of(octets: &[u8], header: DataHeader) -> [u8; ADDRESSES]
     requires target { header.target + 6 ≤ length octets.now }
     requires source { header.source + 6 ≤ length octets.now }
@@ -270,7 +272,7 @@ fn addresses_of(octets: &[u8], header: DataHeader) -> [u8; ADDRESSES]
     addresses
 }
 
-/// How many of the octets are left without a check sequence behind a frame.
+/// How many of the octets are left if a check sequence after a whole frame is left out.
 fn unchecked_end(octets: &[u8]) -> usize
     ensures frame { IsUnchecked octets.now (take result octets.now) }
     ensures inside { result ≤ length octets.now }

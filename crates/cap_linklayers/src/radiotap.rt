@@ -1,9 +1,12 @@
 //! Radiotap headers, which captures of IEEE 802.11 have before each frame.
 
 ghost use Rattle.std.specs.Prelude.{◌≡◌, ◌<◌, ◌≤◌, ◌+◌, ◌*◌, ℕ, IfOk, IfErr, IfSome, IfNone, length};
-ghost use Rattle.cap_linklayers.specs.Radiotap.{IsRadiotap, IsRadiotapFault, IsLastWord, HasFlagsAt};
+ghost use Rattle.std.specs.Prelude.{slice_index, true, Ok};
+ghost use Rattle.cap_linklayers.specs.LinkFormats.{walk};
+ghost use Rattle.cap_linklayers.specs.Radiotap.{IsRadiotap, IsRadiotapFault, IsLastWord, IsEndless};
 ghost use Rattle.cap_linklayers.specs.Radiotap.{IsThere, length_of, flags_at, rate_at, rate_end};
 ghost use Rattle.cap_linklayers.specs.Radiotap.{channel_end, signal_at, IsRate, IsRetryBehind, IsSignal};
+ghost use Rattle.cap_linklayers.specs.Radiotap.{has_flags, radiotap_format};
 ghost use Rattle.cap_linklayers.specs.declared.link.LinkFault.TheVariants as faults;
 
 use crate::ieee80211::{has, is_retry};
@@ -13,7 +16,7 @@ use byteorder::{ByteOrder, LittleEndian};
 /// The one version, in the first octet.
 const VERSION: u8 = 0;
 
-/// Where the length of the header stands, and the octets up to its end.
+/// The position of the header's length, and the position after it.
 const LENGTH: usize = 2;
 
 const LENGTH_END: usize = 4;
@@ -23,7 +26,7 @@ const PRESENT: usize = 4;
 
 const LEAST: usize = 8;
 
-/// The octets of a present word; the last of them has its bit 31.
+/// The size of a present word, in octets. Its last octet has its bit 31.
 const WORD: usize = 4;
 
 const LAST_OCTET: usize = 7;
@@ -44,27 +47,27 @@ const HOPPING: u8 = 0x10;
 
 const SIGNAL: u8 = 0x20;
 
-/// TSFT's octets; it begins at a multiple of as many.
+/// The size of TSFT, which begins at a multiple of its size.
 const TSFT_OCTETS: usize = 8;
 
 /// The flag of a record that ends with a check sequence.
 pub(crate) const CHECK_SEQUENCE: u8 = 0x10;
 
-/// The flag of a header of IEEE 802.11 that is filled up to a multiple of 4 octets.
+/// The flag of a header of IEEE 802.11 that has padding up to a multiple of 4 octets.
 pub(crate) const FILLED: u8 = 0x20;
 
-/// What is read of a header.
+/// What is read from a header.
 #[derive(Clone, Copy, Debug, PartialEq, Eq)]
 pub(crate) struct RadiotapHeader {
     /// How many octets it has.
     pub(crate) length: usize,
-    /// Its flags: 0 where it has none.
+    /// Its flags, or 0 if it has none.
     pub(crate) flags: u8,
 }
 
-/// Reads the header at the beginning of a record. `Short` where the record ends before it does;
-/// `Kind` where it is of another version, shorter than its first present word's end, or announces
-/// flags that aren't inside it.
+/// Reads the header at the beginning of a record. Returns `Short` if the record ends inside the
+/// header. Returns `Kind` if the header has another version, ends before the end of its first
+/// present word, or announces flags that are not inside it.
 pub(crate) fn read_radiotap(octets: &[u8]) -> Result<RadiotapHeader, LinkFault>
     ensures header { IfOk result (IsRadiotap octets.now) }
     ensures fault { IfErr result (IsRadiotapFault octets.now) }
@@ -99,13 +102,15 @@ pub(crate) fn read_radiotap(octets: &[u8]) -> Result<RadiotapHeader, LinkFault>
     }
 }
 
-/// Where the flags stand, if they are inside the header.
+/// The position of the flags, if they are inside the header.
 fn flags_place(octets: &[u8], size: usize) -> Option<usize>
     requires there { IsThere octets.now }
     requires size { size ≡ length_of octets.now }
     requires bound { size ≤ 65535 }
-    ensures some { IfSome result (HasFlagsAt octets.now) }
-    ensures none { IfNone result ((place : ℕ) → ¬ HasFlagsAt octets.now place) }
+    ensures some { IfSome result (λ place. has_flags (slice_index octets.now 4) ≡ true
+        → walk radiotap_format octets.now ≡ Ok (slice_index octets.now place, size)) }
+    ensures none { IfNone result (has_flags (slice_index octets.now 4) ≡ true
+        → IsRadiotapFault octets.now faults.Kind) }
     ensures inside { IfSome result (λ place. place < size) }
 {
     let word = last_word(octets, size)?;
@@ -113,11 +118,12 @@ fn flags_place(octets: &[u8], size: usize) -> Option<usize>
     if place < size { Some(place) } else { None }
 }
 
-/// Where the first field behind the last present word and TSFT begins: the flags, if there are any.
+/// Where the first field after the last present word and TSFT begins. These are the flags, if there
+/// are any.
 fn first_field(octets: &[u8], word: usize) -> usize
     requires there { 8 ≤ length octets.now }
     requires bound { word ≤ 65535 }
-    ensures place { result ≡ flags_at octets.now word }
+    ensures place { result ≡ flags_at (slice_index octets.now 4) (8 + 4 * word) }
     ensures below { result ≤ 8 + 4 * word + 15 }
 {
     let behind = LEAST + WORD * word;
@@ -162,8 +168,8 @@ pub(crate) fn signal_of(octets: &[u8]) -> Option<i8>
     }
 }
 
-/// Whether the header of IEEE 802.11 behind this one has the retry bit. `false` if one of them isn't
-/// there.
+/// Whether the header of IEEE 802.11 after this one has the retry bit. `false` if one of them is
+/// missing.
 pub(crate) fn is_retry_behind(octets: &[u8]) -> bool
     ensures { IsRetryBehind octets.now result }
 {
@@ -189,11 +195,11 @@ fn size_of(octets: &[u8]) -> Option<usize>
     Some(size)
 }
 
-/// Where the rate stands, or would stand.
+/// The position of the rate, or the position where it would be.
 fn rate_place(octets: &[u8], word: usize) -> usize
     requires there { 8 ≤ length octets.now }
     requires bound { word ≤ 65535 }
-    ensures place { result ≡ rate_at octets.now word }
+    ensures place { result ≡ rate_at (slice_index octets.now 4) (8 + 4 * word) }
     ensures below { result ≤ 8 + 4 * word + 16 }
 {
     let place = first_field(octets, word);
@@ -208,7 +214,7 @@ fn rate_place(octets: &[u8], word: usize) -> usize
 fn rate_ending(octets: &[u8], word: usize) -> usize
     requires there { 8 ≤ length octets.now }
     requires bound { word ≤ 65535 }
-    ensures place { result ≡ rate_end octets.now word }
+    ensures place { result ≡ rate_end (slice_index octets.now 4) (8 + 4 * word) }
     ensures below { result ≤ 8 + 4 * word + 17 }
 {
     let place = rate_place(octets, word);
@@ -223,7 +229,7 @@ fn rate_ending(octets: &[u8], word: usize) -> usize
 fn channel_ending(octets: &[u8], word: usize) -> usize
     requires there { 8 ≤ length octets.now }
     requires bound { word ≤ 65535 }
-    ensures place { result ≡ channel_end octets.now word }
+    ensures place { result ≡ channel_end (slice_index octets.now 4) (8 + 4 * word) }
     ensures below { result ≤ 8 + 4 * word + 22 }
 {
     let place = rate_ending(octets, word);
@@ -234,11 +240,11 @@ fn channel_ending(octets: &[u8], word: usize) -> usize
     }
 }
 
-/// Where the signal at the antenna stands, or would stand.
+/// The position of the signal at the antenna, or the position where it would be.
 fn signal_place(octets: &[u8], word: usize) -> usize
     requires there { 8 ≤ length octets.now }
     requires bound { word ≤ 65535 }
-    ensures place { result ≡ signal_at octets.now word }
+    ensures place { result ≡ signal_at (slice_index octets.now 4) (8 + 4 * word) }
 {
     let place = channel_ending(octets, word);
     if has(octets[PRESENT], HOPPING) {
@@ -254,7 +260,7 @@ fn last_word(octets: &[u8], size: usize) -> Option<usize>
     requires bound { size ≤ 65535 }
     ensures last { IfSome result (IsLastWord octets.now) }
     ensures inside { IfSome result (λ n. 8 + 4 * n ≤ size) }
-    ensures none { IfNone result ((n : ℕ) → 8 + 4 * n ≤ size → ¬ IsLastWord octets.now n) }
+    ensures none { IfNone result (IsEndless octets.now size) }
 {
     let mut word = 0;
     while LEAST + WORD * word <= size {

@@ -2,6 +2,7 @@ pub mod Cuts
 pub mod Firsts
 pub mod Given
 pub mod Layouts
+pub mod NotFormats
 pub mod OptionChains
 pub mod Parts
 pub mod PcapHeaders

@@ -1,4 +1,4 @@
-//! The blocks of a pcapng file, each read behind its type.
+//! The blocks of a pcapng file. Each is read after its type.
 
 ghost use Rattle.std.specs.Prelude.{◌≡◌, ◌≢◌, ◌-◌, ◌+◌, ◌*◌, ◌^◌, ◌<◌, ◌≤◌, ◌↔◌, IsTrue};
 ghost use Rattle.std.specs.Prelude.{IfOk, if◌then◌else◌, MatchOption, MatchResult, Err, vec_capacity};
@@ -26,7 +26,7 @@ use byteorder::{BigEndian, ByteOrder};
 use cap_linklayers::link_layer;
 use its_linkframe::Source;
 
-/// The type of a section header, the same in either order of octets.
+/// The type of a section header, which is equal in both byte orders.
 pub(crate) const SECTION: u32 = 0x0a0d_0d0a;
 
 /// The type of an interface block.
@@ -38,31 +38,31 @@ const SIMPLE: u32 = 3;
 /// The type of an enhanced packet block.
 const PACKET: u32 = 6;
 
-/// The magic of a section, read with the highest octet first, where that is its order.
+/// The magic of a section with the highest octet first, read in that order.
 const MAGIC_BIG: u32 = 0x1a2b_3c4d;
 
-/// The same where the lowest octet comes first.
+/// The magic of a section with the lowest octet first, read with the highest first.
 const MAGIC_LITTLE: u32 = 0x4d3c_2b1a;
 
 /// The one major version of a section.
 const MAJOR_VERSION: u16 = 1;
 
-/// The least octets of a section header.
+/// The least length of a section header, in octets.
 const LEAST_SECTION: u32 = 28;
 
-/// Its octets up to its minor version, with its length at its end.
+/// The octets of a section header up to its minor version, with the length at its end.
 const SECTION_FRONT: usize = 18;
 
-/// The least octets of an interface block.
+/// The least length of an interface block.
 const LEAST_INTERFACE: u32 = 20;
 
-/// The least octets of a simple packet block.
+/// The least length of a simple packet block.
 const LEAST_SIMPLE: u32 = 16;
 
-/// The least octets of an enhanced packet block.
+/// The least length of an enhanced packet block.
 const LEAST_PACKET: u32 = 32;
 
-/// The least octets of any other block.
+/// The least length of any other block.
 const LEAST: u32 = 12;
 
 /// What a block is.
@@ -74,16 +74,16 @@ pub(crate) enum Kind {
     Interface,
     /// A packet with nothing but its length on the wire.
     Simple,
-    /// A packet with its interface and its moment.
+    /// A packet with its interface and its time.
     Packet,
     /// Any other.
     Other,
 }
 
-/// What a block gives.
+/// What was read from a block.
 #[derive(Clone, Copy)]
 pub(crate) enum Block {
-    /// A section begins, with this order of octets.
+    /// A section begins, with this byte order.
     Section(Endianness),
     /// A further interface of the section.
     Interface(Interface),
@@ -93,7 +93,7 @@ pub(crate) enum Block {
     Other,
 }
 
-/// What a block is, by the number of its type.
+/// Returns the kind of a block, by the number of its type.
 pub(crate) fn kind_of(number: u32) -> Kind
     ensures { result ≡ kind_of_block number }
 {
@@ -106,8 +106,8 @@ pub(crate) fn kind_of(number: u32) -> Kind
     }
 }
 
-/// A block behind its type, in a section of this order with these interfaces. `next` is the number
-/// of a further interface. The frame of a packet goes into the buffer.
+/// Reads a block after its type, in a section of this byte order with these interfaces. `next` is
+/// the number that a further interface gets. The frame of a packet is put into the buffer.
 pub(crate) fn read_block<S: Source>(
     source: &mut S,
     kind: Kind,
@@ -133,7 +133,7 @@ pub(crate) fn read_block<S: Source>(
     }
 }
 
-/// The order of octets that a magic says.
+/// Returns the byte order that a magic stands for.
 fn order_in(magic: u32) -> Option<Endianness>
     ensures { MatchOption result ((o : Endianness) → ¬ (magic ≡ magic_of o)) (λ o. magic ≡ magic_of o) }
 {
@@ -144,8 +144,8 @@ fn order_in(magic: u32) -> Option<Endianness>
     }
 }
 
-/// The length and the magic of a section header. The magic is checked before the length, whose
-/// octets it orders.
+/// Reads the length and the magic of a section header. The magic is checked before the length,
+/// since it gives the byte order of the length.
 fn read_section_head<S: Source>(source: &mut S) -> Result<(Endianness, u32), SourceFault>
     requires { S.failed source.old < 2 ^ 64 - 1 }
     ensures answer { IsAnswerOf section_head (S.remaining source.old) (S.remaining source.new)
@@ -166,7 +166,7 @@ fn read_section_head<S: Source>(source: &mut S) -> Result<(Endianness, u32), Sou
     Ok((order, length))
 }
 
-/// The major version of a section. P2 where it is not 1.
+/// Reads the major version of a section. P2 if it is not 1.
 fn read_version<S: Source>(source: &mut S, order: Endianness) -> Result<u16, SourceFault>
     requires { S.failed source.old < 2 ^ 64 - 1 }
     ensures answer { IsAnswerOf (number_that order 2 (λ version. version ≡ 1))
@@ -181,7 +181,7 @@ fn read_version<S: Source>(source: &mut S, order: Endianness) -> Result<u16, Sou
     Ok(version)
 }
 
-/// A section header, behind its type: its order of octets.
+/// Reads a section header after its type, and returns its byte order.
 fn section_block<S: Source>(source: &mut S) -> Result<Block, SourceFault>
     requires { S.failed source.old < 2 ^ 64 - 1 }
     ensures answer { IsAnswerOf section (S.remaining source.old) (S.remaining source.new) result }
@@ -194,7 +194,7 @@ fn section_block<S: Source>(source: &mut S) -> Result<Block, SourceFault>
     Ok(Block::Section(order))
 }
 
-/// The link type and the snap length of the interface of this number.
+/// Reads the link type and the snap length of the interface with this number.
 fn read_plain<S: Source>(
     source: &mut S,
     order: Endianness,
@@ -225,7 +225,7 @@ fn read_plain<S: Source>(
     })
 }
 
-/// An interface block, behind its type: the interface of this number.
+/// Reads an interface block after its type, and returns the interface with this number.
 fn interface_block<S: Source>(
     source: &mut S,
     order: Endianness,
@@ -249,7 +249,8 @@ fn interface_block<S: Source>(
     Ok(Block::Interface(interface))
 }
 
-/// The interface of a packet, by its number. P2 where there is none.
+/// Reads the interface number of a packet, and returns the interface. P2 if there is no such
+/// interface.
 fn read_interface<S: Source>(
     source: &mut S,
     order: Endianness,
@@ -268,7 +269,8 @@ fn read_interface<S: Source>(
     }
 }
 
-/// The moment of a packet, in milliseconds, and its time below that. P2 where it is below 0 or of 2^64 and more.
+/// Reads the time of a packet in milliseconds, and the part below a millisecond. P2 if the time is
+/// below 0, or 2^64 or more.
 fn read_moment<S: Source>(
     source: &mut S,
     order: Endianness,
@@ -289,22 +291,22 @@ fn read_moment<S: Source>(
     }
 }
 
-/// A timestamp of its upper and its lower 32 bits.
+/// Joins the upper and the lower 32 bits of a timestamp.
 fn timestamp_of(high: u32, low: u32) -> u64
     ensures { result ≡ high * 2 ^ 32 + low }
 {
     u64::from(high) * (1 << 32) + u64::from(low)
 }
 
-/// Whether a record may have so many octets, for which its block has this room.
+/// Whether a record may have this many octets, if its block has `room` octets for them.
 fn fits_record(captured: u32, room: u32) -> bool
     ensures { IsTrue result ↔ FitsRecord room captured }
 {
     captured <= LONGEST_CAPTURED && captured <= room
 }
 
-/// The captured length of a packet, for which its block has this room. P2 where it is longer, or
-/// over 262144.
+/// Reads the captured length of a packet whose block has `room` octets for it. P2 if the length is
+/// over `room` or over 262144.
 fn read_captured<S: Source>(
     source: &mut S,
     order: Endianness,
@@ -324,7 +326,7 @@ fn read_captured<S: Source>(
     Ok(captured)
 }
 
-/// An enhanced packet block, behind its type: a record.
+/// Reads an enhanced packet block after its type, and returns its record.
 fn packet_block<S: Source>(
     source: &mut S,
     order: Endianness,
@@ -357,7 +359,7 @@ fn packet_block<S: Source>(
     }))
 }
 
-/// The first interface of a section. P2 where there is none.
+/// Returns the first interface of a section. P2 if the section has no interface.
 fn first_of(interfaces: &[Interface]) -> Result<Interface, SourceFault>
     ensures { MatchResult result (λ i. slice_get interfaces.now 0 ≡ Some i)
         (λ f. (f ≡ faults.Malformed) × (slice_get interfaces.now 0 ≡ None)) }
@@ -368,8 +370,8 @@ fn first_of(interfaces: &[Interface]) -> Result<Interface, SourceFault>
     }
 }
 
-/// The length on the wire of a simple packet, and how many of these octets there are, for which its
-/// block has this room. P2 where that is too little, or they are over 262144.
+/// Reads the length on the wire of a simple packet, and returns it with the captured length. P2 if
+/// the captured length is over 262144, or over the `room` octets that its block has for it.
 fn read_lengths<S: Source>(
     source: &mut S,
     order: Endianness,
@@ -391,7 +393,8 @@ fn read_lengths<S: Source>(
     Ok((wire, captured))
 }
 
-/// A simple packet block, behind its type: a record of the first interface, at moment 0.
+/// Reads a simple packet block after its type, and returns its record: one of the first interface,
+/// at time 0.
 fn simple_block<S: Source>(
     source: &mut S,
     order: Endianness,
@@ -426,21 +429,22 @@ fn simple_block<S: Source>(
     }))
 }
 
-/// The ticks of a simple packet, whose moment is 0: none if its interface adds seconds to ticks.
+/// The ticks of a simple packet, whose time is 0. `None` if its interface has an offset that is not
+/// 0.
 fn ticks_of_zero(offset: u64) -> Option<u64>
     ensures { result ≡ ticks_of_zero offset }
 {
     if offset == 0 { Some(0) } else { None }
 }
 
-/// How many octets of a frame a simple packet has: at most the snap length, where that is not 0.
+/// How many octets of a frame a simple packet has: at most the snap length, if that is not 0.
 fn captured_in(wire: u32, snap: u32) -> u32
     ensures { result ≡ simple_length snap wire }
 {
     if snap == 0 { wire } else { wire.min(snap) }
 }
 
-/// A block of another kind, behind its type: it is passed over.
+/// Skips a block of another kind, after its type.
 fn other_block<S: Source>(source: &mut S, order: Endianness) -> Result<Block, SourceFault>
     requires { S.failed source.old < 2 ^ 64 - 1 }
     ensures answer { IsAnswerOf (other order) (S.remaining source.old) (S.remaining source.new)

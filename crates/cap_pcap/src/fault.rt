@@ -1,4 +1,4 @@
-//! Why records cannot be read on.
+//! Why no more records can be read from a file.
 
 ghost use Rattle.std.specs.Prelude.{◌≡◌};
 ghost use Rattle.cap_pcap.specs.Codes.{code_of};
@@ -8,31 +8,32 @@ use its_linkframe::CaptureFault;
 use std::error::Error;
 use std::fmt;
 
-/// Why the records of a file cannot be read on. After each of them a reader answers C5.
+/// Why no more records can be read from a file. After such a fault each call of a reader returns
+/// C5.
 #[derive(Clone, Copy, Debug, PartialEq, Eq)]
 pub enum SourceFault {
     /// P1: the file ends inside a header, a block or a record.
     CutFile,
     /// P2: a field has a value that the format does not know, or a length is wrong.
     Malformed,
-    /// P3: the file is one of a link layer that is not read.
+    /// P3: the link layer of the file is not read.
     LinkType,
-    /// C1 or C2 of a capture; of any file C3 (a call of the device failed), C4 (an allocation
-    /// failed) and C5 (an earlier call answered a fault).
+    /// C1 or C2 for a capture. For any file C3 (a call of the device failed), C4 (an allocation
+    /// failed) or C5 (an earlier call returned a fault).
     Capture(CaptureFault),
 }
 
-/// Why a file is not opened as one with records.
+/// Why a file can't be opened.
 #[derive(Clone, Copy, Debug, PartialEq, Eq)]
 pub enum OpenFault {
     /// A call of the device failed.
     Io,
-    /// It is a file that gzip compressed, by its first octets.
+    /// By its first octets the file was compressed by gzip.
     Gzip,
 }
 
 impl SourceFault {
-    /// What logs and the program's lines show: `P1` to `P3`, `C1` to `C5`.
+    /// Returns the code that logs and the program's lines show: `P1` to `P3`, `C1` to `C5`.
     pub fn code(&self) -> &'static str
         ensures { result.now ≡ code_of self.now }
     {

@@ -1,4 +1,4 @@
-//! Fields of a file that is read: each is checked before any octet behind it is read.
+//! Fields of a file that is read. Each is checked before any octet after it is read.
 
 ghost use Rattle.std.specs.Prelude.{◌≡◌, ◌≢◌, ◌-◌, ◌+◌, ◌*◌, ◌^◌, ◌<◌, ◌≤◌, ◌↔◌, IsTrue, IfOk};
 ghost use Rattle.std.specs.Prelude.{if◌then◌else◌, Err};
@@ -42,14 +42,14 @@ pub(crate) fn read_u16<S: Source>(source: &mut S, order: Endianness) -> Result<u
     Ok(u16_at(order, &octets, 0))
 }
 
-/// Whether a block may have so many octets, of which its type always has `least`.
+/// Whether a block may have this length, if blocks of its type have at least `least` octets.
 pub(crate) fn is_block_length(length: u32, least: u32) -> bool
     ensures { IsTrue result ↔ IsBlockLength least length }
 {
     length % 4 == 0 && length <= LONGEST_BLOCK && length >= least
 }
 
-/// The length of a block, of which its type always has `least` octets. P2 where it is another.
+/// Reads the length of a block, whose type has at least `least` octets. P2 if it can't be one.
 pub(crate) fn block_length<S: Source>(
     source: &mut S,
     order: Endianness,
@@ -69,8 +69,8 @@ pub(crate) fn block_length<S: Source>(
     Ok(length)
 }
 
-/// The rest of a block, of so many octets before its length, which stands at its end again. P2
-/// where that is another.
+/// Skips the rest of a block, and reads its length, which is repeated at its end. P2 if the two
+/// lengths differ.
 pub(crate) fn end_block<S: Source>(
     source: &mut S,
     order: Endianness,

@@ -1,4 +1,4 @@
-//! Telling the formats of files with records apart.
+//! Finds the format of a file with records.
 
 ghost use Rattle.std.specs.Prelude.{◌≡◌, ◌↔◌, IsTrue};
 ghost use Rattle.cap_pcap.specs.Formats.{IsFormat, IsGzip};
@@ -7,7 +7,7 @@ use crate::blocks::SECTION;
 use crate::pcap::magic_in;
 use byteorder::{BigEndian, ByteOrder};
 
-/// With what a gzip file begins (RFC 1952): its mark, and deflate, the one method that there is.
+/// The first octets of a gzip file (RFC 1952): its mark, and deflate, the only method.
 const GZIP: u32 = 0x001f_8b08;
 
 /// The format of a file with records.
@@ -21,15 +21,15 @@ pub enum Format {
     Pcapng,
 }
 
-/// Whether a file that begins with these octets, the first four, is one that gzip compressed.
+/// Whether gzip compressed a file whose first four octets are these.
 pub(crate) fn is_gzip(first: &[u8]) -> bool
     ensures { IsTrue result ↔ IsGzip first.now }
 {
     first.len() >= 4 && BigEndian::read_u32(first) / 256 == GZIP
 }
 
-/// The format of a file that begins with these octets, by the first four: each file of fewer, and
-/// each that begins with no magic of another format, is a capture.
+/// Returns the format of a file that begins with these octets, by the first four. A file that has
+/// fewer, or that begins with no magic of another format, is a capture.
 pub fn format_of(first: &[u8]) -> Format
     ensures { IsFormat first.now result }
 {

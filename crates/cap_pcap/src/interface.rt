@@ -1,4 +1,4 @@
-//! Interfaces of a pcapng file, and the moments that they count.
+//! Interfaces of a pcapng file, and the times that their ticks count.
 
 ghost use Rattle.std.specs.Prelude.{◌≡◌, ◌^◌, ◌<◌, ◌≤◌, MatchOption, IfSome};
 ghost use Rattle.cap_pcap.specs.Moments.{ticks_of, IsTooFine, IsMoment, IsNoMoment, added_of};
@@ -7,14 +7,14 @@ ghost use Rattle.cap_pcap.specs.Moments.{taken_of, fine_in};
 use crate::info::InterfaceInfo;
 use crate::record::FineTime;
 
-/// What is known of an interface of a pcapng file.
+/// What is known about an interface of a pcapng file.
 #[derive(Clone, Copy)]
 pub(crate) struct Interface {
     /// How many interfaces the file has before it.
     pub(crate) number: u32,
     /// What its block says.
     pub(crate) info: InterfaceInfo,
-    /// The most octets that are captured of a frame; 0 is no limit.
+    /// The most octets that are captured of a frame. 0 means no limit.
     pub(crate) snap: u32,
     /// How many ticks a second has, by `if_tsresol`.
     pub(crate) ticks: u64,
@@ -24,11 +24,11 @@ pub(crate) struct Interface {
 /// `if_tsresol` if there is no such option: a tick is a millionth of a second.
 pub(crate) const MICROS: u8 = 6;
 
-/// The ticks of a second then.
+/// The ticks of a second if there is no such option.
 pub(crate) const MICRO_TICKS: u64 = 1_000_000;
 
-/// The ticks of a second by the octet of `if_tsresol`: a power of 10, or of 2 where its highest bit
-/// is set. Nothing where they are finer than 10^-19 or 2^-63.
+/// Returns the ticks of a second by the octet of `if_tsresol`: a power of 10, or of 2 if its
+/// highest bit is set. `None` if a tick is shorter than 10^-19 or 2^-63 seconds.
 pub(crate) fn ticks_in(resolution: u8) -> Option<u64>
     ensures ticks { MatchOption result (IsTooFine resolution) (λ n. n ≡ ticks_of resolution) }
     ensures fine { IfSome result (λ _. ¬ IsTooFine resolution) }
@@ -75,7 +75,7 @@ fn power_of_ten(exponent: u8) -> Option<u64>
     Some(power)
 }
 
-/// The seconds of `if_tsoffset`, which are signed: those to be added, and those to be taken.
+/// Splits the signed seconds of `if_tsoffset` into those to add and those to subtract.
 pub(crate) fn seconds_of(offset: u64) -> (u64, u64)
     ensures added { result.0 ≡ added_of offset }
     ensures taken { result.1 ≡ taken_of offset }
@@ -87,7 +87,7 @@ pub(crate) fn seconds_of(offset: u64) -> (u64, u64)
     }
 }
 
-/// The moment of a timestamp, in milliseconds. Nothing where it is below 0 or of 2^64 and more.
+/// Returns the time of a timestamp, in milliseconds. `None` if it is below 0, or 2^64 or more.
 pub(crate) fn moment_of(interface: &Interface, timestamp: u64) -> Option<u64>
     ensures { MatchOption result
         (IsNoMoment interface.now.ticks (added_of interface.now.info.head.offset)
@@ -109,7 +109,8 @@ pub(crate) fn moment_of(interface: &Interface, timestamp: u64) -> Option<u64>
     Some(moment as u64)
 }
 
-/// The same below the millisecond, where seconds that are added count nothing.
+/// Returns the part of a timestamp's time below a millisecond. Seconds of `if_tsoffset` don't
+/// change it.
 pub(crate) fn fine_time_of(interface: &Interface, timestamp: u64) -> FineTime
     ensures { result ≡ fine_in interface.now.ticks timestamp }
 {

@@ -2,23 +2,23 @@
 //!
 //! # What is proved
 //!
-//! - `PcapReader::next_into` and `PcapngReader::next_into` answer what the octets say, step by
+//! - `PcapReader::next_into` and `PcapngReader::next_into` return what the octets say, step by
 //!   step: the header, an interface or a record with its time to the nanosecond, the end, or the
 //!   first fault in the order of the octets (P1, P2, P3; C4 if the list of interfaces can't grow;
 //!   C5 after a fault).
 //! - The writers and `RecordSink` write each octet of the format. A refused record writes nothing.
-//!   After a failed device a prefix of what was put is there.
+//!   After a failed call of the device, a prefix of what was put is there.
 //! - `AnySource::open` takes the format that is given, or the one that the first four octets name,
-//!   and loses none of the octets that it looked at (`Peeked`). Without a format it opens no gzip
+//!   and loses none of the octets that it read ahead (`Peeked`). Without a format it opens no gzip
 //!   file (`plain`, `fault`).
-//! - A record has no ticks if it is a Simple Packet Block beside an `if_tsoffset`. It is written as
-//!   a Simple Packet Block of the first interface, or not at all (`PcapngWriter::put`,
-//!   `has_place`).
+//! - A record has no ticks if it is a Simple Packet Block whose interface has an `if_tsoffset`. It
+//!   is written as a Simple Packet Block of the first interface, or not at all
+//!   (`PcapngWriter::put`, `has_place`).
 //! - Times of pcapng are exact in 128 bits (`moment_of`, `fine_time_of`, `ticks_in`, `seconds_of`).
 //!
 //! # Only tested
 //!
-//! - `test_values::packet`: devices that take or give one octet at a time and fail at each, and
+//! - `test_values::packet`: devices that read or write one octet at a time and fail at each, and
 //!   each allocation that fails.
 //! - `checks/packets`: files of either order, with unknown blocks and options, that end at each
 //!   octet, and what is written of them.

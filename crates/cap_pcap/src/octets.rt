@@ -1,4 +1,4 @@
-//! Numbers in either order of octets.
+//! Numbers in both byte orders.
 
 ghost use Rattle.std.specs.Prelude.{◌≡◌, ◌+◌, ◌≤◌, length, drop};
 ghost use Rattle.cap_pcap.specs.Octets.{number_in};

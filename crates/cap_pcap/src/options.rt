@@ -21,7 +21,7 @@ use crate::octets::{Endianness, u16_at, u64_at};
 use crate::transfer::{read_exact, skip};
 use its_linkframe::Source;
 
-/// The octets of an option before its value: its code, and its size.
+/// The size of the code and the length of an option, which come before its value.
 const HEAD: usize = 4;
 
 /// The end of options.
@@ -41,29 +41,30 @@ const OFFSET: u16 = 14;
 enum OptionKind {
     /// The end of options.
     End,
-    /// The name of the interface, of so many octets.
+    /// The name of the interface, of this many octets.
     Name(usize),
     /// How many ticks a second has, in one octet.
     Resolution,
-    /// Seconds that are added to each moment, in 8 octets.
+    /// Seconds that are added to each time, in 8 octets.
     Offset,
-    /// Any other: it is passed over.
+    /// Any other option, which is skipped.
     Other,
 }
 
-/// What is known behind an option.
+/// What is known after an option was read.
 #[derive(Clone, Copy)]
 struct OptionStep {
-    /// How many octets the options have left.
+    /// How many octets of options are left.
     left: usize,
-    /// The interface, as the options so far say.
+    /// The interface, by the options that were read.
     interface: Interface,
-    /// Whether it was the end of options.
+    /// Whether the option was the end of options.
     is_end: bool,
 }
 
-/// The options of an interface, in so many octets: how many are left behind the end of options, and
-/// what they say of the interface. P2 where one goes past its block, or its ticks are too fine.
+/// Reads the options of an interface from `room` octets. Returns how many octets follow the end of
+/// options, and the interface by these options. P2 if an option goes past its block, or the ticks
+/// are too fine.
 pub(crate) fn read_options<S: Source>(
     source: &mut S,
     order: Endianness,
@@ -89,7 +90,7 @@ pub(crate) fn read_options<S: Source>(
     Ok((left, known))
 }
 
-/// An option, where so many octets are left.
+/// Reads one option, if `left` octets of options are left.
 fn read_option<S: Source>(
     source: &mut S,
     order: Endianness,
@@ -113,7 +114,7 @@ fn read_option<S: Source>(
     })
 }
 
-/// Whether it is the end of options.
+/// Whether an option of this kind is the end of options.
 fn ends(kind: OptionKind) -> bool
     ensures { result ≡ is_end kind }
 {
@@ -124,7 +125,7 @@ fn ends(kind: OptionKind) -> bool
     }
 }
 
-/// The value of an option, which takes so many octets.
+/// Reads the value of an option, which has `room` octets, and returns the interface by it.
 fn read_value<S: Source>(
     source: &mut S,
     order: Endianness,
@@ -148,7 +149,7 @@ fn read_value<S: Source>(
     }
 }
 
-/// A value that is passed over.
+/// Skips a value. The interface stays as it is.
 fn pass_value<S: Source>(
     source: &mut S,
     room: usize,
@@ -164,8 +165,8 @@ fn pass_value<S: Source>(
     Ok(interface)
 }
 
-/// What the head of an option says, and how many octets its value takes of those that are left,
-/// with its padding. P2 where that is more.
+/// Reads the code and the length of an option. Returns its kind, and how many octets its value has
+/// with the padding. P2 if these are more than `left`.
 fn read_head<S: Source>(
     source: &mut S,
     order: Endianness,
@@ -190,7 +191,8 @@ fn read_head<S: Source>(
     Ok((kind_of(code, size), room))
 }
 
-/// What an option is, by its code and its size: one of a wrong size is passed over.
+/// Returns the kind of an option by its code and its size. An option of a wrong size is `Other`, so
+/// it is skipped.
 fn kind_of(code: u16, size: u16) -> OptionKind
     ensures kind { result ≡ kind_of_option code size }
     ensures name { FitsName result }
@@ -204,8 +206,8 @@ fn kind_of(code: u16, size: u16) -> OptionKind
     }
 }
 
-/// How many octets its value takes: a multiple of 4. The end of options has none, whatever its
-/// size.
+/// How many octets the value of an option has with its padding: a multiple of 4. The end of options
+/// has no value, whatever its size.
 fn room_of(code: u16, size: u16) -> usize
     ensures { result ≡ option_room code size }
 {
@@ -216,7 +218,7 @@ fn room_of(code: u16, size: u16) -> usize
     size + (4 - size % 4) % 4
 }
 
-/// Reads so many octets to the front of the buffer.
+/// Reads `size` octets to the front of the buffer.
 fn fill_front<S: Source>(source: &mut S, buf: &mut [u8], size: usize) -> Result<(), SourceFault>
     requires ready { S.failed source.old < 2 ^ 64 - 1 }
     requires room { size ≤ length buf.old }
@@ -230,7 +232,7 @@ fn fill_front<S: Source>(source: &mut S, buf: &mut [u8], size: usize) -> Result<
     read_exact(source, &mut buf[..size])
 }
 
-/// A name of so many octets, with its padding.
+/// Reads a name of `size` octets, and skips its padding.
 fn read_name<S: Source>(
     source: &mut S,
     size: usize,
@@ -254,7 +256,7 @@ fn read_name<S: Source>(
     })
 }
 
-/// The ticks of a second, by the octet of `if_tsresol`. P2 where they are too fine.
+/// Returns the ticks of a second, by the octet of `if_tsresol`. P2 if they are too fine.
 fn ticks_said(octet: u8) -> Result<u64, SourceFault>
     ensures ticks { MatchResult result
         (λ n. (n ≡ ticks_of octet) × ¬ IsTooFine octet)
@@ -269,7 +271,7 @@ fn ticks_said(octet: u8) -> Result<u64, SourceFault>
     }
 }
 
-/// `if_tsresol`, with its padding.
+/// Reads `if_tsresol`, and skips its padding.
 fn read_resolution<S: Source>(
     source: &mut S,
     interface: Interface,
@@ -314,7 +316,7 @@ fn read_offset<S: Source>(
     })
 }
 
-/// The same information, with a name of so many octets.
+/// Returns this information with a name of `size` octets.
 fn named(info: InterfaceInfo, octets: [u8; LONGEST_NAME], size: usize) -> InterfaceInfo
     requires { size ≤ 128 }
     ensures { IsNamed info (take size octets) result }
@@ -326,7 +328,7 @@ fn named(info: InterfaceInfo, octets: [u8; LONGEST_NAME], size: usize) -> Interf
     }
 }
 
-/// The same information, with this octet of `if_tsresol`.
+/// Returns this information with this octet of `if_tsresol`.
 fn with_resolution(info: InterfaceInfo, resolution: u8) -> InterfaceInfo
     ensures { result ≡ resolved info resolution }
 {
@@ -341,7 +343,7 @@ fn with_resolution(info: InterfaceInfo, resolution: u8) -> InterfaceInfo
     }
 }
 
-/// The same information, with these seconds of `if_tsoffset`.
+/// Returns this information with these seconds of `if_tsoffset`.
 fn with_offset(info: InterfaceInfo, offset: u64) -> InterfaceInfo
     ensures { result ≡ offset_by info offset }
 {

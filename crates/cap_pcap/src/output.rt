@@ -1,4 +1,4 @@
-//! Writing octets to a sink, up to the first call of it that fails.
+//! Writes octets to a sink, up to its first call that fails.
 
 ghost use Rattle.std.specs.Prelude.{◌≡◌, ◌-◌, ◌+◌, ◌^◌, ◌<◌, ◌↔◌, ◌||◌};
 ghost use Rattle.std.specs.Prelude.{MatchOption, MatchResult, OnOk, IfErr, Err, IsTrue};
@@ -12,7 +12,7 @@ use crate::put_fault::PutFault;
 use its_linkframe::{Sink, store};
 use std::marker::Model;
 
-/// A sink to which nothing more is written once a call of it failed.
+/// A sink to which nothing more is written after one of its calls has failed.
 #[derive(Drop)]
 pub(crate) struct Output<W: Sink> {
     sink: W,
@@ -50,7 +50,7 @@ impl<W: Sink> Output<W> {
         }
     }
 
-    /// Refuses where a call of the sink failed.
+    /// Returns `Failed` if a call of the sink failed before.
     pub(crate) fn check(&self) -> Result<(), PutFault>
         ensures { MatchResult result (λ _. self.now.failed ≡ false)
             (λ f. (f ≡ put_faults.Failed) × (self.now.failed ≡ true)) }
@@ -61,7 +61,7 @@ impl<W: Sink> Output<W> {
         Ok(())
     }
 
-    /// Writes the parts, one after the other, or a prefix of them where a call of the sink fails.
+    /// Writes the parts, one after the other, or a prefix of them if a call of the sink fails.
     pub(crate) fn write(&mut self, parts: &[&[u8]]) -> Result<(), PutFault>
         ensures stored { OnOk result
             (Appends self.old.contents self.new.contents (joined parts.now)) }
@@ -81,7 +81,7 @@ impl<W: Sink> Output<W> {
         Ok(())
     }
 
-    /// The sink, with what it has.
+    /// Returns the sink, with what was written.
     pub(crate) fn into_inner(self) -> W
         ensures contents { W.contents result ≡ self.contents }
         ensures failures { W.failed result ≡ self.failures }
@@ -90,7 +90,7 @@ impl<W: Sink> Output<W> {
     }
 }
 
-/// Writes the parts, one after the other, or a prefix of them where a call fails.
+/// Writes the parts, one after the other, or a prefix of them if a call fails.
 fn store_all<S: Sink>(sink: &mut S, parts: &[&[u8]]) -> Option<()>
     requires { S.failed sink.old < 2 ^ 64 - 1 }
     ensures counts { S.failed sink.new ≡ counted (S.failed sink.old) result }

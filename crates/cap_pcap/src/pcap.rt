@@ -23,10 +23,10 @@ use std::marker::Model;
 /// The octets of a file's magic.
 const MARK: usize = 4;
 
-/// The octets of its major version, behind the magic.
+/// The octets of its major version, after the magic.
 const VERSION: usize = 2;
 
-/// The octets of its header behind those.
+/// The octets of its header after those.
 const OTHERS: usize = 18;
 
 /// The type of the link layer: its first octet among those.
@@ -65,16 +65,16 @@ pub enum Unit {
     Nano,
 }
 
-/// What the magic at the head of a file says of the rest.
+/// What the magic at the head of a file says about the rest.
 #[derive(Clone, Copy, Debug, PartialEq, Eq)]
 pub struct Magic {
-    /// The order of octets in its numbers.
+    /// The byte order of its numbers.
     pub order: Endianness,
     /// The unit of its fractions.
     pub unit: Unit,
 }
 
-/// What the header of a file says of its records.
+/// What the header of a file says about its records.
 #[derive(Clone, Copy, Debug, PartialEq, Eq)]
 pub struct FileHeader {
     /// What its magic says.
@@ -83,20 +83,20 @@ pub struct FileHeader {
     pub layer: LinkLayer,
 }
 
-/// How far a reader is.
+/// The position of a reader in the file.
 #[derive(Clone, Copy, Debug, PartialEq, Eq)]
 enum Stage {
     /// At the header of the file.
     Start,
     /// At a record, or at the end.
     Records(FileHeader),
-    /// It met the end, and answers it again.
+    /// The end was reached. It is returned again.
     Ended,
-    /// It met a fault, and answers C5.
+    /// A fault was returned. Each further call returns C5.
     Failed,
 }
 
-/// Reads the records of a classic pcap file, in order, from a source that gives its octets in
+/// Reads the records of a classic pcap file, in order, from a source that returns its octets in
 /// pieces of any size.
 #[derive(Drop)]
 pub struct PcapReader<R: Source> {
@@ -122,7 +122,8 @@ impl<R: Source> Model for PcapReader<R> {
 }
 
 impl<R: Source> PcapReader<R> {
-    /// A reader at the start of a file, which keeps the first `keep` octets of a frame at most.
+    /// Returns a reader at the start of a file. It keeps at most the first `keep` octets of a
+    /// frame.
     pub fn new(source: R, keep: usize) -> PcapReader<R>
         requires { R.failed source < 2 ^ 64 - 1 }
         ensures start { result.stage ≡ stages.Start }
@@ -137,10 +138,10 @@ impl<R: Source> PcapReader<R> {
         }
     }
 
-    /// The next step: first the header of the file is passed over; then each call gives a record,
-    /// whose octets are put into the buffer in place of what is there, or the end.
+    /// Returns the next step. The first call reads the header of the file. Each further call
+    /// returns a record, whose octets replace those in the buffer, or the end.
     ///
-    /// A field is checked before any octet behind it is read. After a fault each call answers C5.
+    /// A field is checked before any octet after it is read. After a fault each call returns C5.
     pub fn next_into(&mut self, frame: &mut Vec<u8>) -> Result<Step, SourceFault>
         ensures answer { IsAnswer self.old.stage self.new.stage self.old.keep frame.new.items
             self.old.rest self.new.rest result }
@@ -169,7 +170,8 @@ impl<R: Source> PcapReader<R> {
         answer
     }
 
-    /// The link layer of the records, between the header of the file and its end or a fault.
+    /// Returns the link layer of the records, between the header of the file and its end or a
+    /// fault.
     pub fn layer(&self) -> Option<LinkLayer>
         ensures { result ≡ layer_at self.now.stage }
     {
@@ -190,7 +192,7 @@ impl<R: Source> PcapReader<R> {
         }
     }
 
-    /// The source, with what it has left.
+    /// Returns the source, with the octets that were not read.
     pub fn into_inner(self) -> R
         ensures rest { R.remaining result ≡ self.rest }
         ensures failures { R.failed result ≡ self.failures }
@@ -214,7 +216,7 @@ pub(crate) fn magic_in(number: u32) -> Option<Magic>
     Some(Magic { order, unit })
 }
 
-/// The header of a file: what it says of the rest.
+/// Reads the header of a file: what it says about the rest.
 fn read_header<S: Source>(source: &mut S) -> Result<FileHeader, SourceFault>
     requires { S.failed source.old < 2 ^ 64 - 1 }
     ensures header { IfOk result
@@ -240,7 +242,7 @@ fn read_header<S: Source>(source: &mut S) -> Result<FileHeader, SourceFault>
     }
 }
 
-/// A record, of which the first octets of the frame go into the buffer, or the end.
+/// Reads a record, or returns the end. The first octets of its frame are put into the buffer.
 fn read_record<S: Source>(
     source: &mut S,
     file: FileHeader,
@@ -286,7 +288,7 @@ fn read_record<S: Source>(
     }))
 }
 
-/// The moment, in milliseconds.
+/// The time of a record in milliseconds.
 fn moment_at(unit: Unit, seconds: u32, fraction: u32) -> u64
     ensures { result ≡ moment_of unit seconds fraction }
 {
@@ -297,7 +299,7 @@ fn moment_at(unit: Unit, seconds: u32, fraction: u32) -> u64
     1000 * u64::from(seconds) + u64::from(fraction / parts)
 }
 
-/// The same below the millisecond.
+/// The part of the time below a millisecond.
 fn fine_time_at(unit: Unit, seconds: u32, fraction: u32) -> FineTime
     ensures { result ≡ fine_of unit seconds fraction }
 {

@@ -22,7 +22,8 @@ const MICRO_FRONT: [u8; 20] = [
     0xd4, 0xc3, 0xb2, 0xa1, 2, 0, 4, 0, 0, 0, 0, 0, 0, 0, 0, 0, 0, 0, 4, 0,
 ];
 
-/// The same with the magic 4d3cb2a1 (nanoseconds).
+/// The front of a file whose magic is 4d3cb2a1 (nanoseconds). The other fields are those of
+/// `MICRO_FRONT`.
 const NANO_FRONT: [u8; 20] = [
     0x4d, 0x3c, 0xb2, 0xa1, 2, 0, 4, 0, 0, 0, 0, 0, 0, 0, 0, 0, 0, 0, 4, 0,
 ];
@@ -33,7 +34,7 @@ const FILE_HEADER: usize = 24;
 /// The octets before a frame.
 const HEAD: usize = 16;
 
-/// Writes the header of a classic pcap file, then its records, one after the other. It takes no
+/// Writes the header of a classic pcap file, then its records, one after the other. It allocates no
 /// memory.
 #[derive(Drop)]
 pub struct PcapWriter<W: Sink> {
@@ -49,7 +50,7 @@ impl<W: Sink> Model for PcapWriter<W> {
 }
 
 impl<W: Sink> PcapWriter<W> {
-    /// A writer behind what the sink has. Nothing is written yet.
+    /// Returns a writer that appends to what the sink has. Nothing is written yet.
     pub fn new(sink: W) -> PcapWriter<W>
         requires { W.failed sink < 2 ^ 64 - 1 }
         ensures { result ≡ record {
@@ -63,8 +64,8 @@ impl<W: Sink> PcapWriter<W> {
         }
     }
 
-    /// Writes the header of a file of this link layer, whose times below the second are in this unit:
-    /// the first call.
+    /// Writes the header of a file of this link layer, whose times below the second are in this
+    /// unit. It has to be the first call.
     pub fn start(&mut self, layer: LinkLayer, unit: Unit) -> Result<(), PutFault>
         ensures stored { OnOk result
             (Appends self.old.contents self.new.contents (file_header unit layer)) }
@@ -77,9 +78,9 @@ impl<W: Sink> PcapWriter<W> {
         self.output.write(&[&header_for(layer, unit)])
     }
 
-    /// Writes a record of these octets, whole. Its second is that of `moment`, in milliseconds, and
-    /// `fraction` is what is below the second, in the unit of the file. More than 262144 octets are
-    /// refused before a moment whose second is 2^32 or more.
+    /// Writes a whole record of these octets. Its second is that of `moment`, which is in
+    /// milliseconds. `fraction` is the time below the second, in the unit of the file. Returns
+    /// `Length` for more than 262144 octets, and otherwise `Moment` if the second is 2^32 or more.
     pub fn put(&mut self, moment: u64, fraction: u32, frame: &[u8]) -> Result<(), PutFault>
         ensures stored { OnOk result
             (Appends self.old.contents self.new.contents (record_of moment fraction frame.now)) }
@@ -102,7 +103,7 @@ impl<W: Sink> PcapWriter<W> {
         self.output.write(&[&head, frame])
     }
 
-    /// The sink, with what it has.
+    /// Returns the sink, with what was written.
     pub fn into_inner(self) -> W
         ensures contents { W.contents result ≡ self.contents }
         ensures failures { W.failed result ≡ self.failures }

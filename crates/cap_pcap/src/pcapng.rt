@@ -23,21 +23,22 @@ use std::marker::Model;
 /// The octets of a block's type.
 const TYPE: usize = 4;
 
-/// How far a reader is.
+/// The position of a reader in the file.
 #[derive(Clone, Copy, Debug, PartialEq, Eq)]
 enum Stage {
     /// At the first block.
     Start,
     /// At a block of a section, or at the end.
     Blocks(Endianness),
-    /// It met the end, and answers it again.
+    /// The end was reached. It is returned again.
     Ended,
-    /// It met a fault, and answers C5.
+    /// A fault was returned. Each further call returns C5.
     Failed,
 }
 
-/// Reads the records of a pcapng file, in order, from a source that gives its octets in pieces of
-/// any size. It has a list of the interfaces of a section, and no more of a record than asked for.
+/// Reads the records of a pcapng file, in order, from a source that returns its octets in pieces of
+/// any size. It keeps a list of the interfaces of a section, and as much of a record as it was
+/// asked for.
 #[derive(Drop)]
 pub struct PcapngReader<R: Source> {
     source: R,
@@ -67,8 +68,8 @@ impl<R: Source> Model for PcapngReader<R> {
 }
 
 impl<R: Source> PcapngReader<R> {
-    /// A reader at the start of a file, which keeps the first `keep` octets of a frame at most, and
-    /// takes memory for interfaces from `alloc`.
+    /// Returns a reader at the start of a file. It keeps at most the first `keep` octets of a
+    /// frame, and allocates memory for interfaces from `alloc`.
     pub fn new(alloc: Global, source: R, keep: usize) -> PcapngReader<R>
         requires { R.failed source < 2 ^ 64 - 1 }
         ensures { result ≡ record {
@@ -89,11 +90,12 @@ impl<R: Source> PcapngReader<R> {
         }
     }
 
-    /// The next step: each call reads a block, and gives its record, whose octets are put into the
-    /// buffer in place of what is there, `Interface` where it is one, or `Passed`; or the end.
+    /// Returns the next step. Each call reads one block. It returns a record, whose octets replace
+    /// those in the buffer, `Interface` for an interface block, `Passed` for any other block, or
+    /// the end.
     ///
-    /// A field is checked before any octet behind it is read. After a fault each call answers C5. In
-    /// a buffer with room for all that is kept of a frame C4 comes of an interface block alone.
+    /// A field is checked before any octet after it is read. After a fault each call returns C5. If
+    /// the capacity of the buffer is at least `keep`, only an interface block can return C4.
     pub fn next_into(&mut self, frame: &mut Vec<u8>) -> Result<Step, SourceFault>
         ensures answer { IsAnswer self.old self.new frame.new.items result }
         ensures counts { self.new.failures ≡ self.old.failures + (if is_io result then 1 else 0) }
@@ -138,7 +140,7 @@ impl<R: Source> PcapngReader<R> {
         }
     }
 
-    /// The source, with what it has left.
+    /// Returns the source, with the octets that were not read.
     pub fn into_inner(self) -> R
         ensures rest { R.remaining result ≡ self.rest }
         ensures failures { R.failed result ≡ self.failures }
@@ -147,8 +149,9 @@ impl<R: Source> PcapngReader<R> {
     }
 }
 
-/// The next block, in a section of this order with these interfaces; `None` at the end of the file.
-/// The first block of a file is in no section. `next` is the number of a further interface.
+/// Reads the next block, in a section of this byte order with these interfaces. Returns `None` at
+/// the end of the file. The first block of a file is in no section. `next` is the number that a
+/// further interface gets.
 fn read_next<S: Source>(
     source: &mut S,
     order: Option<Endianness>,
@@ -172,8 +175,8 @@ fn read_next<S: Source>(
     Ok(Some(block))
 }
 
-/// What the next block is, by its type; `None` at the end of the file. P2 where the first block of
-/// a file is no section header.
+/// Returns the kind of the next block, by its type, or `None` at the end of the file. P2 if the
+/// first block of a file is not a section header.
 fn read_kind<S: Source>(
     source: &mut S,
     order: Option<Endianness>,
@@ -198,8 +201,8 @@ fn read_kind<S: Source>(
     Ok(Some(kind))
 }
 
-/// What a block gives, and makes of the stage, of the count of interfaces and of the list of those of
-/// its section. C4 where that list can't grow.
+/// Returns the step of a block, and updates the stage, the count of interfaces and the list of the
+/// section's interfaces. C4 if that list can't grow.
 fn take(
     block: Block,
     stage: &mut Stage,

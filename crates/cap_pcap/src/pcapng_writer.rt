@@ -63,13 +63,13 @@ const OFFSET_SIZE: u32 = 12;
 /// The octets of an enhanced packet before its frame.
 const HEAD: usize = 28;
 
-/// The octets of an enhanced packet beside its frame and the padding of that.
+/// The octets of an enhanced packet without its frame and padding.
 const PACKET_SIZE: u32 = 32;
 
 /// The octets of a simple packet before its frame.
 const SIMPLE_HEAD: usize = 12;
 
-/// The octets of a simple packet beside its frame and the padding of that.
+/// The octets of a simple packet without its frame and padding.
 const SIMPLE_SIZE: u32 = 16;
 
 /// Octets of padding.
@@ -79,7 +79,7 @@ const PADDING: [u8; 3] = [0; 3];
 const TAIL: usize = 7;
 
 /// Writes a pcapng file of one section: its header, its interfaces, then its records, one after the
-/// other. It takes no memory.
+/// other. It allocates no memory.
 #[derive(Drop)]
 pub struct PcapngWriter<W: Sink> {
     output: Output<W>,
@@ -95,7 +95,7 @@ impl<W: Sink> Model for PcapngWriter<W> {
 }
 
 impl<W: Sink> PcapngWriter<W> {
-    /// A writer behind what the sink has. Nothing is written yet.
+    /// Returns a writer that appends to what the sink has. Nothing is written yet.
     pub fn new(sink: W) -> PcapngWriter<W>
         requires { W.failed sink < 2 ^ 64 - 1 }
         ensures { result ≡ record {
@@ -111,7 +111,7 @@ impl<W: Sink> PcapngWriter<W> {
         }
     }
 
-    /// Writes the section header: the first call.
+    /// Writes the section header. It has to be the first call.
     pub fn start(&mut self) -> Result<(), PutFault>
         ensures stored { OnOk result (Appends self.old.contents self.new.contents section_octets) }
         ensures same { OnOk result (self.new.interfaces ≡ self.old.interfaces) }
@@ -155,10 +155,10 @@ impl<W: Sink> PcapngWriter<W> {
         }
     }
 
-    /// Writes a record of these octets, whole, as one of this interface, whose ticks the timestamp
-    /// counts. Without ticks it is a simple packet, which the format has for the first interface
-    /// alone. An interface that was not written is refused before more than 262144 octets, and that
-    /// before ticks that are missing.
+    /// Writes a whole record of these octets for this interface, whose ticks the timestamp counts.
+    /// Without ticks it is a simple packet, which the format has only for the first interface. The
+    /// first fault is returned: an interface that was not written, then more than 262144 octets,
+    /// then missing ticks.
     pub fn put(&mut self, interface: u32, ticks: Option<u64>, frame: &[u8]) -> Result<(), PutFault>
         ensures stored { OnOk result (Appends self.old.contents self.new.contents
             (packet_octets interface ticks frame.now)) }
@@ -186,7 +186,7 @@ impl<W: Sink> PcapngWriter<W> {
         }
     }
 
-    /// The sink, with what it has.
+    /// Returns the sink, with what was written.
     pub fn into_inner(self) -> W
         ensures contents { W.contents result ≡ self.contents }
         ensures failures { W.failed result ≡ self.failures }
@@ -195,7 +195,7 @@ impl<W: Sink> PcapngWriter<W> {
     }
 }
 
-/// How many octets of padding follow so many octets.
+/// How many octets of padding follow this many octets.
 fn padding_after(size: u32) -> u32
     ensures value { result ≡ padding_size size }
     ensures few { result < 4 }

@@ -1,4 +1,4 @@
-//! A source of which the first octets were looked at already.
+//! A source whose first octets were read ahead.
 
 ghost use Rattle.std.specs.Prelude.{◌≡◌, ◌-◌, ◌^◌, ◌<◌, ◌≤◌, IfSome, drop, take, length, ◌++◌};
 ghost use Rattle.std.specs.Io.KnownBytes.{Keeps};
@@ -9,13 +9,13 @@ use std::io;
 use std::io::Read;
 use std::marker::Model;
 
-/// How many octets tell the formats apart.
+/// How many octets identify a format.
 const MARK: usize = 4;
 
-/// A source whose first octets were read to be looked at: it gives these, and then the others.
+/// A source whose first octets were read ahead. It returns these first, and then the others.
 #[derive(Drop)]
 pub struct Peeked<S: Source> {
-    /// Those that are given again stand at its end.
+    /// The octets to return again are at its end.
     first: [u8; MARK],
     /// The first of them.
     at: usize,
@@ -24,7 +24,7 @@ pub struct Peeked<S: Source> {
 }
 
 impl<S: Source> Peeked<S> {
-    /// A source of which nothing was looked at.
+    /// Returns a source from which nothing was read ahead.
     pub fn new(source: S) -> Peeked<S>
         ensures rest { Keeps (S.remaining source)
             (left_of result.at result.first (S.remaining result.source)) }
@@ -37,8 +37,8 @@ impl<S: Source> Peeked<S> {
         }
     }
 
-    /// Looks at the first four octets, which are given again, or at all where there are fewer.
-    /// `None` is a failed call.
+    /// Reads the first four octets ahead, or all if there are fewer. They are returned again by the
+    /// next reads. `None` if a call failed.
     pub fn peek(mut source: S) -> Option<Peeked<S>>
     where
         S: Drop,
@@ -57,14 +57,14 @@ impl<S: Source> Peeked<S> {
         Some(Peeked { first, at, source })
     }
 
-    /// The octets that were looked at and not given again.
+    /// Returns the octets that were read ahead and not yet returned again.
     pub fn peeked(&self) -> &[u8]
         ensures { result.now ≡ drop self.now.at self.now.first }
     {
         &self.first[self.at..]
     }
 
-    /// Gives octets that were looked at, and returns how many.
+    /// Copies octets that were read ahead into the buffer, and returns how many.
     fn take_peeked(&mut self, buf: &mut [u8]) -> usize
         requires { self.old.at < 4 }
         ensures bound { result ≤ length buf.new }

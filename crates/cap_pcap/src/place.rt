@@ -1,4 +1,4 @@
-//! Whether a record has a place in a file that is written.
+//! Whether a file that is written can hold a record.
 
 ghost use Rattle.std.specs.Prelude.{◌≡◌, ◌+◌, ◌↔◌, ◌≤◌, IsTrue, MatchResult, Some, length};
 ghost use Rattle.its_linkframe.specs.Captures.{IsFrameLength};
@@ -14,9 +14,11 @@ use crate::stamp::Stamp;
 use cap_linklayers::LinkLayer;
 use its_linkframe::LONGEST_FRAME;
 
-/// The link layer of a record that is written to a file of this one, or of any where none is given.
+/// Returns the link layer of a record that is written to a file of link layer `only`, or of any
+/// link layer if `only` is `None`.
 ///
-/// `LinkType` for a record of another one, or of one that isn't read, before `CutFrame`.
+/// Returns `LinkType` for a record of another link layer, or of one that isn't read. Otherwise
+/// returns `CutFrame` for a cut record.
 pub fn layer_for(head: &RecordHeader, only: Option<LinkLayer>) -> Result<LinkLayer, RecordFault>
     ensures { MatchResult result (IsLayerFor head.now only)
         (λ f. refusal_of head.now only ≡ Some f) }
@@ -33,7 +35,8 @@ pub fn layer_for(head: &RecordHeader, only: Option<LinkLayer>) -> Result<LinkLay
     }
 }
 
-/// Whether a file of this link layer, or of any where none is given, has records of this one.
+/// Whether a file of link layer `only`, or of any if `only` is `None`, can hold records of link
+/// layer `own`.
 fn allows(only: Option<LinkLayer>, own: LinkLayer) -> bool
     ensures { result ≡ allows_layer only own }
 {
@@ -43,12 +46,12 @@ fn allows(only: Option<LinkLayer>, own: LinkLayer) -> bool
     }
 }
 
-/// Whether a file of this format has a place for such a record of this interface, which it has where
-/// the format has interfaces.
+/// Checks that a file of this format can hold such a record of this interface. The interface
+/// matters only if the format has interfaces.
 ///
-/// `Length` for more than 262144 octets, in a capture for none or more than 1468, before `Moment`
-/// for one whose second is 2^32 or more in classic pcap, and in pcapng for one without ticks of
-/// another interface than the first.
+/// Returns `Length` for more than 262144 octets, and in a capture for 0 or more than 1468.
+/// Otherwise returns `Moment`: in classic pcap if the second is 2^32 or more, and in pcapng if a
+/// record without ticks is not of the first interface.
 pub fn has_place(
     format: Format,
     interface: u32,
@@ -76,14 +79,14 @@ pub fn has_place(
     Ok(())
 }
 
-/// Whether a capture may have a frame of so many octets.
+/// Whether a capture may have a frame of this many octets.
 fn is_frame_length(octets: &[u8]) -> bool
     ensures { IsTrue result ↔ IsFrameLength (length octets.now) }
 {
     !octets.is_empty() && octets.len() <= LONGEST_FRAME
 }
 
-/// Whether the second of a moment has no place in 32 bits.
+/// Whether the second of a time needs more than 32 bits.
 fn is_late(moment: u64) -> bool
     ensures { IsTrue result ↔ IsLate moment }
 {

@@ -1,4 +1,4 @@
-//! What is told of a record, and what one call for records gives.
+//! The header of a record, and the result of one call for the next record.
 
 ghost use Rattle.std.specs.Prelude.{◌≡◌, IfErr, IfOk, None, Some};
 ghost use Rattle.cap_pcap.specs.Records.{fault_of, record_code_of};
@@ -10,34 +10,35 @@ use std::fmt;
 /// The time of a record below the millisecond, and in the ticks of its interface.
 #[derive(Clone, Copy, Debug, PartialEq, Eq)]
 pub struct FineTime {
-    /// Nanoseconds since the last whole millisecond, 0 to 999999. A fraction is cut down.
+    /// Nanoseconds since the last whole millisecond, 0 to 999999, rounded down.
     pub nanos: u32,
     /// Whether the file has a fraction of a nanosecond too.
     pub finer: bool,
-    /// The time as the file has it: ticks of the record's interface. `None` of a Simple Packet Block
-    /// whose interface has an `if_tsoffset`: its moment is 0, which that interface may not count.
+    /// The time as the file has it: ticks of the record's interface. `None` for a Simple Packet
+    /// Block whose interface has an `if_tsoffset`: its time is 0, for which that interface may have
+    /// no ticks.
     pub ticks: Option<u64>,
 }
 
-/// What is told of a record beside its octets.
+/// What a file says about a record besides its octets.
 #[derive(Clone, Copy, Debug, PartialEq, Eq)]
 pub struct RecordHeader {
-    /// In milliseconds since the epoch of its file; a fraction is cut down.
+    /// The time in milliseconds since the epoch of its file, rounded down.
     pub moment: u64,
-    /// The same below the millisecond.
+    /// The part of the time below a millisecond.
     pub fine: FineTime,
-    /// The number of its interface in the file, from 0. Sections count on. 0 in a file without
-    /// interfaces.
+    /// The number of its interface in the file, from 0. A new section continues the count. 0 in a
+    /// file without interfaces.
     pub interface: u32,
     /// How many of the record's octets the file has: at most 262144.
     pub captured: u32,
     /// How many octets the record had on the wire.
     pub wire: u32,
-    /// The link layer that it was taken from, where that is one that is read.
+    /// Its link layer, if it is one that is read.
     pub layer: Option<LinkLayer>,
 }
 
-/// What one call for the next record gives.
+/// The result of one call for the next record.
 #[derive(Clone, Copy, Debug, PartialEq, Eq)]
 pub enum Step {
     /// A record; its octets are in the buffer.
@@ -46,14 +47,14 @@ pub enum Step {
     Interface,
     /// A block without a record or an interface was skipped. Call again.
     Passed,
-    /// The end of the file, answered from then on.
+    /// The end of the file. Each further call returns it again.
     End,
 }
 
-/// Why a record is no frame to be checked.
+/// Why the frame of a record is not checked.
 #[derive(Clone, Copy, Debug, PartialEq, Eq)]
 pub enum RecordFault {
-    /// P3: it was taken from a link layer that is not read.
+    /// P3: its link layer is not read.
     LinkType,
     /// P4: fewer octets were captured than were on the wire.
     CutFrame,
@@ -77,7 +78,7 @@ impl RecordHeader {
         Ok(layer)
     }
 
-    /// The first fault of the record: P3 before P4.
+    /// Returns the first fault of the record: P3 before P4.
     pub fn fault(&self) -> Option<RecordFault>
         ensures { result ≡ fault_of self.now }
     {

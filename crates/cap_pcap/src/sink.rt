@@ -24,17 +24,17 @@ use std::fmt;
 /// Why a record is not written.
 #[derive(Clone, Copy, Debug, PartialEq, Eq)]
 pub enum SinkFault {
-    /// It is of another link layer than the file, or was cut. Nothing is written.
+    /// Its link layer differs from that of the file, or it was cut. Nothing is written.
     Record(RecordFault),
-    /// Its link layer's header has no frame behind it. Nothing is written.
+    /// No frame follows its link layer's header. Nothing is written.
     Link(LinkFault),
-    /// Its octets or its moment have no place in the file, or the file failed.
+    /// The file can't hold its octets or its time, or the file failed.
     Put(PutFault),
 }
 
 impl SinkFault {
-    /// What is wrong with the record, in the program's words: `link type`, `cut`, `L1`, `L2`,
-    /// `length` or `moment`. Nothing where the file failed.
+    /// Returns what is wrong with the record, as the program prints it: `link type`, `cut`, `L1`,
+    /// `L2`, `length` or `moment`. `None` if the file failed.
     pub fn word(&self) -> Option<&'static str>
         ensures { MatchOption result (word_of self.now ≡ None)
             (λ w. word_of self.now ≡ Some w.now) }
@@ -92,13 +92,13 @@ pub trait RecordSink {
     /// The file: its format, its interfaces, and what its device has.
     ghost file: { Self → RecordFile };
 
-    /// Writes what a file begins with: the first call. In classic pcap its records are of this link
-    /// layer, and their times in this unit.
+    /// Writes the beginning of a file. It has to be the first call. In classic pcap the records
+    /// have this link layer, and times in this unit.
     fn start_on(&mut self, layer: LinkLayer, unit: Unit) -> Result<(), PutFault>
         ensures { StartsOn unit layer (file self.old).format (file self.old) (file self.new)
             result };
 
-    /// Writes what a file of Ethernet frames begins with, whose times are in milliseconds.
+    /// Writes the beginning of a file of Ethernet frames, whose times are in milliseconds.
     fn start(&mut self) -> Result<(), PutFault>
         ensures { Starts (file self.old).format (file self.old) (file self.new) result }
     {
@@ -119,8 +119,8 @@ pub trait RecordSink {
         self.add_interface_on(InterfaceHead::of_millis(), name.as_bytes())
     }
 
-    /// Writes a frame, or what the link layer has in its place, at this time. It is one of this
-    /// interface, if the format has any.
+    /// Writes a frame, or the record that the link layer has for it, at this time. It belongs to
+    /// this interface, if the format has interfaces.
     fn put_frame(&mut self, interface: u32, stamp: Stamp, frame: &[u8]) -> Result<(), PutFault>
         ensures { PutsFrame interface stamp frame.now (file self.old) (file self.new) result };
 }
@@ -192,7 +192,7 @@ pub enum AnySink<W: Sink> {
 }
 
 impl<W: Sink> AnySink<W> {
-    /// A file of this format behind what the sink has. Nothing is written yet.
+    /// Returns a file of this format that appends to what the sink has. Nothing is written yet.
     pub fn new(sink: W, format: Format) -> AnySink<W>
         requires { W.failed sink < 2 ^ 64 - 1 }
         ensures { file_of_sink result ≡ record {
@@ -210,7 +210,7 @@ impl<W: Sink> AnySink<W> {
         }
     }
 
-    /// The sink, with what it has.
+    /// Returns the sink, with what was written.
     pub fn into_inner(self) -> W
         ensures contents { W.contents result ≡ (file_of_sink self).contents }
         ensures failures { W.failed result ≡ (file_of_sink self).failures }

@@ -29,17 +29,17 @@ pub trait RecordSource {
     ghost use Rattle.cap_pcap.specs.declared.fault.SourceFault.{SourceFault};
     ghost use Rattle.cap_pcap.specs.declared.record.Step.{Step};
 
-    /// What a call gives, with these octets in the buffer, and what it leaves of the file: the
-    /// format says it.
+    /// The result of a call by the format, with these octets in the buffer, and the rest of the
+    /// file after it.
     ghost GivesStep: { Self → Self → List ℕ → Result Step SourceFault → Type 0 };
 
-    /// What a call that answers C4 says of the file, where the buffer had room for so many octets,
-    /// and of what it leaves: memory is taken nowhere else.
+    /// When a call may return C4, by the file before and after it and the capacity of the buffer.
+    /// Memory is allocated nowhere else.
     ghost LacksMemory: { Self → Self → ℕ → Type 0 };
 
-    /// The next step: a record, whose octets are put into the buffer in place of what is there, or
-    /// a part of the file that has none, or the end, which is answered from then on. After a fault
-    /// each call answers C5.
+    /// Returns the next step: a record, whose octets replace those in the buffer, a part of the
+    /// file without a record, or the end. After the end each call returns it again. After a fault
+    /// each call returns C5.
     fn next_into(&mut self, frame: &mut Vec<u8>) -> Result<Step, SourceFault>
         ensures step { GivesStep self.old self.new frame.new.items result }
         ensures memory { result ≡ Err (faults.Capture captures.NoMemory)
@@ -81,7 +81,7 @@ impl<R: Source> Model for CaptureSource<R> {
 }
 
 impl<R: Source> CaptureSource<R> {
-    /// A reader at the start of a capture, which takes memory for frames from `alloc`.
+    /// Returns a reader at the start of a capture. It allocates memory for frames from `alloc`.
     pub fn new(alloc: Global, source: R) -> CaptureSource<R>
         requires { R.failed source < 2 ^ 64 - 1 }
         ensures { result ≡ record {
@@ -136,10 +136,10 @@ pub enum AnySource<S: Source> {
 }
 
 impl<S: Source + Drop> AnySource<S> {
-    /// A file of this format, or, where none is given, of the one that its first four octets say.
-    /// The first `keep` octets of a frame are kept at most, but for a capture, of which all are.
-    /// Memory is taken from `alloc`. Where no format is given, `Io` if a call of the device failed,
-    /// and `Gzip` for a file that gzip compressed.
+    /// Opens a file of this format. Without a format, the first four octets say it. At most the
+    /// first `keep` octets of a frame are kept, but all octets in a capture. Memory is allocated
+    /// from `alloc`. Without a format, returns `Io` if a call of the device failed, and `Gzip` for
+    /// a file that gzip compressed.
     pub fn open(
         alloc: Global,
         source: S,
@@ -167,7 +167,7 @@ impl<S: Source + Drop> AnySource<S> {
         }
     }
 
-    /// A file of this format.
+    /// Returns a source for a file of this format.
     fn of(alloc: Global, source: Peeked<S>, format: Format, keep: usize) -> AnySource<S>
         requires { S.failed source.source < 2 ^ 64 - 1 }
         ensures format { format_of_source result ≡ format }
@@ -182,7 +182,7 @@ impl<S: Source + Drop> AnySource<S> {
         }
     }
 
-    /// The link layer of a file of classic pcap, between its header and its end or a fault. In
+    /// Returns the link layer of a classic pcap file, between its header and its end or a fault. In
     /// other formats each record has its own.
     pub fn layer(&self) -> Option<LinkLayer>
         ensures { result ≡ layer_of_source self.now }
@@ -193,8 +193,8 @@ impl<S: Source + Drop> AnySource<S> {
         }
     }
 
-    /// Returns what the file says of the interface that began last: in classic pcap its header,
-    /// in pcapng the last interface block of the section. A capture has no interfaces.
+    /// Returns what the file says about its last interface so far. In classic pcap its header says
+    /// it, in pcapng the last interface block of the section. A capture has no interfaces.
     pub fn newest(&self) -> Option<InterfaceInfo>
         ensures { result ≡ newest_of_source self.now }
     {
@@ -205,7 +205,7 @@ impl<S: Source + Drop> AnySource<S> {
         }
     }
 
-    /// The format of the file.
+    /// Returns the format of the file.
     pub fn format(&self) -> Format
         ensures { result ≡ format_of_source self.now }
     {

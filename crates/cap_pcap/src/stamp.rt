@@ -13,8 +13,8 @@ pub struct Stamp {
     pub moment: u64,
     /// What classic pcap has below the second, in the unit of the file.
     pub fraction: u32,
-    /// What pcapng has, in ticks of the record's interface. `None` of a packet without a time stamp,
-    /// whose moment is 0.
+    /// What pcapng has, in ticks of the record's interface. `None` for a packet without a time
+    /// stamp, whose time is 0.
     pub ticks: Option<u64>,
 }
 

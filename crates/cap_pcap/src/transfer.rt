@@ -1,4 +1,5 @@
-//! Whole buffers and counts of octets: the file ends in them, or a call of its device fails.
+//! Reads whole buffers, and skips counts of octets. The file may end inside them, and a call of its
+//! device may fail.
 
 ghost use Rattle.std.specs.Prelude.{◌≡◌, ◌-◌, ◌+◌, ◌^◌, ◌<◌, ◌≤◌, ◌++◌, length, take};
 ghost use Rattle.std.specs.Prelude.{MatchOption, OnOk, IfErr};
@@ -12,10 +13,10 @@ ghost use Rattle.cap_pcap.specs.Reading.{is_io, IsCutShort, Passes, IsFrameFault
 use crate::fault::SourceFault;
 use its_linkframe::{CaptureFault, Source, fill};
 
-/// How many octets are passed over at a time.
+/// How many octets one read skips at most.
 const PIECE: usize = 512;
 
-/// Reads octets until the buffer is full. P1 where the input ends before, C3 where a call fails.
+/// Reads octets until the buffer is full. P1 if the input ends before, C3 if a call fails.
 pub(crate) fn read_exact<S: Source>(source: &mut S, buf: &mut [u8]) -> Result<(), SourceFault>
     requires { S.failed source.old < 2 ^ 64 - 1 }
     ensures octets { OnOk result
@@ -32,7 +33,7 @@ pub(crate) fn read_exact<S: Source>(source: &mut S, buf: &mut [u8]) -> Result<()
     }
 }
 
-/// Passes over that many octets. P1 where the input ends before, C3 where a call fails.
+/// Skips `count` octets. P1 if the input ends before, C3 if a call fails.
 pub(crate) fn skip<S: Source>(source: &mut S, count: usize) -> Result<(), SourceFault>
     requires { S.failed source.old < 2 ^ 64 - 1 }
     ensures octets { OnOk result
@@ -48,7 +49,8 @@ pub(crate) fn skip<S: Source>(source: &mut S, count: usize) -> Result<(), Source
     skip_pieces(source, count)
 }
 
-/// The same of octets that there are: the room for pieces of them is on the stack, and cleared.
+/// Skips at least one octet, in pieces. It is a function of its own because its buffer is cleared
+/// at each call, which `skip` spares if there is nothing to skip.
 fn skip_pieces<S: Source>(source: &mut S, count: usize) -> Result<(), SourceFault>
     requires { S.failed source.old < 2 ^ 64 - 1 }
     ensures octets { OnOk result
@@ -68,8 +70,9 @@ fn skip_pieces<S: Source>(source: &mut S, count: usize) -> Result<(), SourceFaul
     Ok(())
 }
 
-/// The frame of a record, of so many octets: the first `keep` of them at most, in place of what the
-/// buffer had; the others are passed over. One allocation where the buffer has too little room.
+/// Reads the frame of a record, which has `captured` octets. At most the first `keep` octets
+/// replace the content of the buffer, and the others are skipped. It allocates once if the buffer
+/// is too small.
 pub(crate) fn read_record_octets<S: Source>(
     source: &mut S,
     captured: usize,

@@ -7,9 +7,10 @@ use Rattle.its_model.specs.Packet.{Pdu}
 use Rattle.its_headers.specs.Encoding.{IsBytes, Encodes}
 use Rattle.its_headers.specs.Format.{walk}
 use Rattle.its_headers.specs.Layout.{packet_format}
-use Rattle.its_headers.proofs.Spells.{Spells}
-use Rattle.its_headers.proofs.Found.{found, again, ok_is}
+use Rattle.its_formats.specs.Spells.{Spells}
+use Rattle.its_formats.proofs.Found.{found, again, ok_is}
 use Rattle.its_headers.proofs.Packets.{packet_spelled, spells_packet}
+use Rattle.its_headers.specs.Format.{packet_faults}
 
 -- what is read is the encoding
 pub record Front (p : Pdu) (left n : ℕ) (w : List ℕ) : Type 0 where
@@ -19,7 +20,7 @@ pub record Front (p : Pdu) (left n : ℕ) (w : List ℕ) : Type 0 where
 pub read_front : (w : List ℕ) (x : Pdu × ℕ) (n : ℕ) → IsBytes w → walk packet_format 0 w ≡ Ok (x, n)
     → Front x.0 x.1 n w
 read_front w x n fits e =
-    let f = found packet_format x 0 w n fits e in
+    let f = found packet_faults packet_format x 0 w n fits e in
     let size : length f.text ≡ n = omega (arith, f.size) in
     let front : take n w ≡ f.text = ap (take n) f.parts ∙ take_at f.text (drop n w) n size in
     record {
@@ -36,7 +37,7 @@ pub encoding_read : (p : Pdu) (left : ℕ) (s rest : List ℕ) → Encodes p lef
 encoding_read p left s rest e =
     let h = subst (λ (t : List ℕ). Spells packet_format (p, left) t) (sym e.octets)
     (spells_packet p left e.fields) in
-    again packet_format (p, left) 0 (s ++ rest) s rest h refl (omega arith)
+    again packet_faults packet_format (p, left) 0 (s ++ rest) s rest h refl (omega arith)
     ∙ ap (λ (t : ℕ). readings (p, left) t) (zero-add (length s))
 
 -- no encoding begins another, and each is of one packet with one number of hops left

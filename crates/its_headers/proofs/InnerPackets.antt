@@ -6,16 +6,18 @@ use Rattle.std.specs.Prelude.{IfOk, IfErr, IsOkAnd}
 use Rattle.its_faults.specs.declared.packet.Fault.{Fault}
 use Rattle.its_faults.specs.declared.packet.FaultKind.TheVariants.{Truncated}
 use Rattle.its_model.specs.Packet.{Pdu}
-use Rattle.its_headers.specs.Bytes.{IsBytes}
+use Rattle.its_formats.specs.Bytes.{IsBytes}
 use Rattle.its_headers.specs.Encoding.{Encodes}
-use Rattle.its_headers.specs.Format.{Format, ends, number, walk, ◌>>=◌, end_of, Gives}
+use Rattle.its_formats.specs.Format.{ends, number, ◌>>=◌, end_of, Gives}
+use Rattle.its_headers.specs.Format.{Format, walk}
 use Rattle.its_headers.specs.Inner.{Basic, IsBasic, inner_octets, secured_header}
 use Rattle.its_headers.specs.Seen.{Seen, basic_of}
 use Rattle.its_headers.specs.Layout.{basic_format, basic_format_of, plain_format, packet_format}
 use Rattle.its_headers.specs.Layout.{secured_format, any}
-use Rattle.its_headers.proofs.Found.{again, found, bind_ok, ok_is, number_read, number_at-here}
+use Rattle.its_formats.proofs.Found.{again, found, bind_ok, ok_is, number_read, number_at-here}
 use Rattle.its_headers.proofs.Packets.{spells_basic, basic_spelled}
-use Rattle.its_headers.proofs.Walks.{walk_after}
+use Rattle.its_formats.proofs.Walks.{walk_after}
+use Rattle.its_headers.specs.Format.{packet_faults}
 
 -- its octets are numbers below 256
 pub inner_bytes : (b : Basic) (plain : List ℕ) → b.lifetime < 256 → b.left < 256 → IsBytes plain
@@ -33,9 +35,9 @@ pub inner_walk : (b : Basic) (plain : List ℕ) → b.lifetime < 256 → 0 < b.l
 inner_walk b plain fl some fleft =
     let w = inner_octets b plain in
     let x : ℕ × ℕ = (b.lifetime, b.left) in
-    walk_after basic_format plain_format 0 w
+    walk_after packet_faults basic_format plain_format 0 w
     ∙ ap (λ (r : Result ((ℕ × ℕ) × ℕ) Fault). r >>= λ y. walk (plain_format y.0) y.1 w)
-    (again basic_format x 0 w (17 ∷ 0 ∷ x.0 ∷ x.1 ∷ []) plain
+    (again packet_faults basic_format x 0 w (17 ∷ 0 ∷ x.0 ∷ x.1 ∷ []) plain
     (spells_basic 1 x (omega arith) refl fl some fleft) refl (omega arith))
 
 -- what the plain part's walk ends with, the inner packet's does
@@ -83,12 +85,12 @@ secured_walk b message range some =
     let x : ℕ × ℕ = (b.lifetime, b.left) in
     let fit : 4 + 1 ≤ length w = omega arith in
     let rest : ℕ × ℕ → Format (ℕ × ℕ) = λ y. number 1 Truncated any (λ _. ends y) in
-    walk_after (basic_format_of 2) rest 0 w
+    walk_after packet_faults (basic_format_of 2) rest 0 w
     ∙ ap (λ (r : Result ((ℕ × ℕ) × ℕ) Fault). r >>= λ y. walk (rest y.0) y.1 w)
-    (again (basic_format_of 2) x 0 w (18 ∷ 0 ∷ x.0 ∷ x.1 ∷ []) message
+    (again packet_faults (basic_format_of 2) x 0 w (18 ∷ 0 ∷ x.0 ∷ x.1 ∷ []) message
     (spells_basic 2 x (omega arith) refl range.lifetime range.some_left range.left) refl
     (omega arith))
-    ∙ ap (λ (r : Result ℕ Fault). r >>= λ v. walk (ends x) 5 w) (number_at-here 1 4 w fit)
+    ∙ ap (λ (r : Result ℕ Fault). r >>= λ v. walk (ends x) 5 w) (number_at-here packet_faults 1 4 w fit)
 
 -- where it reads one, the header stands there
 pub secured_read : (w : List ℕ) (x : ℕ × ℕ) (n : ℕ) → IsBytes w
@@ -97,10 +99,10 @@ pub secured_read : (w : List ℕ) (x : ℕ × ℕ) (n : ℕ) → IsBytes w
     × IsBasic (record { lifetime = x.0; left = x.1 })
 secured_read w x n fits e =
     let i = bind_ok (walk (basic_format_of 2) 0 w) _ (x, n)
-    (sym (walk_after (basic_format_of 2) _ 0 w) ∙ e) in
-    let f = found (basic_format_of 2) i.0.0 0 w i.0.1 fits i.1 in
+    (sym (walk_after packet_faults (basic_format_of 2) _ 0 w) ∙ e) in
+    let f = found packet_faults (basic_format_of 2) i.0.0 0 w i.0.1 fits i.1 in
     let b = basic_spelled 2 i.0.0 f.text f.spells in
-    let j = number_read 1 i.0.1 w _ (x, n) i.2 in
+    let j = number_read packet_faults 1 i.0.1 w _ (x, n) i.2 in
     let end : i.0.1 ≡ 4 = omega (arith, f.size, ap length b.octets) in
     let same : i.0.0 ≡ x = ap (λ (t : (ℕ × ℕ) × ℕ). t.0) (ok_is _ (x, n) j.1) in
     let parts : w ≡ f.text ++ drop 4 w =

@@ -9,15 +9,17 @@ use Rattle.its_gnvalue.specs.Values.{PositionVector, Position}
 use Rattle.its_geometry.specs.declared.area.Shape.{Shape}
 use Rattle.its_geometry.specs.Area.{GeoArea}
 use Rattle.its_faults.specs.declared.packet.Fault.{Fault}
-use Rattle.its_headers.specs.Format.{walk, after, number_at}
+use Rattle.its_formats.specs.Format.{after}
+use Rattle.its_headers.specs.Format.{walk, number_at}
 use Rattle.its_headers.specs.Layout.{Common, vector_format, vector_from, vector_at, area_format}
 use Rattle.its_headers.specs.Layout.{area_at, common_format, type_format, rest_format}
 use Rattle.its_headers.specs.Layout.{is_individual, is_latitude, is_longitude, is_second, is_angle}
 use Rattle.its_headers.specs.Layout.{is_length, is_zero, kind_of, shape_of, speed_of}
 use Rattle.its_headers.specs.Layout.{area_packet_format, area_packet_rest}
 use Rattle.its_model.specs.Packet.{AreaKind}
-use Rattle.its_headers.proofs.Walks.{walk_after}
-use Rattle.its_headers.proofs.Found.{number_at-here}
+use Rattle.its_formats.proofs.Walks.{walk_after}
+use Rattle.its_formats.proofs.Found.{number_at-here}
+use Rattle.its_headers.specs.Format.{packet_faults}
 
 pub same_vector : (w : List ℕ) (address timestamp p q r s p' q' r' s' : ℕ) → p ≡ p' → q ≡ q'
     → r ≡ r' → s ≡ s'
@@ -46,12 +48,12 @@ vector_judged at w room individual latitude longitude =
     ap (λ (t : ℕ). is_latitude (big_number 4 (drop t w))) p ∙ latitude in
     let lo : is_longitude (big_number 4 (drop (at + 8 + 4 + 4) w)) ≡ true =
     ap (λ (t : ℕ). is_longitude (big_number 4 (drop t w))) q ∙ longitude in
-    let n0 = number_at-here 8 at w (omega arith) in
-    let n1 = number_at-here 4 (at + 8) w (omega arith) in
-    let n2 = number_at-here 4 (at + 8 + 4) w (omega arith) in
-    let n3 = number_at-here 4 (at + 8 + 4 + 4) w (omega arith) in
-    let n4 = number_at-here 2 (at + 8 + 4 + 4 + 4) w (omega arith) in
-    let n5 = number_at-here 2 (at + 8 + 4 + 4 + 4 + 2) w (omega arith) in
+    let n0 = number_at-here packet_faults 8 at w (omega arith) in
+    let n1 = number_at-here packet_faults 4 (at + 8) w (omega arith) in
+    let n2 = number_at-here packet_faults 4 (at + 8 + 4) w (omega arith) in
+    let n3 = number_at-here packet_faults 4 (at + 8 + 4 + 4) w (omega arith) in
+    let n4 = number_at-here packet_faults 2 (at + 8 + 4 + 4 + 4) w (omega arith) in
+    let n5 = number_at-here packet_faults 2 (at + 8 + 4 + 4 + 4 + 2) w (omega arith) in
     rw (n0, individual, n1, n2, la, n3, lo, n4, n5)
     (ap (λ (v : PositionVector). vector_reading v (at + 8 + 4 + 4 + 4 + 2 + 2))
     (same_vector w (big_number 8 (drop at w))
@@ -65,17 +67,17 @@ pub area_judged : (shape : Shape) (w : List ℕ) → 54 ≤ length w
     → walk (area_format shape) 40 w ≡ Ok (area_at shape w, 54)
 unfolding area_format
 area_judged shape w room latitude longitude some second angle =
-    let n0 = number_at-here 4 40 w (omega arith) in
-    let n1 = number_at-here 4 44 w (omega arith) in
-    let n2 = number_at-here 2 48 w (omega arith) in
-    let n3 = number_at-here 2 50 w (omega arith) in
-    let n4 = number_at-here 2 52 w (omega arith) in
+    let n0 = number_at-here packet_faults 4 40 w (omega arith) in
+    let n1 = number_at-here packet_faults 4 44 w (omega arith) in
+    let n2 = number_at-here packet_faults 2 48 w (omega arith) in
+    let n3 = number_at-here packet_faults 2 50 w (omega arith) in
+    let n4 = number_at-here packet_faults 2 52 w (omega arith) in
     rw (n0, latitude, n1, longitude, n2, lt-ltb 0 _ some, n3, second, n4, angle) refl
 
 pub types_then : (left : ℕ) (w : List ℕ) (types : ℕ × ℕ) → walk type_format 4 w ≡ Ok (types, 6)
     → walk (common_format left) 4 w ≡ walk (rest_format left types) 6 w
 unfolding common_format
-types_then left w types is = walk_after type_format (rest_format left) 4 w ∙ rw is refl
+types_then left w types is = walk_after packet_faults type_format (rest_format left) 4 w ∙ rw is refl
 
 -- what the Common Header says, once its types are known
 abbrev pub common_at : ℕ × ℕ → List ℕ → Common
@@ -95,11 +97,11 @@ pub common_judged : (left : ℕ) (w : List ℕ) (types : ℕ × ℕ) → walk ty
     → big_number 1 (drop 11 w) ≡ 0
     → walk (common_format left) 4 w ≡ Ok (common_at types w, 12)
 common_judged left w types is room flags size hops reserved =
-    let n0 = number_at-here 1 6 w (omega arith) in
-    let n1 = number_at-here 1 7 w (omega arith) in
-    let n2 = number_at-here 2 8 w (omega arith) in
-    let n3 = number_at-here 1 10 w (omega arith) in
-    let n4 = number_at-here 1 11 w (omega arith) in
+    let n0 = number_at-here packet_faults 1 6 w (omega arith) in
+    let n1 = number_at-here packet_faults 1 7 w (omega arith) in
+    let n2 = number_at-here packet_faults 2 8 w (omega arith) in
+    let n3 = number_at-here packet_faults 1 10 w (omega arith) in
+    let n4 = number_at-here packet_faults 1 11 w (omega arith) in
     let f : eqb (big_number 1 (drop 7 w) % 128) 0 ≡ true = eq-eqb _ _ flags in
     let h : nat_le left (big_number 1 (drop 10 w)) ≡ true = grind arith in
     let z : is_zero (big_number 1 (drop 11 w)) ≡ true = eq-eqb _ _ reserved in
@@ -112,9 +114,9 @@ pub area_packet_then : (kind : AreaKind) (shape : Shape) (size : ℕ) (w : List 
     → walk (area_packet_format kind shape size) 12 w ≡ walk (area_packet_rest kind v n a size) 54 w
 area_packet_then kind shape size w n z v a number_is reserved zero vector_is area_is =
     rw (number_is, reserved, zero)
-    (walk_after vector_format
+    (walk_after packet_faults vector_format
     (λ v. after (area_format shape) λ a. area_packet_rest kind v n a size) 16 w
-    ∙ rw vector_is (walk_after (area_format shape) (λ a. area_packet_rest kind v n a size) 40 w
+    ∙ rw vector_is (walk_after packet_faults (area_format shape) (λ a. area_packet_rest kind v n a size) 40 w
     ∙ rw area_is refl))
 
 signed_again : (z : ℤ) (n : ℕ) → n < 2 ^ 32 → z ≡ cast_signed w32 n

@@ -1,9 +1,9 @@
 -- The fault that the reading of a packet meets is the first one.
-use Rattle.std.proofs.Common.{◌≡◌, ℕ, ◌+◌, ◌*◌, ◌/◌, ◌^◌, ◌<◌, List, [], ◌∷◌, ◌++◌, take, drop}
+use Rattle.std.proofs.Common.{◌≡◌, ℕ, ◌/◌, ◌^◌, ◌<◌, List, ◌++◌, take, drop}
 use Rattle.std.proofs.Common.{Bool, true, false, cond, eqb, Result, Ok, Err, refl, sym, ap, subst}
 use Rattle.std.proofs.Common.{arith}
 use Rattle.std.proofs.lemmas.List.{take-append-drop}
-use Rattle.byteorder.specs.Endian.{big_number, big_bytes}
+use Rattle.byteorder.specs.Endian.{big_number}
 use Rattle.its_gnvalue.specs.Values.{PositionVector}
 use Rattle.its_faults.specs.declared.packet.Fault.{Fault}
 use Rattle.its_geometry.specs.declared.area.Shape.{Shape}
@@ -12,43 +12,23 @@ use Rattle.its_headers.specs.declared.kind.Kind.{Kind}
 use Rattle.its_headers.specs.declared.kind.Kind.TheVariants.{Beacon, Shb, Gbc, Gac}
 use Rattle.its_model.specs.Packet.{Pdu, Body, AreaKind, geobroadcast, geoanycast}
 use Rattle.its_headers.specs.Encoding.{IsBytes, Encodes}
-use Rattle.its_headers.specs.Format.{Format, ends, number, halves, octets, after, walk}
+use Rattle.its_formats.specs.Format.{ends, after}
+use Rattle.its_headers.specs.Format.{walk}
 use Rattle.its_headers.specs.Layout.{basic_format, basic_format_of, type_format, common_format}
 use Rattle.its_headers.specs.Layout.{vector_format}
 use Rattle.its_headers.specs.Layout.{area_format, area_packet_format, body_format, packet_format}
 use Rattle.its_headers.specs.Layout.{is_type, is_subtype, is_length, is_next, is_second, is_angle}
-use Rattle.its_headers.specs.FirstFault.{Row, common_rows, vector_rows, shb_rows, area_packet_rows}
+use Rattle.its_headers.specs.FirstFault.{Row, EncodesSeen, common_rows, vector_rows, shb_rows, area_packet_rows}
 use Rattle.its_headers.specs.FirstFault.{rows_of, FaultAmong, FirstFault}
-use Rattle.its_headers.proofs.Spells.{Spells}
 use Rattle.its_headers.proofs.Packets.{basic_spelled}
 use Rattle.its_headers.proofs.Encodings.{read_front, encoding_read}
-use Rattle.its_headers.proofs.Faults.{IsInhabited, Rules, Path, rows_in, faults, faultless}
-use Rattle.its_headers.proofs.Faults.{one_fault}
+use Rattle.its_formats.proofs.FirstFaults.{IsInhabited, inhabited_after, Rules, Path, rows_in, faults, faultless}
+use Rattle.its_formats.proofs.FirstFaults.{one_fault}
+use Rattle.its_faults.specs.declared.packet.FaultKind.TheVariants.{Truncated}
+use Rattle.its_headers.specs.Format.{packet_faults}
 
-rules : Rules packet_format
-rules = record { sound = encoding_read; full = λ w x n fits e. (read_front w x n fits e).encodes }
-
-inhabited_after : {A B : Type 0} (f : Format A) (g : A → Format B) → IsInhabited f
-    → ((x : A) (s : List ℕ) → Spells f x s → IsInhabited (g x)) → IsInhabited (after f g)
-inhabited_after (ends x) g h k = k x [] (refl, refl)
-inhabited_after (number n kind right next) g h k = (
-  h.0,
-  λ v lt r.
-      inhabited_after (next v) g (h.1 v lt r)
-      (λ x s p. k x (big_bytes n v ++ s) (v, s, lt, r, refl, p)),
-)
-inhabited_after (halves high is_high low is_low next) g h k = (
-  h.0,
-  λ a la ra. (
-    (h.1 a la ra).0,
-    λ b lb rb. inhabited_after (next a b) g ((h.1 a la ra).1 b lb rb)
-        (λ x s p. k x ((16 * a + b) ∷ s) (a, b, s, la, lb, ra, rb, refl, p)),
-  ),
-)
-inhabited_after (octets n next) g h k =
-    λ bytes len fits.
-    inhabited_after (next bytes) g (h bytes len fits)
-    (λ x s p. k x (bytes ++ s) (bytes, s, len, fits, refl, p))
+rules : Rules packet_faults EncodesSeen packet_format
+rules = record { sound = λ x s rest e. encoding_read x.0 x.1 s rest e; full = λ w x n fits e. (read_front w x n fits e).encodes }
 
 basic_inhabited : IsInhabited basic_format
 unfolding basic_format_of
@@ -170,7 +150,7 @@ inhabited =
 
 rows_of_kind : {B : Type 0} (one five three : Bool) (shape : Shape) (n : ℕ) (g : PositionVector
     × Body → B) (w : List ℕ)
-    → rows_in (after (body_format (cond one Beacon (cond five Shb (cond three Gac Gbc))) shape n)
+    → rows_in Truncated (after (body_format (cond one Beacon (cond five Shb (cond three Gac Gbc))) shape n)
     (λ x. ends (g x))) 12 w ≡ cond one vector_rows (cond five (shb_rows n) (area_packet_rows n))
 unfolding vector_format area_format
 rows_of_kind true five three shape n g w = refl
@@ -178,14 +158,14 @@ rows_of_kind false true three shape n g w = refl
 rows_of_kind false false true shape n g w = refl
 rows_of_kind false false false shape n g w = refl
 
-rows_are : (w : List ℕ) → rows_in packet_format 0 w ≡ rows_of w
+rows_are : (w : List ℕ) → rows_in Truncated packet_format 0 w ≡ rows_of w
 unfolding basic_format_of type_format common_format
 rows_are w =
     ap (λ (t : List Row). common_rows ++ t)
     (rows_of_kind (eqb (big_number 1 (drop 5 w) / 16) 1) (eqb (big_number 1 (drop 5 w) / 16) 5)
     (eqb (big_number 1 (drop 5 w) / 16) 3) _ (big_number 2 (drop 8 w)) _ w)
 
-from_start : (w : List ℕ) → Path packet_format packet_format 0 w
+from_start : (w : List ℕ) → Path packet_faults packet_format packet_format 0 w
 from_start w = record { goes = λ v same le. refl }
 
 pub fault_is_first : (w : List ℕ) (e : Fault) → IsBytes w → walk packet_format 0 w ≡ Err e
@@ -193,20 +173,20 @@ pub fault_is_first : (w : List ℕ) (e : Fault) → IsBytes w → walk packet_fo
 unfolding FirstFault
 fault_is_first w e fits h =
     subst (λ (t : List Row). FaultAmong t 0 w e) (rows_are w)
-    (faults packet_format packet_format 0 0 w e rules (from_start w) inhabited fits (omega arith)
+    (faults packet_faults Truncated packet_format packet_format 0 0 w e rules (from_start w) inhabited fits (omega arith)
     (omega arith) h)
 
 pub no_first_fault : (w : List ℕ) (x : Pdu × ℕ) (n : ℕ) (e : Fault) → IsBytes w
     → walk packet_format 0 w ≡ Ok (x, n) → FirstFault w e → ⊥
 unfolding FirstFault
 no_first_fault w x n e fits h f =
-    faultless packet_format packet_format 0 0 w x n e rules (from_start w) inhabited fits
+    faultless packet_faults Truncated packet_format packet_format 0 0 w x n e rules (from_start w) inhabited fits
     (omega arith) (omega arith) h
     (subst (λ (t : List Row). FaultAmong t 0 w e) (sym (rows_are w)) f)
 
 pub same_first_fault : (w : List ℕ) (e d : Fault) → FirstFault w e → FirstFault w d → e ≡ d
 unfolding FirstFault
-same_first_fault w e d he hd = one_fault (rows_of w) 0 w e d he hd
+same_first_fault w e d he hd = one_fault packet_faults EncodesSeen (rows_of w) 0 w e d he hd
 
 by_reading : (w : List ℕ) (r : Result ((Pdu × ℕ) × ℕ) Fault) → walk packet_format 0 w ≡ r
     → IsBytes w → ((p : Pdu) (left : ℕ) (s rest : List ℕ) → Encodes p left s → w ≡ s ++ rest → ⊥)

@@ -7,6 +7,7 @@ use Rattle.std.proofs.lemmas.List.{append-nil, take-append-drop, drop-drop}
 use Rattle.std.specs.Int.{byte_at}
 use Rattle.byteorder.specs.Endian.{big_number, big_bytes}
 use Rattle.byteorder.specs.Numbers.{big_number-reads_back, big_from-lt}
+use Rattle.its_faults.specs.declared.packet.FaultKind.{FaultKind}
 use Rattle.its_gnvalue.specs.Values.{PositionVector}
 use Rattle.its_geometry.specs.declared.area.Shape.{Shape}
 use Rattle.its_geometry.specs.declared.area.Shape.TheVariants.{Circle, Rectangle, Ellipse}
@@ -20,7 +21,8 @@ use Rattle.its_headers.specs.Encoding.{Encodes, vector_octets, area_octets, mess
 use Rattle.its_headers.specs.Encoding.{basic_header, common_header, extended_header, encoding}
 use Rattle.its_headers.specs.Encoding.{area_packet_octets, common_next, header_type, payload_length}
 use Rattle.its_headers.specs.Encoding.{shape_code}
-use Rattle.its_headers.specs.Format.{Format, after, ends, octets}
+use Rattle.its_formats.specs.Format.{after, ends, octets}
+use Rattle.its_headers.specs.Format.{Format}
 use Rattle.its_headers.specs.Layout.{Common, basic_format, basic_format_of, type_format}
 use Rattle.its_headers.specs.Layout.{common_format}
 use Rattle.its_headers.specs.Layout.{vector_format, area_format, beacon_format, body_format}
@@ -28,11 +30,12 @@ use Rattle.its_headers.specs.Layout.{packet_format, is_next, is_type, is_subtype
 use Rattle.its_headers.specs.Layout.{kind_of, shape_of, next_of, type_of, shb_format}
 use Rattle.its_headers.specs.Layout.{area_packet_format, area_packet_rest}
 use Rattle.its_headers.specs.Fields.{message_of, IsLength, kind_of_body, shape_of_body}
-use Rattle.its_headers.proofs.Spells.{Spells, Spells-after, after-Spells}
+use Rattle.its_formats.specs.Spells.{Spells}
+use Rattle.its_formats.proofs.Spells.{Spells-after, after-Spells}
 use Rattle.its_headers.proofs.Spelled.{vector_spelled, spells_vector, area_spelled, spells_area}
-use Rattle.its_headers.proofs.Numbers.{IsBytes-drop, IsBytes-append, IsBytes-big_bytes}
-use Rattle.its_headers.proofs.Numbers.{big_bytes-big_number}
-use Rattle.its_headers.proofs.Found.{one_octet}
+use Rattle.its_formats.proofs.Numbers.{IsBytes-drop, IsBytes-append, IsBytes-big_bytes}
+use Rattle.its_formats.proofs.Numbers.{big_bytes-big_number}
+use Rattle.its_formats.proofs.Found.{one_octet}
 
 byte_is : (v : ℕ) → v < 256 → byte_at 0 v ≡ v
 byte_is v h = omega arith
@@ -822,7 +825,7 @@ spells_packet p left fits =
     spells_common left common fits.class fits.max_hops fits.left_below (subtype_of_body p.body)
     (length_of_body p.body fits.body) in
     let r = spells_rest p.vector p.body fits.vector fits.body in
-    let last : Spells (ends (p, left)) (p, left) [] = (refl, refl) in
+    let last : Spells {K = FaultKind} (ends (p, left)) (p, left) [] = (refl, refl) in
     let three =
     after-Spells (body_format (kind_of_body p.body) (shape_of_body p.body) (payload_length p.body))
     (λ x. ends (

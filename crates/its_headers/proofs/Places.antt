@@ -24,11 +24,12 @@ use Rattle.its_headers.specs.Format.{Format, walk}
 use Rattle.its_headers.specs.Layout.{vector_format, vector_at, area_format, area_at, is_individual}
 use Rattle.its_headers.specs.Layout.{is_latitude, is_longitude, is_second, is_angle}
 use Rattle.its_headers.specs.Seen.{Seen, seen_of, IsEncoding}
-use Rattle.its_headers.proofs.Spells.{Spells}
+use Rattle.its_formats.specs.Spells.{Spells}
 use Rattle.its_headers.proofs.Spelled.{spells_vector, spells_area}
-use Rattle.its_headers.proofs.Found.{again, ok_is, judged_ok, number_read}
+use Rattle.its_formats.proofs.Found.{again, ok_is, judged_ok, number_read}
 use Rattle.its_headers.proofs.Judged.{same_vector}
 use Rattle.its_headers.proofs.Packets.{message_again}
+use Rattle.its_headers.specs.Format.{packet_faults}
 
 -- the encoding of a packet with a body
 abbrev text_of : ℕ → Pdu → Body → List ℕ
@@ -40,7 +41,7 @@ read_at : {A : Type 0} (f : Format A) (x : A) (at end : ℕ) (w s rest : List �
 read_at {A = A} f x at end w s rest h is size some =
     let l = ap length is in
     let reads : A → ℕ → Result (A × ℕ) Fault = λ y n. Ok (y, n) in
-    again f x at w s rest h is (omega (arith, l, length-append s rest, length-drop at w))
+    again packet_faults f x at w s rest h is (omega (arith, l, length-append s rest, length-drop at w))
     ∙ ap (reads x) (sym size)
 
 -- ---- the vector
@@ -73,15 +74,15 @@ vector_walked : (at : ℕ) (w : List ℕ) (v : PositionVector) (n : ℕ)
     → walk vector_format at w ≡ Ok (v, n) → vector_at at w ≡ v
 unfolding vector_format
 vector_walked at w v n h =
-    let a0 = number_read 8 at w _ (v, n) h in
-    let t0 = judged_ok (is_individual (big_number 8 (drop at w))) _ _ _ _ a0.1 in
-    let a1 = number_read 4 (at + 8) w _ (v, n) t0.1 in
-    let a2 = number_read 4 (at + 8 + 4) w _ (v, n) a1.1 in
-    let t2 = judged_ok (is_latitude (big_number 4 (drop (at + 8 + 4) w))) _ _ _ _ a2.1 in
-    let a3 = number_read 4 (at + 8 + 4 + 4) w _ (v, n) t2.1 in
-    let t3 = judged_ok (is_longitude (big_number 4 (drop (at + 8 + 4 + 4) w))) _ _ _ _ a3.1 in
-    let a4 = number_read 2 (at + 8 + 4 + 4 + 4) w _ (v, n) t3.1 in
-    let a5 = number_read 2 (at + 8 + 4 + 4 + 4 + 2) w _ (v, n) a4.1 in
+    let a0 = number_read packet_faults 8 at w _ (v, n) h in
+    let t0 = judged_ok (is_individual (big_number 8 (drop at w))) _ _ _ a0.1 in
+    let a1 = number_read packet_faults 4 (at + 8) w _ (v, n) t0.1 in
+    let a2 = number_read packet_faults 4 (at + 8 + 4) w _ (v, n) a1.1 in
+    let t2 = judged_ok (is_latitude (big_number 4 (drop (at + 8 + 4) w))) _ _ _ a2.1 in
+    let a3 = number_read packet_faults 4 (at + 8 + 4 + 4) w _ (v, n) t2.1 in
+    let t3 = judged_ok (is_longitude (big_number 4 (drop (at + 8 + 4 + 4) w))) _ _ _ a3.1 in
+    let a4 = number_read packet_faults 2 (at + 8 + 4 + 4 + 4) w _ (v, n) t3.1 in
+    let a5 = number_read packet_faults 2 (at + 8 + 4 + 4 + 4 + 2) w _ (v, n) a4.1 in
     same_vector w (big_number 8 (drop at w)) (big_number 4 (drop (at + 8) w)) _ _ _ _ _ _ _ _
     (omega arith) (omega arith) (omega arith) (omega arith)
     ∙ ap (λ (t : PositionVector × ℕ). t.0) (ok_is _ (v, n) a5.1)
@@ -113,16 +114,16 @@ area_walked : (shape : Shape) (w : List ℕ) (x : GeoArea) (n : ℕ)
     → walk (area_format shape) 40 w ≡ Ok (x, n) → area_at shape w ≡ x
 unfolding area_format
 area_walked shape w x n h =
-    let a0 = number_read 4 40 w _ (x, n) h in
-    let t0 = judged_ok (is_latitude (big_number 4 (drop 40 w))) _ _ _ _ a0.1 in
-    let a1 = number_read 4 44 w _ (x, n) t0.1 in
-    let t1 = judged_ok (is_longitude (big_number 4 (drop 44 w))) _ _ _ _ a1.1 in
-    let a2 = number_read 2 48 w _ (x, n) t1.1 in
-    let t2 = judged_ok _ _ _ _ _ a2.1 in
-    let a3 = number_read 2 50 w _ (x, n) t2.1 in
-    let t3 = judged_ok (is_second shape (big_number 2 (drop 50 w))) _ _ _ _ a3.1 in
-    let a4 = number_read 2 52 w _ (x, n) t3.1 in
-    let t4 = judged_ok (is_angle shape (big_number 2 (drop 52 w))) _ _ _ _ a4.1 in
+    let a0 = number_read packet_faults 4 40 w _ (x, n) h in
+    let t0 = judged_ok (is_latitude (big_number 4 (drop 40 w))) _ _ _ a0.1 in
+    let a1 = number_read packet_faults 4 44 w _ (x, n) t0.1 in
+    let t1 = judged_ok (is_longitude (big_number 4 (drop 44 w))) _ _ _ a1.1 in
+    let a2 = number_read packet_faults 2 48 w _ (x, n) t1.1 in
+    let t2 = judged_ok _ _ _ _ a2.1 in
+    let a3 = number_read packet_faults 2 50 w _ (x, n) t2.1 in
+    let t3 = judged_ok (is_second shape (big_number 2 (drop 50 w))) _ _ _ a3.1 in
+    let a4 = number_read packet_faults 2 52 w _ (x, n) t3.1 in
+    let t4 = judged_ok (is_angle shape (big_number 2 (drop 52 w))) _ _ _ a4.1 in
     ap (λ (t : GeoArea × ℕ). t.0) (ok_is _ (x, n) t4.1)
 
 -- the area of a packet for an area

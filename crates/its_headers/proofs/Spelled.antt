@@ -14,7 +14,7 @@ use Rattle.its_headers.specs.Encoding.{IsArea}
 use Rattle.its_headers.specs.Layout.{latitude_test, longitude_test, speed_of, is_individual}
 use Rattle.its_headers.specs.Layout.{vector_format, vector_from, area_format, area_from, is_second}
 use Rattle.its_headers.specs.Layout.{is_angle}
-use Rattle.its_headers.proofs.Spells.{Spells}
+use Rattle.its_formats.specs.Spells.{Spells}
 use Rattle.its_headers.proofs.FieldTests.{latitude_from_test, test_from_latitude}
 use Rattle.its_headers.proofs.FieldTests.{longitude_from_test, test_from_longitude, speed_fits}
 use Rattle.its_headers.proofs.FieldTests.{speed_bits-speed_of, speed_bits-lt, speed_of-speed_bits}

@@ -7,10 +7,11 @@ use Rattle.std.specs.Prelude.{OnErr}
 use Rattle.its_model.specs.Packet.{Pdu}
 use Rattle.its_headers.specs.Encoding.{IsBytes, Encodes}
 use Rattle.its_headers.specs.Decoding.{HasPayload, BeginsWithPayload}
-use Rattle.its_headers.specs.Format.{walk, end_of}
+use Rattle.its_formats.specs.Format.{end_of}
+use Rattle.its_headers.specs.Format.{walk}
 use Rattle.its_headers.specs.Layout.{packet_format}
 use Rattle.its_headers.specs.Seen.{Seen, seen, seen_of, IsEncoding}
-use Rattle.its_headers.proofs.Found.{ok_is}
+use Rattle.its_formats.proofs.Found.{ok_is}
 use Rattle.its_headers.proofs.Encodings.{read_front, encoding_read}
 
 -- ---- what ends somewhere was read, and what doesn't has the fault

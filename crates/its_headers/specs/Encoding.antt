@@ -9,7 +9,7 @@ use Rattle.its_geometry.specs.declared.area.Shape.{Shape}
 use Rattle.its_geometry.specs.declared.area.Shape.TheVariants.{Circle, Rectangle, Ellipse}
 use Rattle.its_geometry.specs.Area.{GeoArea, HasMeasures}
 use Rattle.its_model.specs.Packet.{Message, Body, beacon, shb, gbc, gac, Pdu}
-pub use Rattle.its_headers.specs.Bytes.{IsBytes}
+pub use Rattle.its_formats.specs.Bytes.{IsBytes}
 
 -- the next header of the Common Header: nothing after a beacon, else BTP-B
 abbrev pub common_next : Body → ℕ

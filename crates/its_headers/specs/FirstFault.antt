@@ -1,8 +1,8 @@
 -- The first fault of octets that no packet begins: at the first field that no packet's encoding has
 -- after the fields before it, with the kind of that field, or at the end of the octets where they
 -- end before or in a field.
-use Rattle.std.specs.Prelude.{◌≡◌, ◌≤◌, ◌<◌, ℕ, ◌+◌, ◌*◌, ◌/◌, ◌%◌, List, [], ◌∷◌, ◌++◌, length}
-use Rattle.std.specs.Prelude.{take, drop, ◌⊎◌, ◌==◌, if◌then◌else◌}
+use Rattle.std.specs.Prelude.{ℕ, ◌/◌, List, [], ◌∷◌, ◌++◌}
+use Rattle.std.specs.Prelude.{drop, ◌==◌, if◌then◌else◌}
 use Rattle.byteorder.specs.Endian.{big_number}
 use Rattle.its_faults.specs.declared.packet.Fault.{Fault}
 use Rattle.its_faults.specs.declared.packet.FaultKind.{FaultKind}
@@ -11,21 +11,14 @@ use Rattle.its_faults.specs.declared.packet.FaultKind.TheVariants.{Reserved, Hop
 use Rattle.its_faults.specs.declared.packet.FaultKind.TheVariants.{HeaderType, SubType, HopAboveMax}
 use Rattle.its_faults.specs.declared.packet.FaultKind.TheVariants.{PayloadLength, Position, Area}
 use Rattle.its_model.specs.Packet.{Pdu}
+use Rattle.its_formats.specs.FirstFault as rows
+use Rattle.its_formats.specs.FirstFault.{half, whole}
 use Rattle.its_headers.specs.Encoding.{Encodes}
+use Rattle.its_headers.specs.Format.{packet_faults}
 
--- a field: how many half octets it takes, and which fault it is where it is wrong (a field that is
--- never wrong has Truncated)
-pub record Row : Type 0 where
-  pub halves : ℕ
-  pub kind : FaultKind
-
--- a field of half an octet
-abbrev pub half : FaultKind → Row
-half kind = record { halves = 1; kind = kind }
-
--- a field of so many octets
-abbrev pub whole : ℕ → FaultKind → Row
-whole octets kind = record { halves = 2 * octets; kind = kind }
+-- a field of a packet (a field that is never wrong has Truncated)
+abbrev pub Row : Type 0
+Row = rows.Row FaultKind
 
 -- Basic Header: version, next header, reserved, lifetime, hops left. Common Header: next header,
 -- reserved, header type, sub-type, traffic class, flags, payload length, greatest hops, reserved.
@@ -63,37 +56,14 @@ rows_of w =
     (if type == 1 then vector_rows else if type == 5
     then shb_rows payload else area_packet_rows payload)
 
--- each octet as two halves, the high one first
-abbrev pub half_octets : List ℕ → List ℕ
-half_octets [] = []
-half_octets (b ∷ w) = b / 16 ∷ b % 16 ∷ half_octets w
-
--- A sound front: the encoding of some packet begins with these half octets.
-pub record IsSound (front : List ℕ) : Type 0 where
-  pub pdu : Pdu
-  pub left : ℕ
-  pub encoded : List ℕ
-  pub rest : List ℕ
-  pub encodes : Encodes pdu left encoded
-  pub begins : half_octets encoded ≡ front ++ rest
-
--- the prefix of the octets up to this half octet
-abbrev pub front_to : ℕ → List ℕ → List ℕ
-front_to end w = take end (half_octets w)
+-- the octets are the encoding of this packet with so many hops left
+abbrev pub EncodesSeen : Pdu × ℕ → List ℕ → Type 0
+EncodesSeen x w = Encodes x.0 x.1 w
 
 -- the fault among these fields, the first of which starts at this half octet, where the front
--- before it is sound
+-- before it is sound: some packet's encoding begins with it
 abbrev pub FaultAmong : List Row → ℕ → List ℕ → Fault → Type 0
-FaultAmong [] start w f = ⊥
-FaultAmong (row ∷ rows) start w f =
-    -- the field is not wholly there
-    ((2 * length w < start + row.halves) × (f ≡ record { at = length w; kind = Truncated }))
-    -- with it the front is not sound any more
-    ⊎ ((start + row.halves ≤ 2 * length w) × (¬ IsSound (front_to (start + row.halves) w))
-    × (f ≡ record { at = start / 2; kind = row.kind }))
-    -- with it the front is sound, and the fault comes later
-    ⊎ ((start + row.halves ≤ 2 * length w) × IsSound (front_to (start + row.halves) w)
-    × FaultAmong rows (start + row.halves) w f)
+FaultAmong fields start w f = rows.FaultAmong packet_faults EncodesSeen fields start w f
 
 -- the fault among all fields
 unfoldable pub FirstFault : List ℕ → Fault → Type 0

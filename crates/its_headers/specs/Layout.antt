@@ -11,7 +11,8 @@ use Rattle.its_faults.specs.declared.packet.FaultKind.TheVariants.{HeaderType, S
 use Rattle.its_faults.specs.declared.packet.FaultKind.TheVariants.{PayloadLength}
 use Rattle.its_faults.specs.declared.packet.FaultKind.TheVariants.{Position as BadPosition}
 use Rattle.its_faults.specs.declared.packet.FaultKind.TheVariants.{Area as BadArea}
-use Rattle.its_headers.specs.Format.{Format, ends, number, halves, octets, after}
+use Rattle.its_formats.specs.Format.{ends, number, halves, octets, after}
+use Rattle.its_headers.specs.Format.{Format}
 use Rattle.its_geometry.specs.declared.area.Shape.{Shape}
 use Rattle.its_geometry.specs.declared.area.Shape.TheVariants.{Circle, Rectangle, Ellipse}
 use Rattle.its_geometry.specs.Area.{GeoArea}

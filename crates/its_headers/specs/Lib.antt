@@ -8,7 +8,6 @@ pub mod Seen
 pub mod Puts
 pub mod Packets
 pub mod Written
-pub mod Bytes
 pub mod Decoding
 pub mod Kinds
 pub use Rattle.its_model.specs.Packet

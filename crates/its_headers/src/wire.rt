@@ -4,7 +4,8 @@
 
 ghost use Rattle.std.specs.Prelude.{◌≡◌, ◌≤◌, ℕ};
 ghost use Rattle.its_model.specs.Packet.{geobroadcast, geoanycast};
-ghost use Rattle.its_headers.specs.Format.{walk, end_of};
+ghost use Rattle.its_formats.specs.Format.{end_of};
+ghost use Rattle.its_headers.specs.Format.{walk};
 ghost use Rattle.its_headers.specs.Layout.{beacon_format, shb_format, area_packet_format};
 ghost use Rattle.its_headers.specs.Layout.{packet_format, plain_format};
 
@@ -33,7 +34,7 @@ use position::check_vector;
 
 /// Where the packet that begins the octets ends, or the first fault. Each field is checked once,
 /// in the order of the wire, and no value is made of it.
-#[tactic(auto, using(crate::proofs::Walks::walk_after))]
+#[tactic(auto, using(its_formats::proofs::Walks::walk_after))]
 #[inline(always)]
 pub(crate) fn packet_end(octets: &[u8]) -> Result<usize, Fault>
     ensures { result ≡ end_of (walk packet_format 0 octets.now) }
@@ -48,7 +49,7 @@ pub(crate) fn packet_end(octets: &[u8]) -> Result<usize, Fault>
 
 /// Where the packet ends whose Basic Header was checked, which says so many hops, or the first
 /// fault behind it.
-#[tactic(auto, using(crate::proofs::Walks::walk_after))]
+#[tactic(auto, using(its_formats::proofs::Walks::walk_after))]
 #[inline(always)]
 pub(crate) fn plain_end<H: Head>(octets: &Octets<'_, H>, left: u8) -> Result<usize, Fault>
     ensures { (lifetime : ℕ) → result
@@ -63,7 +64,7 @@ pub(crate) fn plain_end<H: Head>(octets: &Octets<'_, H>, left: u8) -> Result<usi
 }
 
 /// Where the beacon ends whose headers were checked.
-#[tactic(auto, using(crate::proofs::Walks::walk_after))]
+#[tactic(auto, using(its_formats::proofs::Walks::walk_after))]
 #[inline(always)]
 fn beacon_end<H: Head>(octets: &Octets<'_, H>) -> Result<usize, Fault>
     ensures { result ≡ end_of (walk beacon_format 12 octets.now) }
@@ -73,7 +74,7 @@ fn beacon_end<H: Head>(octets: &Octets<'_, H>) -> Result<usize, Fault>
 }
 
 /// Where the single-hop broadcast with a payload of this length ends.
-#[tactic(auto, using(crate::proofs::Walks::walk_after))]
+#[tactic(auto, using(its_formats::proofs::Walks::walk_after))]
 #[inline(always)]
 fn shb_end<H: Head>(octets: &Octets<'_, H>, size: u16) -> Result<usize, Fault>
     ensures { result ≡ end_of (walk (shb_format size) 12 octets.now) }
@@ -85,7 +86,7 @@ fn shb_end<H: Head>(octets: &Octets<'_, H>, size: u16) -> Result<usize, Fault>
 }
 
 /// Where the packet for an area of this shape, with a payload of this length, ends.
-#[tactic(auto, using(crate::proofs::Walks::walk_after))]
+#[tactic(auto, using(its_formats::proofs::Walks::walk_after))]
 #[inline(always)]
 fn area_packet_end<H: Head>(octets: &Octets<'_, H>, shape: Shape, size: u16) -> Result<usize, Fault>
     ensures gbc { result

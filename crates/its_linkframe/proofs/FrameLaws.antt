@@ -11,7 +11,7 @@ use Rattle.its_headers.specs.Encoding.{IsBytes, Encodes}
 use Rattle.its_headers.specs.FirstFault.{FirstFault}
 use Rattle.its_headers.specs.Format.{walk}
 use Rattle.its_headers.specs.Layout.{packet_format}
-use Rattle.its_headers.proofs.Numbers.{IsBytes-drop}
+use Rattle.its_formats.proofs.Numbers.{IsBytes-drop}
 use Rattle.its_headers.proofs.Encodings.{read_front, encoding_read, one_encoding}
 use Rattle.its_headers.proofs.PacketFaults.{fault_is_first, no_first_fault, same_first_fault}
 use Rattle.its_linkframe.specs.Frames.{EncodesFrame, link_header}

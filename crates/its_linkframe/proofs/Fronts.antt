@@ -10,7 +10,7 @@ use Rattle.its_gnvalue.specs.Values.{PositionVector}
 use Rattle.its_headers.specs.Encoding.{IsBytes, Encodes, IsPacket, IsBody, encoding}
 use Rattle.its_headers.specs.Encoding.{extended_header, message_octets}
 use Rattle.its_headers.specs.Seen.{Seen}
-use Rattle.its_headers.proofs.Numbers.{IsBytes-take, IsBytes-drop, big_bytes-big_number}
+use Rattle.its_formats.proofs.Numbers.{IsBytes-take, IsBytes-drop, big_bytes-big_number}
 use Rattle.its_linkframe.specs.Frames.{link_header, frame_octets, EncodesFrame, sent_from_to}
 use Rattle.its_linkframe.specs.FrameFaults.{Trails}
 

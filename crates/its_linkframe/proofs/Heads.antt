@@ -13,7 +13,7 @@ use Rattle.its_linkframe.specs.Reading.{ConsumesHead, IsReadFault, IsCutShort}
 use Rattle.its_linkframe.specs.declared.record.CaptureFault.{CaptureFault}
 use Rattle.its_linkframe.specs.declared.record.CaptureFault.TheVariants as faults
 use Rattle.std.proofs.KnownBytes.{Consumes-trans}
-use Rattle.its_headers.proofs.Numbers.{big_bytes-big_number, IsBytes-drop}
+use Rattle.its_formats.proofs.Numbers.{big_bytes-big_number, IsBytes-drop}
 
 pub length-head_octets : (m n : ℕ) → length (head_octets m n) ≡ 10
 unfolding head_octets

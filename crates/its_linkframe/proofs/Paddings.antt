@@ -9,7 +9,7 @@ use Rattle.byteorder.specs.Endian.{big_bytes, big_number}
 use Rattle.its_model.specs.Packet.{Transmission}
 use Rattle.its_headers.specs.Encoding.{IsBytes, Encodes}
 use Rattle.its_headers.specs.Seen.{Seen}
-use Rattle.its_headers.proofs.Numbers.{IsBytes-take}
+use Rattle.its_formats.proofs.Numbers.{IsBytes-take}
 use Rattle.its_linkframe.specs.Frames.{EncodesFrame, sent_from_to}
 use Rattle.its_linkframe.specs.Padding.{IsFrameEnd, IsUnpadded}
 use Rattle.its_linkframe.proofs.Fronts.{frame_bounds, EncodesFrame-parts}

@@ -3,10 +3,10 @@ use Rattle.std.proofs.Common.{◌≡◌, ℕ, ◌≤◌, List, ◌++◌, length,
 use Rattle.std.proofs.Common.{sym, ap, subst, ◌∙◌, arith, zero-add}
 use Rattle.std.proofs.lemmas.List.{take_at}
 use Rattle.its_faults.specs.declared.packet.Fault.{Fault}
-use Rattle.its_headers.specs.Bytes.{IsBytes}
-use Rattle.its_headers.specs.Format.{walk}
-use Rattle.its_headers.proofs.Spells.{Spells}
-use Rattle.its_headers.proofs.Found.{found, again, ok_is}
+use Rattle.its_formats.specs.Bytes.{IsBytes}
+use Rattle.its_headers.specs.Format.{packet_faults, walk}
+use Rattle.its_formats.specs.Spells.{Spells}
+use Rattle.its_formats.proofs.Found.{found, again, ok_is}
 use Rattle.its_outside.specs.Encoding.{Standard, Encodes}
 use Rattle.its_outside.specs.Layout.{standard_format}
 use Rattle.its_outside.proofs.Packets.{packet_spelled, spells_packet}
@@ -19,7 +19,7 @@ pub record Front (p : Standard) (n : ℕ) (w : List ℕ) : Type 0 where
 pub read_front : (w : List ℕ) (x : Standard) (n : ℕ) → IsBytes w
     → walk standard_format 0 w ≡ Ok (x, n) → Front x n w
 read_front w x n fits e =
-    let f = found standard_format x 0 w n fits e in
+    let f = found packet_faults standard_format x 0 w n fits e in
     let size : length f.text ≡ n = omega (arith, f.size) in
     let front : take n w ≡ f.text = ap (take n) f.parts ∙ take_at f.text (drop n w) n size in
     record {
@@ -36,7 +36,7 @@ pub encoding_read : (p : Standard) (s rest : List ℕ) → Encodes p s
 encoding_read p s rest e =
     let h = subst (λ (t : List ℕ). Spells standard_format p t) (sym e.octets)
     (spells_packet p e.fields) in
-    again standard_format p 0 (s ++ rest) s rest h refl (omega arith)
+    again packet_faults standard_format p 0 (s ++ rest) s rest h refl (omega arith)
     ∙ ap (λ (t : ℕ). readings p t) (zero-add (length s))
 
 -- no encoding begins another, and each is of one packet

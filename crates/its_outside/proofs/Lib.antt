@@ -1,7 +1,6 @@
 pub mod Spelled
 pub mod Packets
 pub mod Encodings
-pub mod Faults
 pub mod StandardFaults
 pub mod Answering
 pub mod Profile

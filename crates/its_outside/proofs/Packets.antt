@@ -7,10 +7,13 @@ use Rattle.byteorder.specs.Endian.{big_bytes}
 use Rattle.its_geometry.specs.declared.area.Shape.{Shape}
 use Rattle.its_geometry.specs.declared.area.Shape.TheVariants.{Circle, Rectangle, Ellipse}
 use Rattle.its_headers.specs.Encoding.{shape_code}
-use Rattle.its_headers.specs.Format.{Format, ends, number, octets, after}
+use Rattle.its_formats.specs.Format.{ends, number, octets, after}
+use Rattle.its_headers.specs.Format.{Format}
 use Rattle.its_headers.specs.Layout.{shape_of, any}
+use Rattle.its_faults.specs.declared.packet.FaultKind.{FaultKind}
 use Rattle.its_faults.specs.declared.packet.FaultKind.TheVariants.{Truncated}
-use Rattle.its_headers.proofs.Spells.{Spells, Spells-after, after-Spells}
+use Rattle.its_formats.specs.Spells.{Spells}
+use Rattle.its_formats.proofs.Spells.{Spells-after, after-Spells}
 use Rattle.its_outside.specs.declared.kind.StandardKind.{StandardKind}
 use Rattle.its_outside.specs.declared.kind.StandardKind.TheVariants as kinds
 use Rattle.its_outside.specs.declared.fields.LongVector.{LongVector}
@@ -249,7 +252,7 @@ spells_numbered : {A : Type 0} (rest : Format A) (made : Sequence → A → Exte
       made q x,
     ) (sequence_octets q ++ (long_octets v ++ text))
 spells_numbered rest made q v x text fq fv h =
-    let last : Spells (ends (v, made q x)) (v, made q x) [] = (refl, refl) in
+    let last : Spells {K = FaultKind} (ends (v, made q x)) (v, made q x) [] = (refl, refl) in
     let c = after-Spells rest (λ x. ends (v, made q x)) x (v, made q x) text [] h last in
     let b = after-Spells long_format (λ v. after rest λ x. ends (v, made q x)) v (
       v,
@@ -405,7 +408,7 @@ spells_extended v (extended.Shb media) fv fe =
       (refl, refl),
     )
 spells_extended v (extended.Tsb s) fv fe =
-    let last : Spells (ends (v, extended.Tsb s)) (v, extended.Tsb s) [] = (refl, refl) in
+    let last : Spells {K = FaultKind} (ends (v, extended.Tsb s)) (v, extended.Tsb s) [] = (refl, refl) in
     let b = after-Spells long_format (λ v. ends (v, extended.Tsb s)) v (
       v,
       extended.Tsb s,
@@ -499,7 +502,7 @@ spells_packet p fits =
     subst (λ (z : ℕ). Spells (common_format b.left) common (common_octets c z n)) types.code
     (spells_common b.left c (type_of e) (subtype_of e) n fits.common types.small types.small_sub
     types.type_is types.subtype_is size.0 size.1) in
-    let last : Spells (octets n λ payload. ends (
+    let last : Spells {K = FaultKind} (octets n λ payload. ends (
     let x : Standard = record {
       fields = record { basic = b; common = c; source = v; extended = e };
       payload = payload;

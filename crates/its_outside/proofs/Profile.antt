@@ -10,13 +10,13 @@ use Rattle.its_geometry.specs.declared.area.Shape.{Shape}
 use Rattle.its_geometry.specs.declared.area.Shape.TheVariants.{Circle, Rectangle, Ellipse}
 use Rattle.its_geometry.specs.Area.{GeoArea, HasMeasures}
 use Rattle.its_model.specs.Packet.{Pdu, Body, beacon, shb, gbc, gac, Message}
-use Rattle.its_headers.specs.Bytes.{IsBytes}
+use Rattle.its_formats.specs.Bytes.{IsBytes}
 use Rattle.its_headers.specs.Encoding.{Encodes as EncodesPdu, encoding as encoding_of_pdu, IsPacket}
 use Rattle.its_headers.specs.Encoding.{IsVector, IsArea, IsBody, IsMedia, IsMessage, payload_of}
 use Rattle.its_headers.specs.Encoding.{message_octets, basic_header, common_header, extended_header}
 use Rattle.its_headers.specs.Encoding.{payload_length, vector_octets, header_type, common_next}
 use Rattle.its_headers.proofs.FieldTests.{longitude_from_latitude}
-use Rattle.its_headers.proofs.Numbers.{big_bytes-big_number}
+use Rattle.its_formats.proofs.Numbers.{big_bytes-big_number}
 use Rattle.its_headers.proofs.Packets.{IsBytes-message}
 use Rattle.its_outside.specs.declared.fields.BasicNext.TheVariants as basics
 use Rattle.its_outside.specs.declared.fields.NextHeader.{NextHeader}

@@ -9,8 +9,8 @@ use Rattle.byteorder.specs.Endian.{big_bytes}
 use Rattle.its_geometry.specs.declared.area.Shape.{Shape}
 use Rattle.its_headers.specs.Encoding.{motion, speed_bits}
 use Rattle.its_headers.specs.Layout.{speed_of, shape_of}
-use Rattle.its_headers.proofs.Spells.{Spells}
-use Rattle.its_headers.proofs.Found.{one_octet}
+use Rattle.its_formats.specs.Spells.{Spells}
+use Rattle.its_formats.proofs.Found.{one_octet}
 use Rattle.its_headers.proofs.FieldTests.{speed_fits, speed_bits-speed_of, speed_bits-lt}
 use Rattle.its_headers.proofs.FieldTests.{speed_of-speed_bits, accurate_back, bits_back, motion-lt}
 use Rattle.its_outside.specs.declared.fields.BasicNext.{BasicNext}

@@ -7,12 +7,13 @@ use Rattle.byteorder.specs.Endian.{big_number, big_bytes}
 use Rattle.its_faults.specs.declared.packet.Fault.{Fault}
 use Rattle.its_faults.specs.declared.packet.FaultKind.TheVariants.{Truncated}
 use Rattle.its_geometry.specs.declared.area.Shape.{Shape}
-use Rattle.its_headers.specs.Bytes.{IsBytes}
-use Rattle.its_headers.specs.FirstFault.{Row, whole}
-use Rattle.its_headers.specs.Format.{Format, ends, number, halves, octets, after, walk}
+use Rattle.its_formats.specs.Bytes.{IsBytes}
+use Rattle.its_formats.specs.FirstFault.{whole}
+use Rattle.its_headers.specs.FirstFault.{Row}
+use Rattle.its_formats.specs.Format.{ends, number, halves, octets, after}
+use Rattle.its_headers.specs.Format.{Format, packet_faults, walk}
 use Rattle.its_headers.specs.Layout.{any}
-use Rattle.its_headers.proofs.Spells.{Spells}
-use Rattle.its_headers.proofs.Faults.{IsInhabited, rows_in}
+use Rattle.its_formats.specs.Spells.{Spells}
 use Rattle.its_outside.specs.declared.kind.StandardKind.{StandardKind}
 use Rattle.its_outside.specs.declared.kind.StandardKind.TheVariants as kinds
 use Rattle.its_outside.specs.declared.fields.LongVector.{LongVector}
@@ -28,33 +29,12 @@ use Rattle.its_outside.specs.StandardFault.{common_rows, long_rows, short_rows, 
 use Rattle.its_outside.specs.StandardFault.{numbered_rows, standard_rows}
 use Rattle.its_outside.specs.StandardFault.{FaultAmong, StandardFault}
 use Rattle.its_outside.proofs.Encodings.{read_front, encoding_read}
-use Rattle.its_outside.proofs.Faults.{Rules, Path, faults, faultless, one_fault}
+use Rattle.its_formats.proofs.FirstFaults.{IsInhabited, inhabited_after, Rules, Path, rows_in}
+use Rattle.its_formats.proofs.FirstFaults.{faults, faultless, one_fault}
 use Rattle.its_outside.proofs.Spelled.{basic_spelled}
 
-rules : Rules standard_format
+rules : Rules packet_faults Encodes standard_format
 rules = record { sound = encoding_read; full = λ w x n fits e. (read_front w x n fits e).encodes }
-
-inhabited_after : {A B : Type 0} (f : Format A) (g : A → Format B) → IsInhabited f
-    → ((x : A) (s : List ℕ) → Spells f x s → IsInhabited (g x)) → IsInhabited (after f g)
-inhabited_after (ends x) g h k = k x [] (refl, refl)
-inhabited_after (number n kind right next) g h k = (
-  h.0,
-  λ v lt r.
-      inhabited_after (next v) g (h.1 v lt r)
-      (λ x s p. k x (big_bytes n v ++ s) (v, s, lt, r, refl, p)),
-)
-inhabited_after (halves high is_high low is_low next) g h k = (
-  h.0,
-  λ a la ra. (
-    (h.1 a la ra).0,
-    λ b lb rb. inhabited_after (next a b) g ((h.1 a la ra).1 b lb rb)
-        (λ x s p. k x ((16 * a + b) ∷ s) (a, b, s, la, lb, ra, rb, refl, p)),
-  ),
-)
-inhabited_after (octets n next) g h k =
-    λ bytes len fits.
-    inhabited_after (next bytes) g (h bytes len fits)
-    (λ x s p. k x (bytes ++ s) (bytes, s, len, fits, refl, p))
 
 -- a number that is never wrong is 0
 zero_fits : (n : ℕ) → 0 < 256 ^ n → (v : ℕ) × (v < 256 ^ n) × (any v ≡ true)
@@ -194,7 +174,7 @@ inhabited =
 
 rows_of_kind : (one two three four five none : Bool) (shape : Shape) (n : ℕ) (g : LongVector
     × ExtendedFields → List ℕ → Standard) (w : List ℕ)
-    → rows_in (after (extended_format (cond one kinds.Beacon
+    → rows_in Truncated (after (extended_format (cond one kinds.Beacon
     (cond two kinds.Guc (cond three kinds.Gac
     (cond four kinds.Gbc (cond five (cond none kinds.Shb kinds.Tsb)
     (cond none kinds.LsRequest kinds.LsReply)))))) shape)
@@ -215,7 +195,7 @@ rows_of_kind false false false false true false shape n g w = refl
 rows_of_kind false false false false false true shape n g w = refl
 rows_of_kind false false false false false false shape n g w = refl
 
-rows_are : (w : List ℕ) → rows_in standard_format 0 w ≡ standard_rows w
+rows_are : (w : List ℕ) → rows_in Truncated standard_format 0 w ≡ standard_rows w
 unfolding basic_format types_format
 rows_are w =
     let t = big_number 1 (drop 5 w) / 16 in
@@ -223,7 +203,7 @@ rows_are w =
     (rows_of_kind (eqb t 1) (eqb t 2) (eqb t 3) (eqb t 4) (eqb t 5)
     (eqb (big_number 1 (drop 5 w) % 16) 0) _ (big_number 2 (drop 8 w)) _ w)
 
-from_start : (w : List ℕ) → Path standard_format standard_format 0 w
+from_start : (w : List ℕ) → Path packet_faults standard_format standard_format 0 w
 from_start w = record { goes = λ v same le. refl }
 
 pub fault_is_first : (w : List ℕ) (e : Fault) → IsBytes w → walk standard_format 0 w ≡ Err e
@@ -231,20 +211,20 @@ pub fault_is_first : (w : List ℕ) (e : Fault) → IsBytes w → walk standard_
 unfolding StandardFault
 fault_is_first w e fits h =
     subst (λ (t : List Row). FaultAmong t 0 w e) (rows_are w)
-    (faults standard_format standard_format 0 0 w e rules (from_start w) inhabited fits
+    (faults packet_faults Truncated standard_format standard_format 0 0 w e rules (from_start w) inhabited fits
     (omega arith) (omega arith) h)
 
 pub no_first_fault : (w : List ℕ) (x : Standard) (n : ℕ) (e : Fault) → IsBytes w
     → walk standard_format 0 w ≡ Ok (x, n) → StandardFault w e → ⊥
 unfolding StandardFault
 no_first_fault w x n e fits h f =
-    faultless standard_format standard_format 0 0 w x n e rules (from_start w) inhabited fits
+    faultless packet_faults Truncated standard_format standard_format 0 0 w x n e rules (from_start w) inhabited fits
     (omega arith) (omega arith) h
     (subst (λ (t : List Row). FaultAmong t 0 w e) (sym (rows_are w)) f)
 
 pub same_first_fault : (w : List ℕ) (e d : Fault) → StandardFault w e → StandardFault w d → e ≡ d
 unfolding StandardFault
-same_first_fault w e d he hd = one_fault (standard_rows w) 0 w e d he hd
+same_first_fault w e d he hd = one_fault packet_faults Encodes (standard_rows w) 0 w e d he hd
 
 by_reading : (w : List ℕ) (r : Result (Standard × ℕ) Fault) → walk standard_format 0 w ≡ r
     → IsBytes w → ((p : Standard) (s rest : List ℕ) → Encodes p s → w ≡ s ++ rest → ⊥)

@@ -7,7 +7,8 @@ use Rattle.its_faults.specs.declared.packet.FaultKind.TheVariants.{Truncated, Ve
 use Rattle.its_faults.specs.declared.packet.FaultKind.TheVariants.{CommonNext, HeaderType, SubType}
 use Rattle.its_faults.specs.declared.packet.FaultKind.TheVariants.{HopAboveMax, PayloadLength}
 use Rattle.its_geometry.specs.declared.area.Shape.{Shape}
-use Rattle.its_headers.specs.Format.{Format, ends, number, halves, octets, after}
+use Rattle.its_formats.specs.Format.{ends, number, halves, octets, after}
+use Rattle.its_headers.specs.Format.{Format}
 use Rattle.its_headers.specs.Layout.{any, speed_of, shape_of}
 use Rattle.its_outside.specs.declared.fields.BasicNext.{BasicNext as BasicNextHeader}
 use Rattle.its_outside.specs.declared.fields.BasicNext.TheVariants as basics

@@ -8,7 +8,10 @@ use Rattle.its_faults.specs.declared.packet.Fault.{Fault}
 use Rattle.its_faults.specs.declared.packet.FaultKind.TheVariants.{Truncated, Version, BasicNext}
 use Rattle.its_faults.specs.declared.packet.FaultKind.TheVariants.{CommonNext, HeaderType, SubType}
 use Rattle.its_faults.specs.declared.packet.FaultKind.TheVariants.{HopAboveMax, PayloadLength}
-use Rattle.its_headers.specs.FirstFault.{Row, half, whole, half_octets, front_to}
+use Rattle.its_formats.specs.FirstFault as rows
+use Rattle.its_formats.specs.FirstFault.{half, whole}
+use Rattle.its_headers.specs.FirstFault.{Row}
+use Rattle.its_headers.specs.Format.{packet_faults}
 use Rattle.its_outside.specs.Encoding.{Standard, Encodes}
 
 -- Basic Header: version, next header, reserved, lifetime, hops left. Common Header: next header,
@@ -55,27 +58,10 @@ standard_rows w =
     let payload = big_number 2 (drop 8 w) in
     common_rows ++ extended_rows (types / 16) (types % 16) ++ whole payload Truncated ∷ []
 
--- A sound front: the encoding of some packet begins with these half octets.
-pub record IsSound (front : List ℕ) : Type 0 where
-  pub packet : Standard
-  pub encoded : List ℕ
-  pub rest : List ℕ
-  pub encodes : Encodes packet encoded
-  pub begins : half_octets encoded ≡ front ++ rest
-
 -- the fault among these fields, the first of which starts at this half octet, where the front
--- before it is sound
+-- before it is sound: some packet's encoding begins with it
 abbrev pub FaultAmong : List Row → ℕ → List ℕ → Fault → Type 0
-FaultAmong [] start w f = ⊥
-FaultAmong (row ∷ rows) start w f =
-    -- the field is not wholly there
-    ((2 * length w < start + row.halves) × (f ≡ record { at = length w; kind = Truncated }))
-    -- with it the front is not sound any more
-    ⊎ ((start + row.halves ≤ 2 * length w) × (¬ IsSound (front_to (start + row.halves) w))
-    × (f ≡ record { at = start / 2; kind = row.kind }))
-    -- with it the front is sound, and the fault comes later
-    ⊎ ((start + row.halves ≤ 2 * length w) × IsSound (front_to (start + row.halves) w)
-    × FaultAmong rows (start + row.halves) w f)
+FaultAmong fields start w f = rows.FaultAmong packet_faults Encodes fields start w f
 
 -- the fault among all fields
 unfoldable pub StandardFault : List ℕ → Fault → Type 0

@@ -1,7 +1,8 @@
 //! The extended headers and the whole packet (EN 302 636-4-1 clause 9).
 
 ghost use Rattle.std.specs.Prelude.{◌≡◌, ◌≤◌, IfOk};
-ghost use Rattle.its_headers.specs.Format.{Gives, walk};
+ghost use Rattle.its_formats.specs.Format.{Gives};
+ghost use Rattle.its_headers.specs.Format.{walk};
 ghost use Rattle.its_geometry.specs.declared.area.Shape.TheVariants.{Circle};
 ghost use Rattle.its_outside.specs.declared.kind.StandardKind.TheVariants as kinds;
 ghost use Rattle.its_outside.specs.Layout.{extended_format, standard_format};
@@ -62,7 +63,7 @@ fn read_extended(octets: &[u8], kind: StandardKind, shape: Shape) -> Result<Exte
 }
 
 /// Reads the extended header of a BEACON.
-#[tactic(auto, using(its_headers::proofs::Walks::walk_after))]
+#[tactic(auto, using(its_formats::proofs::Walks::walk_after))]
 fn read_beacon(octets: &[u8]) -> Result<ExtendedRead, Fault>
     ensures place { IfOk result (λ x. x.end ≤ 60) }
     ensures reading { Gives (λ x. ((x.source, x.fields), x.end)) result
@@ -77,7 +78,7 @@ fn read_beacon(octets: &[u8]) -> Result<ExtendedRead, Fault>
 }
 
 /// Reads the extended header of a GUC.
-#[tactic(auto, using(its_headers::proofs::Walks::walk_after))]
+#[tactic(auto, using(its_formats::proofs::Walks::walk_after))]
 fn read_guc(octets: &[u8]) -> Result<ExtendedRead, Fault>
     ensures place { IfOk result (λ x. x.end ≤ 60) }
     ensures reading { Gives (λ x. ((x.source, x.fields), x.end)) result
@@ -94,7 +95,7 @@ fn read_guc(octets: &[u8]) -> Result<ExtendedRead, Fault>
 }
 
 /// Reads the extended header of a GAC for this shape.
-#[tactic(auto, using(its_headers::proofs::Walks::walk_after))]
+#[tactic(auto, using(its_formats::proofs::Walks::walk_after))]
 fn read_gac(octets: &[u8], shape: Shape) -> Result<ExtendedRead, Fault>
     ensures place { IfOk result (λ x. x.end ≤ 60) }
     ensures reading { Gives (λ x. ((x.source, x.fields), x.end)) result
@@ -111,7 +112,7 @@ fn read_gac(octets: &[u8], shape: Shape) -> Result<ExtendedRead, Fault>
 }
 
 /// Reads the extended header of a GBC for this shape.
-#[tactic(auto, using(its_headers::proofs::Walks::walk_after))]
+#[tactic(auto, using(its_formats::proofs::Walks::walk_after))]
 fn read_gbc(octets: &[u8], shape: Shape) -> Result<ExtendedRead, Fault>
     ensures place { IfOk result (λ x. x.end ≤ 60) }
     ensures reading { Gives (λ x. ((x.source, x.fields), x.end)) result
@@ -128,7 +129,7 @@ fn read_gbc(octets: &[u8], shape: Shape) -> Result<ExtendedRead, Fault>
 }
 
 /// Reads the extended header of an SHB.
-#[tactic(auto, using(its_headers::proofs::Walks::walk_after))]
+#[tactic(auto, using(its_formats::proofs::Walks::walk_after))]
 fn read_shb(octets: &[u8]) -> Result<ExtendedRead, Fault>
     ensures place { IfOk result (λ x. x.end ≤ 60) }
     ensures reading { Gives (λ x. ((x.source, x.fields), x.end)) result
@@ -144,7 +145,7 @@ fn read_shb(octets: &[u8]) -> Result<ExtendedRead, Fault>
 }
 
 /// Reads the extended header of a TSB.
-#[tactic(auto, using(its_headers::proofs::Walks::walk_after))]
+#[tactic(auto, using(its_formats::proofs::Walks::walk_after))]
 fn read_tsb(octets: &[u8]) -> Result<ExtendedRead, Fault>
     ensures place { IfOk result (λ x. x.end ≤ 60) }
     ensures reading { Gives (λ x. ((x.source, x.fields), x.end)) result
@@ -160,7 +161,7 @@ fn read_tsb(octets: &[u8]) -> Result<ExtendedRead, Fault>
 }
 
 /// Reads the extended header of a request of the location service.
-#[tactic(auto, using(its_headers::proofs::Walks::walk_after))]
+#[tactic(auto, using(its_formats::proofs::Walks::walk_after))]
 fn read_request(octets: &[u8]) -> Result<ExtendedRead, Fault>
     ensures place { IfOk result (λ x. x.end ≤ 60) }
     ensures reading { Gives (λ x. ((x.source, x.fields), x.end)) result
@@ -177,7 +178,7 @@ fn read_request(octets: &[u8]) -> Result<ExtendedRead, Fault>
 }
 
 /// Reads the extended header of a reply of the location service.
-#[tactic(auto, using(its_headers::proofs::Walks::walk_after))]
+#[tactic(auto, using(its_formats::proofs::Walks::walk_after))]
 fn read_reply(octets: &[u8]) -> Result<ExtendedRead, Fault>
     ensures place { IfOk result (λ x. x.end ≤ 60) }
     ensures reading { Gives (λ x. ((x.source, x.fields), x.end)) result
@@ -195,7 +196,7 @@ fn read_reply(octets: &[u8]) -> Result<ExtendedRead, Fault>
 
 /// Reads the packet that begins the octets: its fields, its payload, and where it ends, or the
 /// first fault. Each field is checked together with those before it, in the order of the wire.
-#[tactic(auto, using(its_headers::proofs::Walks::walk_after))]
+#[tactic(auto, using(its_formats::proofs::Walks::walk_after))]
 pub(crate) fn read_standard(octets: &[u8]) -> Result<(Fields, &[u8], usize), Fault>
     ensures { Gives (λ x. (record { fields = x.0; payload = x.1.now }, x.2)) result
         (walk standard_format 0 octets.now) }

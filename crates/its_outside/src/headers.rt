@@ -1,7 +1,8 @@
 //! The Basic Header and the Common Header (EN 302 636-4-1 clause 9).
 
 ghost use Rattle.std.specs.Prelude.{◌≡◌, ◌<◌, ◌^◌, nat_le};
-ghost use Rattle.its_headers.specs.Format.{Gives, walk};
+ghost use Rattle.its_formats.specs.Format.{Gives};
+ghost use Rattle.its_headers.specs.Format.{walk};
 ghost use Rattle.its_headers.specs.Layout.{shape_of};
 ghost use Rattle.its_outside.specs.Layout.{basic_format, common_format, types_format};
 ghost use Rattle.its_outside.specs.Layout.{basic_next_of, next_of, is_type, is_subtype};
@@ -96,7 +97,7 @@ fn basic_next_of(next: u8) -> BasicNext
 }
 
 /// Reads the Common Header of a packet that has so many hops left.
-#[tactic(auto, using(its_headers::proofs::Walks::walk_after))]
+#[tactic(auto, using(its_formats::proofs::Walks::walk_after))]
 pub(crate) fn read_common(octets: &[u8], left: u8) -> Result<CommonRead, Fault>
     ensures { Gives
         (λ c. (record { fields = c.fields; kind = c.kind; shape = c.shape; length = c.length }, 12))

@@ -2,7 +2,7 @@
 
 ghost use Rattle.std.specs.Prelude.{◌≡◌, ◌++◌, ℕ, List};
 ghost use Rattle.its_faults.specs.declared.packet.Fault.{Fault};
-ghost use Rattle.its_headers.specs.Bytes.{IsBytes};
+ghost use Rattle.its_formats.specs.Bytes.{IsBytes};
 ghost use Rattle.its_headers.specs.Encoding.{Encodes as EncodesPdu};
 ghost use Rattle.its_model.specs.Packet.{Pdu};
 ghost use Rattle.its_outside.specs.Encoding.{Standard, Encodes};

@@ -1,7 +1,8 @@
 //! Reading a number of a packet. Numbers of several octets go highest octet first.
 
 ghost use Rattle.std.specs.Prelude.{◌≡◌, ◌<◌, ◌+◌, ◌^◌, length, take, drop};
-ghost use Rattle.its_headers.specs.Format.{Gives, number_at, octets_at};
+ghost use Rattle.its_formats.specs.Format.{Gives};
+ghost use Rattle.its_headers.specs.Format.{number_at, octets_at};
 
 use byteorder::{BigEndian, ByteOrder};
 use its_faults::{Fault, FaultKind};
@@ -21,7 +22,7 @@ fn truncated(octets: &[u8]) -> Fault
 }
 
 /// The octet at a place, or G1.
-#[tactic(auto, unfolding(its_headers::specs::Format::number_at))]
+#[tactic(auto, unfolding(its_formats::specs::Format::number_at))]
 pub(crate) fn octet_at(octets: &[u8], at: usize) -> Result<u8, Fault>
     requires { at < 2 ^ 32 }
     ensures { Gives (λ x. x) result (number_at 1 at octets.now) }
@@ -33,7 +34,7 @@ pub(crate) fn octet_at(octets: &[u8], at: usize) -> Result<u8, Fault>
 }
 
 /// The number of two octets at a place, or G1.
-#[tactic(auto, unfolding(its_headers::specs::Format::number_at))]
+#[tactic(auto, unfolding(its_formats::specs::Format::number_at))]
 pub(crate) fn u16_at(octets: &[u8], at: usize) -> Result<u16, Fault>
     requires { at < 2 ^ 32 }
     ensures { Gives (λ x. x) result (number_at 2 at octets.now) }
@@ -45,7 +46,7 @@ pub(crate) fn u16_at(octets: &[u8], at: usize) -> Result<u16, Fault>
 }
 
 /// The number of four octets at a place, or G1.
-#[tactic(auto, unfolding(its_headers::specs::Format::number_at))]
+#[tactic(auto, unfolding(its_formats::specs::Format::number_at))]
 pub(crate) fn u32_at(octets: &[u8], at: usize) -> Result<u32, Fault>
     requires { at < 2 ^ 32 }
     ensures { Gives (λ x. x) result (number_at 4 at octets.now) }
@@ -57,7 +58,7 @@ pub(crate) fn u32_at(octets: &[u8], at: usize) -> Result<u32, Fault>
 }
 
 /// The number of eight octets at a place, or G1.
-#[tactic(auto, unfolding(its_headers::specs::Format::number_at))]
+#[tactic(auto, unfolding(its_formats::specs::Format::number_at))]
 pub(crate) fn u64_at(octets: &[u8], at: usize) -> Result<u64, Fault>
     requires { at < 2 ^ 32 }
     ensures { Gives (λ x. x) result (number_at 8 at octets.now) }
@@ -69,7 +70,7 @@ pub(crate) fn u64_at(octets: &[u8], at: usize) -> Result<u64, Fault>
 }
 
 /// So many octets at a place, or G1.
-#[tactic(auto, unfolding(its_headers::specs::Format::octets_at))]
+#[tactic(auto, unfolding(its_formats::specs::Format::octets_at))]
 pub(crate) fn octets_at(octets: &[u8], at: usize, count: usize) -> Result<&[u8], Fault>
     requires { at + count < 2 ^ 32 }
     ensures { Gives (λ x. x.now) result (octets_at count at octets.now) }

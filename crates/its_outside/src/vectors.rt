@@ -2,7 +2,8 @@
 
 ghost use Rattle.std.specs.Prelude.{◌≡◌, ◌<◌, ◌≤◌, ◌+◌, ◌^◌, ◌%◌};
 ghost use Rattle.its_gnvalue.specs.Values.{IsSpeed};
-ghost use Rattle.its_headers.specs.Format.{Gives, walk};
+ghost use Rattle.its_formats.specs.Format.{Gives};
+ghost use Rattle.its_headers.specs.Format.{walk};
 ghost use Rattle.its_headers.specs.Layout.{speed_of};
 ghost use Rattle.its_outside.specs.Layout.{long_format, short_format, area_format};
 ghost use Rattle.its_outside.specs.Layout.{sequence_format};

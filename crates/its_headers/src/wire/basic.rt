@@ -2,7 +2,8 @@
 
 ghost use Rattle.std.specs.Prelude.{◌≡◌, ◌≤◌, ◌<◌, ◌∷◌, ◌++◌, [], ℕ, List, length, drop, Err};
 ghost use Rattle.std.specs.Prelude.{IfOk, IfErr, IsOkAnd};
-ghost use Rattle.its_headers.specs.Format.{Gives, walk};
+ghost use Rattle.its_formats.specs.Format.{Gives};
+ghost use Rattle.its_headers.specs.Format.{walk};
 ghost use Rattle.its_headers.specs.Inner.{Basic, IsBasic, basic_in, secured_header};
 ghost use Rattle.its_headers.specs.Layout.{basic_format_of, secured_format};
 ghost use Rattle.its_headers.specs.Puts.{Puts};
@@ -133,7 +134,7 @@ pub(crate) fn basic_in(octets: &[u8]) -> BasicHeader
 }
 
 /// Checks the Basic Header of a secured packet, and that a message follows.
-#[tactic(auto, using(crate::proofs::Walks::walk_after))]
+#[tactic(auto, using(its_formats::proofs::Walks::walk_after))]
 fn check_secured(octets: &[u8]) -> Result<BasicHeader, Fault>
     ensures { Gives (λ b. ((b.lifetime, b.left), 5)) result (walk secured_format 0 octets.now) }
 {

@@ -5,7 +5,8 @@ ghost use Rattle.std.specs.Prelude.{◌≡◌, ◌≤◌, ◌<◌, ◌+◌, ◌*
 ghost use Rattle.std.specs.Prelude.{IfOk, if◌then◌else◌};
 ghost use Rattle.byteorder.specs.Endian.{big_bytes, big_number};
 ghost use Rattle.its_headers.specs.Encoding.{shape_code};
-ghost use Rattle.its_headers.specs.Format.{Gives, walk};
+ghost use Rattle.its_formats.specs.Format.{Gives};
+ghost use Rattle.its_headers.specs.Format.{walk};
 ghost use Rattle.its_headers.specs.Layout.{common_format, type_format, is_length};
 ghost use Rattle.its_headers.specs.Layout.{is_next, is_type, is_subtype, kind_of, shape_of};
 ghost use Rattle.its_headers.specs.Layout.{next_of, type_of};
@@ -54,7 +55,7 @@ pub(crate) struct CommonHeader {
 }
 
 /// Checks the Common Header of a packet that has so many hops left.
-#[tactic(auto, using(crate::proofs::Walks::walk_after), unfolding(crate::specs::Layout::common_format))]
+#[tactic(auto, using(its_formats::proofs::Walks::walk_after), unfolding(crate::specs::Layout::common_format))]
 #[inline(always)]
 pub(crate) fn check_common<H: Head>(octets: &Octets<'_, H>, left: u8) -> Result<CommonHeader, Fault>
     ensures size { IfOk result (λ c. IsLength c.kind c.length) }

@@ -4,7 +4,8 @@
 ghost use Rattle.std.specs.Prelude.{◌≡◌, ◌≤◌, ◌<◌, ◌+◌, ◌^◌, length, take, drop, get_or, IfOk};
 ghost use Rattle.byteorder.specs.Endian.{big_bytes, big_number};
 ghost use Rattle.its_headers.specs.Encoding.{IsBytes};
-ghost use Rattle.its_headers.specs.Format.{Gives, number_at, octets_at};
+ghost use Rattle.its_formats.specs.Format.{Gives};
+ghost use Rattle.its_headers.specs.Format.{number_at, octets_at};
 ghost use Rattle.its_headers.specs.Puts.{Puts};
 
 use crate::wire::octets::{Head, Octets};
@@ -174,7 +175,7 @@ pub(crate) fn u64_in<H: Head>(octets: &Octets<'_, H>, at: usize) -> u64
 }
 
 /// The octet at a place, or G1.
-#[tactic(auto, unfolding(crate::specs::Format::number_at))]
+#[tactic(auto, unfolding(its_formats::specs::Format::number_at))]
 pub(crate) fn octet_at<H: Head>(octets: &Octets<'_, H>, at: usize) -> Result<u8, Fault>
     requires small { at < 2 ^ 32 }
     requires start { H.SIZE ≤ at }
@@ -188,7 +189,7 @@ pub(crate) fn octet_at<H: Head>(octets: &Octets<'_, H>, at: usize) -> Result<u8,
 }
 
 /// The number of two octets at a place, or G1.
-#[tactic(auto, unfolding(crate::specs::Format::number_at))]
+#[tactic(auto, unfolding(its_formats::specs::Format::number_at))]
 pub(crate) fn u16_at<H: Head>(octets: &Octets<'_, H>, at: usize) -> Result<u16, Fault>
     requires small { at < 2 ^ 32 }
     requires start { H.SIZE ≤ at }
@@ -202,7 +203,7 @@ pub(crate) fn u16_at<H: Head>(octets: &Octets<'_, H>, at: usize) -> Result<u16, 
 }
 
 /// The number of four octets at a place, or G1.
-#[tactic(auto, unfolding(crate::specs::Format::number_at))]
+#[tactic(auto, unfolding(its_formats::specs::Format::number_at))]
 pub(crate) fn u32_at<H: Head>(octets: &Octets<'_, H>, at: usize) -> Result<u32, Fault>
     requires small { at < 2 ^ 32 }
     requires start { H.SIZE ≤ at }
@@ -216,7 +217,7 @@ pub(crate) fn u32_at<H: Head>(octets: &Octets<'_, H>, at: usize) -> Result<u32, 
 }
 
 /// The number of eight octets at a place, or G1.
-#[tactic(auto, unfolding(crate::specs::Format::number_at))]
+#[tactic(auto, unfolding(its_formats::specs::Format::number_at))]
 pub(crate) fn u64_at<H: Head>(octets: &Octets<'_, H>, at: usize) -> Result<u64, Fault>
     requires small { at < 2 ^ 32 }
     requires start { H.SIZE ≤ at }
@@ -230,7 +231,7 @@ pub(crate) fn u64_at<H: Head>(octets: &Octets<'_, H>, at: usize) -> Result<u64, 
 }
 
 /// Passes over a number of so many octets, each of whose values is right, or answers G1.
-#[tactic(auto, unfolding(crate::specs::Format::number_at))]
+#[tactic(auto, unfolding(its_formats::specs::Format::number_at))]
 pub(crate) fn pass_number<H: Head>(
     octets: &Octets<'_, H>,
     at: usize,
@@ -247,7 +248,7 @@ pub(crate) fn pass_number<H: Head>(
 }
 
 /// Passes over so many octets, or answers G1.
-#[tactic(auto, unfolding(crate::specs::Format::octets_at))]
+#[tactic(auto, unfolding(its_formats::specs::Format::octets_at))]
 pub(crate) fn check_octets<H: Head>(
     octets: &Octets<'_, H>,
     at: usize,

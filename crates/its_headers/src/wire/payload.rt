@@ -3,7 +3,8 @@
 
 ghost use Rattle.std.specs.Prelude.{◌≡◌, ◌≤◌, ◌+◌, length, take, drop};
 ghost use Rattle.its_headers.specs.Encoding.{IsBytes};
-ghost use Rattle.its_headers.specs.Format.{Gives, octets_at};
+ghost use Rattle.its_formats.specs.Format.{Gives};
+ghost use Rattle.its_headers.specs.Format.{octets_at};
 ghost use Rattle.its_headers.specs.Puts.{Puts};
 
 use crate::payload::Payload;

@@ -4,7 +4,8 @@
 ghost use Rattle.std.specs.Prelude.{◌≡◌, ◌≤◌, ◌<◌, ◌+◌, ◌%◌, ◌^◌, length, nat_le};
 ghost use Rattle.its_gnvalue.specs.Values.{IsSpeed};
 ghost use Rattle.its_headers.specs.Encoding.{vector_octets, motion, IsVector};
-ghost use Rattle.its_headers.specs.Format.{Gives, walk};
+ghost use Rattle.its_formats.specs.Format.{Gives};
+ghost use Rattle.its_headers.specs.Format.{walk};
 ghost use Rattle.its_headers.specs.Layout.{vector_format, vector_at};
 ghost use Rattle.its_headers.specs.Layout.{latitude_test, longitude_test, is_individual, speed_of};
 ghost use Rattle.its_headers.specs.Puts.{Puts};

@@ -1,7 +1,8 @@
 use Rattle.std.proofs.Common.{◌≡◌, ◌-◌, List, ℕ, length, drop, take, sym, subst, ap, ◌∙◌, arith}
 use Rattle.std.proofs.lemmas.List.{drop-take}
 use Rattle.std.proofs.lemmas.Slice.{between_to_end}
-use Rattle.cap_linklayers.specs.LinkLayers.{IsUnchecked, joined}
+use Rattle.cap_linklayers.specs.Ieee80211.{joined}
+use Rattle.cap_linklayers.specs.LinkLayers.{IsUnchecked}
 use Rattle.cap_linklayers.proofs.link.join_unchecked.Goals as goal
 
 pub returns-clause-frame : goal.returns-clause-frame

@@ -3,7 +3,7 @@ use Rattle.std.proofs.lemmas.Result.{err_from_is_err_and}
 use Rattle.its_faults.specs.declared.packet.Fault.{Fault}
 use Rattle.its_gnvalue.specs.Values.{PositionVector}
 use Rattle.its_model.specs.Packet.{Body, geobroadcast, geoanycast}
-use Rattle.its_headers.specs.Format.{end_of}
+use Rattle.its_formats.specs.Format.{end_of}
 use Rattle.its_headers.proofs.Judged.{area_packet_then}
 use Rattle.its_headers.proofs.wire.area_packet_end.Goals as goal
 

@@ -1,8 +1,9 @@
 use Rattle.std.proofs.Common.{arith, rules, ◌∙◌}
 use Rattle.std.proofs.lemmas.Result.{err_from_is_err_and}
-use Rattle.its_headers.proofs.Found.{number_at-ok}
+use Rattle.its_formats.proofs.Found.{number_at-ok}
 use Rattle.its_headers.proofs.Judged.{types_then, common_judged}
 use Rattle.its_headers.proofs.wire.common.check_common.Goals as goal
+use Rattle.its_headers.specs.Format.{packet_faults}
 
 pub returns-then-branch-left-clause-reading : goal.returns-then-branch-left-clause-reading
 returns-then-branch-left-clause-reading g c =
@@ -20,7 +21,7 @@ returns-in_err-octet_at-3-clause-reading g c =
 
 pub returns-clause-reading : goal.returns-clause-reading
 returns-clause-reading g c =
-    let last = number_at-ok 1 _ _ _ c.in_ok-octet_at-3.ensures.reading in
+    let last = number_at-ok packet_faults 1 _ _ _ c.in_ok-octet_at-3.ensures.reading in
     let judged =
     common_judged c.args.left c.args.octets.now (
       c.in_ok-header_type.header_type,

@@ -10,7 +10,7 @@ use Rattle.std.specs.Int.{byte_at}
 use Rattle.byteorder.specs.Endian.{big_number, big_bytes}
 use Rattle.byteorder.specs.Numbers.{big_from-cons, big_from-bytes, big_from-lt, big_from-take}
 use Rattle.byteorder.specs.Numbers.{length-bytes_high_first}
-use Rattle.its_headers.specs.Encoding.{IsBytes}
+use Rattle.its_formats.specs.Bytes.{IsBytes}
 
 pub IsBytes-drop : (n : ℕ) (w : List ℕ) → IsBytes w → IsBytes (drop n w)
 IsBytes-drop n w h i = rw get_or-drop (h (n + i))

@@ -1,23 +1,11 @@
--- Which octets a format reads, apart from where they stand.
-use Rattle.std.proofs.Common.{◌≡◌, ℕ, ◌+◌, ◌*◌, ◌^◌, ◌<◌, List, [], ◌∷◌, ◌++◌, length, true, refl}
+-- What a format spells that follows another.
+use Rattle.std.proofs.Common.{◌≡◌, ℕ, ◌+◌, ◌*◌, List, [], ◌∷◌, ◌++◌, refl}
 use Rattle.std.proofs.Common.{sym, ap, subst, ◌∙◌, append_assoc}
 use Rattle.byteorder.specs.Endian.{big_bytes}
-use Rattle.its_headers.specs.Encoding.{IsBytes}
-use Rattle.its_headers.specs.Format.{Format, ends, number, halves, octets, after}
+use Rattle.its_formats.specs.Format.{Format, ends, number, halves, octets, after}
+use Rattle.its_formats.specs.Spells.{Spells}
 
-abbrev pub Spells : {A : Type 0} → Format A → A → List ℕ → Type 0
-Spells (ends y) x s = (y ≡ x) × (s ≡ [])
-Spells (number n kind right next) x s =
-    (v : ℕ) × (t : List ℕ) × (v < 256 ^ n) × (right v ≡ true) × (s ≡ big_bytes n v ++ t)
-    × Spells (next v) x t
-Spells (halves high is_high low is_low next) x s =
-    (h : ℕ) × (l : ℕ) × (t : List ℕ) × (h < 16) × (l < 16) × (is_high h ≡ true)
-    × (is_low h l ≡ true) × (s ≡ (16 * h + l) ∷ t) × Spells (next h l) x t
-Spells (octets n next) x s =
-    (bytes : List ℕ) × (t : List ℕ) × (length bytes ≡ n) × IsBytes bytes × (s ≡ bytes ++ t)
-    × Spells (next bytes) x t
-
-pub Spells-after : {A B : Type 0} (f : Format A) (g : A → Format B) (y : B) (s : List ℕ)
+pub Spells-after : {K A B : Type 0} (f : Format K A) (g : A → Format K B) (y : B) (s : List ℕ)
     → Spells (after f g) y s
     → (x : A) × (a : List ℕ) × (b : List ℕ) × Spells f x a × Spells (g x) y b × (s ≡ a ++ b)
 Spells-after (ends x) g y s h = (x, [], s, (refl, refl), h, refl)
@@ -49,7 +37,7 @@ Spells-after (octets n next) g y s (bytes, t, len, fits, e, h) =
       e ∙ ap (λ (z : List ℕ). bytes ++ z) i.5 ∙ sym (append_assoc bytes i.1 i.2),
     )
 
-pub after-Spells : {A B : Type 0} (f : Format A) (g : A → Format B) (x : A) (y : B) (a b : List ℕ)
+pub after-Spells : {K A B : Type 0} (f : Format K A) (g : A → Format K B) (x : A) (y : B) (a b : List ℕ)
     → Spells f x a → Spells (g x) y b → Spells (after f g) y (a ++ b)
 after-Spells (ends z) g x y a b (e, n) h =
     subst (λ (t : List ℕ). Spells (g z) y (t ++ b)) (sym n)

@@ -1,0 +1,3 @@
+pub mod CookedHeaders
+pub mod DataHeaders
+pub mod RadiotapHeaders

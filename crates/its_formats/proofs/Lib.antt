@@ -1,0 +1,5 @@
+pub mod Walks
+pub mod Spells
+pub mod Numbers
+pub mod Found
+pub mod FirstFaults
