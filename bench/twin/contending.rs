@@ -29,7 +29,7 @@ impl Contending {
         let outcome = self.station.receive_read(now, &frame)?;
         let (mut due, mut cancelled) = (None, false);
         let outcome = match (outcome, &self.rule) {
-            (Outcome::Ignored(Why::Duplicate), Some(rule)) => {
+            (Outcome::Ignored(Why::Duplicate), Some(rule)) if !self.held.is_empty() => {
                 let own = self.station.mid();
                 let key = key_of(octets);
                 let is_copy = |held: &Waiting| held.is_copied(key, octets, own);

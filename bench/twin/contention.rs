@@ -6,7 +6,7 @@ use crate::station::{BROADCAST, Station};
 
 /// How many frames may wait.
 const PLACES: usize = 64;
-/// How many senders of copies are told apart at most.
+/// How many senders of copies are distinguished at most.
 const SENDERS: usize = 2;
 /// Where the link sender and the lifetime of a frame are, which copies may differ in.
 const SENDER: std::ops::Range<usize> = 6..12;
@@ -117,6 +117,10 @@ impl<F> HeldFrames<F> {
 
     pub fn has_room(&self) -> bool {
         self.0.len() < PLACES
+    }
+
+    pub fn is_empty(&self) -> bool {
+        self.0.is_empty()
     }
 
     pub fn hold(&mut self, frame: F, due: u64) {

@@ -17,7 +17,7 @@ pub enum Kind {
     Gac(u16, Area),
 }
 impl Kind {
-    /// The length of all that stands before the payload.
+    /// The length of all that comes before the payload.
     fn headers(&self) -> usize {
         match self {
             Kind::Beacon => 36,

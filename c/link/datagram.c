@@ -58,7 +58,7 @@ static bool read_octets(const struct json_member *m, struct answer *a) {
         && hex_read(m->text, m->length, a->octets, sizeof a->octets, &a->length);
 }
 
-/* What the members of an answer say, besides its id. */
+/* What the members of an answer say besides its id. */
 struct found {
     bool id, plain, message, error;
     bool wrong; /* one of them is not as it has to be */

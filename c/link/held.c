@@ -36,7 +36,7 @@ bool held_has_place(const struct held_pool *p, const struct client *c) {
     return c->held_count == 0 ? free != 0 : c->held_count < HELD_EACH && free > HELD_RESERVE;
 }
 
-/* Takes a place, of which there has to be one, behind the client's other answers. */
+/* Takes a free place, which has to exist, after the client's other answers. */
 struct held *held_take(struct held_pool *p, struct client *c) {
     struct held *h = &p->all[free_place(p)];
     h->client = c;

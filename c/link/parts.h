@@ -53,7 +53,7 @@ static inline void ignore_status(int status) { (void)status; }
 uint16_t draw(void);
 uint32_t draw_below(uint32_t bound); /* 0 to bound - 1; 0 if bound is 0 */
 
-/* rights.c: what the clients of a socket may do. NULL stands for all rights. */
+/* rights.c: what the clients of a socket may do. NULL means all rights. */
 struct setting;
 struct ports {
     size_t count;

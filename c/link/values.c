@@ -67,7 +67,7 @@ bool user_named(const char *name, uid_t *user) {
     return found != NULL;
 }
 
-/* Reads degrees with up to 7 decimals exactly, in 0.1 microdegree, and moves *text behind them. */
+/* Reads degrees with up to 7 decimals exactly, in 0.1 microdegree, and moves *text after them. */
 static bool degrees(const char **text, int64_t most, int32_t *out) {
     bool negative = **text == '-';
     const char *at = *text + negative;

@@ -140,6 +140,10 @@ impl Contention {
         ensures state { self.new ≡ after_duplicate self.old own octets.now sender }
         ensures count { result ≡ length self.new.left }
     {
+        // No key is made of the octets if no frame waits.
+        if self.held.len() == 0 {
+            return self.held.hear(sender, |_| false);
+        }
         let came = KeyedOctets::new(octets);
         self.held.hear(sender, |held| held.is_copied(&came, own))
     }

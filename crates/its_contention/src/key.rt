@@ -6,12 +6,11 @@ ghost use Rattle.its_contention.specs.Key.{key_of};
 
 use byteorder::{BigEndian, ByteOrder};
 
-/// Where the octets begin that are the same in all copies, up to the last: after the lifetime.
+/// From where on all octets are the same in all copies: after the lifetime.
 const SHARED: usize = 17;
-/// Where the sequence number of an unsecured packet is in them, and before 4 octets more the
-/// address of its source.
+/// Where in them the sequence number of an unsecured packet begins.
 const NUMBER: usize = 9;
-/// Where the address of its source is in them.
+/// Where in them the address of its source begins.
 const ADDRESS: usize = 13;
 /// How many octets are read at once.
 const WORD: usize = 8;

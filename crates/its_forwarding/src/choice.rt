@@ -59,32 +59,9 @@ pub fn choose<S: LocationStore>(
     greedy(store, now, own, area, nearest)
 }
 
-/// Returns what `choose` does, and has the store keep the neighbour that is nearest to the area's
-/// centre: the next choices for the area need no walk over all neighbours.
-pub fn choose_and_keep<S: LocationStore>(
-    store: &mut S,
-    now: u64,
-    own: Place,
-    area: &Area,
-    sender: Option<Mac>,
-) -> Choice
-    requires { now ≤ 2 ^ 62 }
-    ensures choice { (history : List Reception) →
-        Represents (S.remember store.old) (S.content store.old) history now →
-        chosen result
-        ≡ decision (stations_at (S.remember store.old) now history) own area.now sender }
-    ensures unchanged { S.content store.new ≡ S.content store.old }
-    ensures limit { S.limit store.new ≡ S.limit store.old }
-    ensures remember { S.remember store.new ≡ S.remember store.old }
-{
-    if !contains(area, own) {
-        return choose_outside(store, now, own, area, sender);
-    }
-    Choice::Broadcast
-}
-
-/// Returns what `choose_and_keep` does, for a station that knows that it is outside of the area.
-/// The area is not tested again.
+/// Returns what `choose` does, for a station that knows that it is outside of the area: that is not
+/// tested again. The store keeps the neighbour that is nearest to the area's centre, so the next
+/// choices for the area need no walk over all neighbours.
 pub fn choose_outside<S: LocationStore>(
     store: &mut S,
     now: u64,

@@ -8,9 +8,8 @@
 //! to nobody, if the sender is known to be inside by an accurate position; to the neighbour nearest
 //! to the area's centre, of equally near ones the one of least address, if it is nearer than the
 //! station; otherwise to all. The condition is a time of at most 2^62. It takes no memory, by its
-//! type. `choose_and_keep` returns the same, and the store represents the same histories
-//! afterwards. So does `choose_outside`, whose condition is also that the area doesn't hold the own
-//! position.
+//! type. `choose_outside` returns the same if the area doesn't hold the own position, and the store
+//! represents the same histories afterwards.
 //!
 //! # Only tested
 //!
@@ -23,4 +22,4 @@
 mod choice;
 mod nearest;
 
-pub use choice::{Choice, choose, choose_and_keep, choose_outside};
+pub use choice::{Choice, choose, choose_outside};

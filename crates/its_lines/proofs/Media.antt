@@ -16,7 +16,6 @@ use Rattle.its_lines.specs.Requests.{values_in}
 use Rattle.its_lines.specs.declared.reading.ReadFault.{ReadFault}
 use Rattle.its_lines.specs.declared.reading.ReadFault.TheVariants as read_faults
 use Rattle.its_lines.specs.declared.request.LineFault.TheVariants as faults
-use Rattle.its_lines.specs.declared.request.QueryKey.TheVariants as query_keys
 use Rattle.its_lines.proofs.Read.{bad_call}
 
 -- another word

@@ -1,8 +1,8 @@
 -- Worlds whose stations may contend. Each event does to the world what it does without contention. A
 -- relay that waits is a frame that goes out later, and one that is cancelled or dropped is a frame
 -- that goes out to nobody. What became of each frame is its lot. Any test of copies will do here. That
--- contention is a schedule is proved in `proofs/ContendedRuns.antt`. No code cites it yet: a simulation
--- whose stations contend will.
+-- contention is a schedule is proved in `proofs/ContendedRuns.antt`, and a contract of `its_contention`
+-- says it.
 use Rattle.std.specs.Prelude.{◌≡◌, ◌≢◌, ℕ, ◌+◌, ◌≤◌, ◌<◌, Bool, not, ◌&&◌, if◌then◌else◌, nat_le}
 use Rattle.std.specs.Prelude.{Option, Some, None, List, [], ◌∷◌, ◌++◌, length, map, filter}
 use Rattle.std.specs.Prelude.{slice_get, slice_set}

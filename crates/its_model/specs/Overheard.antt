@@ -1,8 +1,8 @@
 -- Where a geobroadcast reaches although stations contend: what a station sends the next one hears, and
 -- what silences a station the next one hears too. Also what cancels a frame, and that somebody sends
--- it. The laws are proved in `proofs/ContendedLinks.antt` and `proofs/ContendedCopies.antt`. No code
--- cites them yet: a simulation whose stations contend will, with the test of copies of octets, which
--- is one for frames in range.
+-- it. The laws are proved in `proofs/ContendedLinks.antt` and `proofs/ContendedCopies.antt`, and
+-- contracts of `its_contention` say them, with the test of copies of octets, which is one for frames
+-- in range.
 use Rattle.std.specs.Prelude.{◌≡◌, ◌≢◌, ℕ, ◌+◌, ◌≤◌, List, [], ◌∷◌, ◌++◌, true, Option}
 use Rattle.std.specs.Prelude.{Some, length, slice_get}
 use Rattle.its_gnvalue.specs.Values.{mid_of, broadcast}

@@ -41,7 +41,8 @@ use Rattle.its_station.specs.Steps.{IsStepOf, IsRefusedStep}
 use Rattle.its_station.specs.Receiving.{Encoded, IsSentFrame, Tells, TellsBy, IsRelayBy}
 use Rattle.its_station.specs.Receiving.{report_of, said_by}
 use Rattle.its_station.specs.Receiving.{why_of, why_found, why_unasked, accept_step}
-use Rattle.its_station.specs.Receiving.{secured_step_by, IsAdmitted}
+use Rattle.its_station.specs.Receiving.{secured_step_by, IsAdmitted, IsVerdictOf}
+use Rattle.its_station.specs.declared.looked_up.LookedUp.{LookedUp}
 use Rattle.its_station.specs.declared.refused.Refused.TheVariants as refused
 use Rattle.its_faults.specs.declared.frame.FrameFault.{FrameFault}
 use Rattle.its_faults.specs.declared.secured.SecuredFault.{SecuredFault}
@@ -140,13 +141,21 @@ verdict_is s now t from to =
     (is_repeated s.remember (number_in t.pdu.body) t.pdu.vector.address now s.history)
     (is_full s.capacity t.pdu.vector.address (stations_at s.remember now s.history))
 
-pub step_is : (s : StationModel) (now : ℕ) (t : Transmission) → s.clock ≤ now → now ≤ 2 ^ 62
-    → (o : Option Why) (full : Bool) → why_found s now t ≡ o
-    → is_full s.capacity t.pdu.vector.address (stations_at s.remember now s.history) ≡ full
-    → receive_step s now t ≡ receive_step_by s now t (verdict_of o full)
-unfolding receive_step
-step_is s now t from to o full p q =
-    ap (receive_step_by s now t) (verdict_is s now t from to ∙ (λ i. verdict_of (p i) (q i)))
+-- a frame that is ignored for a reason
+pub verdict_ignored : (s : StationModel) (now : ℕ) (t : Transmission) (reason : Why)
+    → s.clock ≤ now → now ≤ 2 ^ 62 → Some reason ≡ why_found s now t
+    → verdict s now t ≡ station.Verdict.Ignore (why_of reason)
+verdict_ignored s now t reason from to e =
+    verdict_is s now t from to ∙ (λ i. verdict_of (sym e i)
+    (is_full s.capacity t.pdu.vector.address (stations_at s.remember now s.history)))
+
+-- a frame that isn't ignored
+pub verdict_by_room : (s : StationModel) (now : ℕ) (t : Transmission) (full : Bool)
+    → s.clock ≤ now → now ≤ 2 ^ 62 → None ≡ why_found s now t
+    → full ≡ is_full s.capacity t.pdu.vector.address (stations_at s.remember now s.history)
+    → verdict s now t ≡ verdict_of None full
+verdict_by_room s now t full from to e room =
+    verdict_is s now t from to ∙ (λ i. verdict_of (sym e i) (sym room i))
 
 unasked : (a b c d : Bool) (reason : Why)
     → Some reason ≡ cond a (Some why.NotForMe)
@@ -253,17 +262,16 @@ module _ (s : StationModel) (now : ℕ) (t : Transmission) (first : None ≡ why
 
 pub ignored : (E : Encoded) (old new : StationState) (now : ℕ) (t : Transmission) (ports : List ℕ)
     (history : List Reception) (reason : Why)
-    → new ≡ record old { clock = now } → old.clock ≤ now → now ≤ 2 ^ 62 → IsPast old ports history
-    → Some reason ≡ why_found (model_of old ports history) now t
+    → new ≡ record old { clock = now } → old.clock ≤ now → IsPast old ports history
+    → verdict (model_of old ports history) now t ≡ station.Verdict.Ignore (why_of reason)
     → IsStepOf (TellsBy E) (Ok (outcomes.Ignored reason)) new
     (receive_step (model_of old ports history) now t)
-ignored E old new now t ports history reason fields from to past e =
+unfolding receive_step
+ignored E old new now t ports history reason fields from past e =
     let m = model_of old ports history in
     let step : receive_step m now t
     ≡ receive_step_by m now t (station.Verdict.Ignore (why_of reason)) =
-    step_is m now t from to (Some reason)
-    (is_full m.capacity t.pdu.vector.address (stations_at m.remember now m.history))
-    (sym e) refl in
+    ap (receive_step_by m now t) e in
     let after : IsPast (record old { clock = now }) ports history =
     record {
       ports = past.ports;
@@ -276,48 +284,84 @@ ignored E old new now t ports history reason fields from to past e =
           (represents (record old { clock = now }) ports history after)),
     )
 
-pub is_full_step : (E : Encoded) (old : StationState) (now : ℕ) (t : Transmission) (ports : List ℕ)
-    (history : List Reception)
-    → old.clock ≤ now → now ≤ 2 ^ 62 → IsPast old ports history
-    → None ≡ why_found (model_of old ports history) now t
-    → true ≡ is_full old.capacity t.pdu.vector.address (stations_at old.remember now history)
-    → IsStepOf (TellsBy E) (Err refused.TableFull) old (receive_step (model_of old ports history) now t)
-is_full_step E old now t ports history from to past e full =
-    let m = model_of old ports history in
-    let step : receive_step m now t
-    ≡ receive_step_by m now t (station.Verdict.Refuse model.Refusal.TableFull) =
-    step_is m now t from to None true (sym e) (sym full) in (
-      ap (λ (x : Step). x.answer) step,
-      subst (λ (x : Step). RepresentsStation old x.station) (sym step)
-          (represents old ports history past),
-    )
-
 pub accept_is : (E : Encoded) (r : Result Outcome Refused) (old new : StationState) (now : ℕ) (t : Transmission)
     (ports : List ℕ) (history : List Reception)
-    → old.clock ≤ now → now ≤ 2 ^ 62 → None ≡ why_found (model_of old ports history) now t
-    → false ≡ is_full old.capacity t.pdu.vector.address (stations_at old.remember now history)
+    → verdict (model_of old ports history) now t ≡ station.Verdict.Accept
     → IsStepOf (TellsBy E) r new (accept_step (model_of old ports history) now t)
     → IsStepOf (TellsBy E) r new (receive_step (model_of old ports history) now t)
-accept_is E r old new now t ports history from to e room step =
+unfolding receive_step
+accept_is E r old new now t ports history e step =
     subst (λ (x : Step). IsStepOf (TellsBy E) r new x)
-    (sym (step_is (model_of old ports history) now t from to None false (sym e)
-    (sym room))) step
+    (sym (ap (receive_step_by (model_of old ports history) now t) e)) step
+
+refused_by : (st : StationState) (s : StationModel) (now : ℕ) (t : Transmission) (o : Option Refusal)
+    → RepresentsStation st s
+    → IfSome o (λ refusal. verdict s now t ≡ station.Verdict.Refuse refusal)
+    → IfSome o (λ refusal. ((receive_step s now t).answer ≡ model.Answer.Refused refusal)
+    × RepresentsStation st (receive_step s now t).station)
+unfolding receive_step
+refused_by st s now t None rep e = tt
+refused_by st s now t (Some refusal) rep e =
+    let step : receive_step s now t
+    ≡ receive_step_by s now t (station.Verdict.Refuse refusal) =
+    ap (receive_step_by s now t) e in (
+      ap (λ (x : Step). x.answer) step,
+      subst (λ (x : Step). RepresentsStation st x.station) (sym step) rep,
+    )
+
+-- a frame that is refused by its look-up
+pub refused_frame : (st : StationState) (now : ℕ) (t : Transmission) (e : Refused)
+    → ((s : StationModel) → RepresentsStation st s → IsVerdictOf (Err e) (verdict s now t))
+    → (s : StationModel) → RepresentsStation st s → IsRefusedStep e st (receive_step s now t)
+refused_frame st now t e found s rep =
+    refused_by st s now t (refusal_of e) rep (found s rep)
+
+-- the same at the exit of a `?`
+pub refused_exit : {T : Type 0} (says : T → Answer Transmission → Type 0) (st : StationState)
+    (now : ℕ) (t : Transmission) (e : Refused) (r : Result T Refused) → IsErrAnd r (λ y. y ≡ e)
+    → ((s : StationModel) → RepresentsStation st s → IsVerdictOf (Err e) (verdict s now t))
+    → (s : StationModel) → RepresentsStation st s → IsStepOf says r st (receive_step s now t)
+refused_exit says st now t e (Ok x) is found s rep = absurd is
+refused_exit says st now t e (Err y) is found s rep =
+    subst (λ (z : Refused). IsRefusedStep z st (receive_step s now t)) (sym is)
+    (refused_frame st now t e found s rep)
 
 -- ---- any call
 
-received : (s : StationModel) (now : ℕ) (t : Transmission) (r : Refusal)
-    → moment_refusal s now ≡ Some r
-    → receive_step s now t ≡ record { answer = model.Answer.Refused r; station = s }
-unfolding receive_step verdict
-received s now t r e =
-    ap (λ o. receive_step_by s now t
-    (or_else o (cond (not (is_for s t)) (station.Verdict.Ignore model.Why.NotForMe)
+verdict_at_moment : (s : StationModel) (now : ℕ) (t : Transmission) (r : Refusal)
+    → moment_refusal s now ≡ Some r → verdict s now t ≡ station.Verdict.Refuse r
+unfolding verdict
+verdict_at_moment s now t r e =
+    ap (λ o. or_else o (cond (not (is_for s t)) (station.Verdict.Ignore model.Why.NotForMe)
     (cond (eqb t.pdu.vector.address s.address) (station.Verdict.Ignore model.Why.OwnSource)
     (cond (is_sender_wrong t t.pdu.body) (station.Verdict.Ignore model.Why.SenderMismatch)
     (cond (is_repeated s.remember (number_in t.pdu.body) t.pdu.vector.address now s.history)
     (station.Verdict.Ignore model.Why.Duplicate)
     (cond (is_full s.capacity t.pdu.vector.address (stations_at s.remember now s.history))
-    (station.Verdict.Refuse model.Refusal.TableFull) station.Verdict.Accept))))))) e
+    (station.Verdict.Refuse model.Refusal.TableFull) station.Verdict.Accept)))))) e
+
+received : (s : StationModel) (now : ℕ) (t : Transmission) (r : Refusal)
+    → moment_refusal s now ≡ Some r
+    → receive_step s now t ≡ record { answer = model.Answer.Refused r; station = s }
+unfolding receive_step
+received s now t r e = ap (receive_step_by s now t) (verdict_at_moment s now t r e)
+
+-- what is found at a moment that is refused, at the exit of a `?`
+pub moment_found : (st : StationState) (now : ℕ) (t : Transmission) (e : Refused)
+    (r : Result LookedUp Refused) → IsErrAnd r (λ y. y ≡ e)
+    → ((ports : List ℕ) (history : List Reception)
+    → refusal_of e ≡ moment_refusal (model_of st ports history) now)
+    → (s : StationModel) → RepresentsStation st s → IsVerdictOf r (verdict s now t)
+moment_found st now t e (Ok x) is owed = absurd is
+moment_found st now t e (Err y) is owed =
+    at_model st (λ s. IsVerdictOf (Err y) (verdict s now t))
+    (λ ports history past. by (model_of st ports history) (refusal_of y)
+    (ap refusal_of is ∙ owed ports history))
+  where
+    by : (s : StationModel) (o : Option Refusal) → o ≡ moment_refusal s now
+        → IfSome o (λ refusal. verdict s now t ≡ station.Verdict.Refuse refusal)
+    by s None is = tt
+    by s (Some refusal) is = verdict_at_moment s now t refusal (sym is)
 
 refused_by_moment : (s : StationModel) (now : ℕ) (call : model.Call) (r : Refusal)
     → moment_refusal s now ≡ Some r

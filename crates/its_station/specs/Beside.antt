@@ -1,6 +1,6 @@
 -- Steps of a station beside those of the model's calls: a move whose time stamp is that of the fix,
 -- and a single-hop broadcast with a lifetime and media-dependent data of its own.
-use Rattle.std.specs.Prelude.{ℕ, ℤ, List, [], ◌∷◌, Bool, Option, Some, None}
+use Rattle.std.specs.Prelude.{ℕ, ℤ, [], ◌∷◌, Bool, Option, Some, None}
 use Rattle.its_gnvalue.specs.Values.{Position}
 use Rattle.its_model.specs.Packet.{Transmission, shb}
 use Rattle.its_model.specs.Calls as model

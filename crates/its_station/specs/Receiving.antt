@@ -1,6 +1,7 @@
 -- What a station answers to a frame.
 use Rattle.std.specs.Prelude.{◌≡◌, ℕ, ◌++◌, not, ◌==◌, ◌&&◌, nat_le, if◌then◌else◌, Bool, true}
 use Rattle.std.specs.Prelude.{false, [], List, length, ◌≤◌, Vec, Option, Some, None, IfSome}
+use Rattle.std.specs.Prelude.{Result, Ok, Err}
 use Rattle.std.specs.Option.{option_map}
 use Rattle.std.specs.declared.alloc.Global.{Global}
 use Rattle.its_gnvalue.specs.Values.{Position, PositionVector, broadcast, mid_of}
@@ -24,6 +25,10 @@ use Rattle.its_loctable.specs.Found.{Admits, IsIndexOf}
 use Rattle.its_loctable.specs.declared.found.Found.{Found}
 use Rattle.its_loctable.specs.declared.found.Found.TheVariants as found
 use Rattle.its_station.specs.State.{StationState}
+use Rattle.its_station.specs.Steps.{refusal_of}
+use Rattle.its_station.specs.declared.looked_up.LookedUp.{LookedUp}
+use Rattle.its_station.specs.declared.looked_up.LookedUp.TheVariants as looks
+use Rattle.its_station.specs.declared.refused.Refused.{Refused}
 use Rattle.its_station.specs.declared.outcome.Handed.{Handed}
 use Rattle.its_station.specs.declared.outcome.Outcome.{Outcome}
 use Rattle.its_station.specs.declared.outcome.Outcome.TheVariants as outcomes
@@ -147,6 +152,26 @@ TakesMemory s moment t =
     IsFalse (is_live t.pdu.vector.address moment s.history)
     ⊎ IsTrue (goes_on s.vector.place t.hops_left t.pdu.body)
 
+-- ---- a look-up
+
+-- what the packet says of its source
+abbrev pub report_of : Pdu → SourceReport
+report_of p = record { vector = p.vector; number = number_in p.body }
+
+-- What a station finds of a frame is this verdict of the model, which never runs out of memory.
+abbrev pub IsVerdictOf : Result LookedUp Refused → station.Verdict → Type 0
+IsVerdictOf (Ok (looks.Ignored why)) verdict = verdict ≡ station.Verdict.Ignore (why_of why)
+IsVerdictOf (Ok (looks.New heard index)) verdict = verdict ≡ station.Verdict.Accept
+IsVerdictOf (Err e) verdict =
+    IfSome (refusal_of e) (λ refusal. verdict ≡ station.Verdict.Refuse refusal)
+
+-- If the packet is new, this is what it says of its source, whose entry has this index.
+abbrev pub IsPlaceOf : LookedUp → StationState → ℕ → Transmission → Type 0
+IsPlaceOf (looks.Ignored why) st now t = Unit {0}
+IsPlaceOf (looks.New heard index) st now t =
+    (heard ≡ report_of t.pdu) × Admits st.remember st.capacity st.content now heard
+    × IsIndexOf st.content heard.vector.address index
+
 -- ---- words of private functions
 
 -- why a frame is ignored, if it is
@@ -191,7 +216,3 @@ abbrev pub copy_of : PositionVector → Transmission → Body → Option Transmi
 copy_of own t body =
     if goes_on own.place t.hops_left body then Some (relay t (mid_of own.address) broadcast)
     else None
-
--- what the packet says of its source
-abbrev pub report_of : Pdu → SourceReport
-report_of p = record { vector = p.vector; number = number_in p.body }

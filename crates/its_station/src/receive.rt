@@ -1,7 +1,7 @@
-//! What a station does with a frame (EN 302 636-4-1 clause 10, in this profile).
+//! How a station receives a frame (EN 302 636-4-1 clause 10, in this profile).
 
 ghost use Rattle.std.specs.Prelude.{◌≡◌, ◌≢◌, ◌≤◌, ◌^◌, ◌∷◌, ℕ, List, None, [], ◌⊎◌, map};
-ghost use Rattle.std.specs.Prelude.{Err, IfOk, IfSome, OnErr, OnOk, IsTrue, IsFalse, length};
+ghost use Rattle.std.specs.Prelude.{Ok, Err, IfOk, IfSome, OnErr, OnOk, IsTrue, IsFalse, length};
 ghost use Rattle.its_gnvalue.specs.Values.{Position};
 ghost use Rattle.std.specs.Option.{option_map};
 ghost use Rattle.its_model.specs.Packet.{Transmission};
@@ -9,45 +9,46 @@ ghost use Rattle.its_model.specs.Calls.{Call};
 ghost use Rattle.its_model.specs.Calls.Call.{Receive, Junk};
 ghost use Rattle.its_model.specs.History.{Reception, is_live};
 ghost use Rattle.its_model.specs.Station as station;
-ghost use Rattle.its_model.specs.Station.{StationModel, station_step, verdict, receive_step};
+ghost use Rattle.its_model.specs.Station.{StationModel, station_step, verdict};
 ghost use Rattle.its_model.specs.Station.{moment_refusal};
 ghost use Rattle.its_model.specs.Station.{handing, relayed};
 ghost use Rattle.its_headers.specs.Encoding.{payload_of};
 ghost use Rattle.its_linkframe.specs.Frames.{EncodesFrame, IsFrame};
 ghost use Rattle.its_linkframe.specs.Secured.{Verified, EncodesVerified, IsVerified};
 ghost use Rattle.its_loctable.specs.Content.{Represents};
-ghost use Rattle.its_loctable.specs.Found.{Admits, IsIndexOf, verdict_of};
-ghost use Rattle.its_loctable.specs.Heard.{reception, verdict_at};
+ghost use Rattle.its_loctable.specs.Found.{Admits, IsIndexOf};
+ghost use Rattle.its_loctable.specs.Heard.{reception};
 ghost use Rattle.its_station.specs.State.{model_of, IsPast, RepresentsStation, SamePorts};
 ghost use Rattle.its_station.specs.Steps.{IsStepOf, IsRefusedStep};
-ghost use Rattle.its_station.specs.Receiving.{IsFrameCall, Tells, TellsBy, why_unasked, said_by};
+ghost use Rattle.its_station.specs.Receiving.{IsFrameCall, Tells, TellsBy, said_by};
 ghost use Rattle.its_station.specs.Receiving.{IsRelayBy, TakesMemory, copy_of, goes_on, is_inside, report_of};
-ghost use Rattle.its_station.specs.Receiving.{accept_step, DeliversEndOf, HandsOutEndOf, IsAdmitted};
+ghost use Rattle.its_station.specs.Receiving.{accept_step, DeliversEndOf, HandsOutEndOf};
+ghost use Rattle.its_station.specs.Receiving.{IsPlaceOf, IsVerdictOf};
 ghost use Rattle.its_station.specs.Receiving.{SendsAtMost, VerifiedCall, IsVerifiedCall};
 ghost use Rattle.its_station.specs.Receiving.{EncodesSealed, verified_step, sealed_by, secured_step_by};
 ghost use Rattle.its_station.specs.Answers.{Fits, HandingFits};
 
-use crate::outcome::{Handed, Outcome, Why};
+use crate::looked_up::LookedUp;
+use crate::outcome::{Handed, Outcome};
 use crate::received::ReceivedFrame;
 use crate::refused::Refused;
 use crate::station::Station;
 use its_btp::split;
 use its_forwarding::{Choice, choose_outside};
 use its_geometry::contains;
-use its_gnvalue::{GnAddress, Mac, NoMemory};
+use its_gnvalue::{GnAddress, NoMemory};
 use its_headers::Kind;
 use its_linkframe::{FrameFault, SecuredFault, VerifiedFrame, read_frame};
-use its_loctable::{EntryIndex, Found, Heard, LocationStore};
+use its_loctable::{EntryIndex, Heard, LocationStore};
 
 impl<S: LocationStore> Station<S> {
-    /// Takes the octets that came. They are refused for their moment (S1, S2), by `Frame` (S3)
-    /// where they are no frame, by `TableFull` (S4) where the location table has no room for the
-    /// packet's source, and by `NoMemory` (S5) only where the packet is accepted, and its source
-    /// isn't live or it goes on, also where it then goes to nobody. A frame is ignored for the
-    /// first reason of `Why` that holds, and sets the clock alone. Else its packet is accepted: its
-    /// payload is delivered where its port is open and, for an area, where the area holds the
-    /// station's place, and a packet for an area may go on. What is delivered is the end of the
-    /// frame.
+    /// Receives a frame. It is ignored for the first reason of `Why` that holds: then only the clock
+    /// is set. Otherwise its packet is accepted. The payload is delivered if its port is open and, for
+    /// an area, if the station is inside. A packet for an area may be forwarded.
+    ///
+    /// Errors: `MomentEarlier` (S1) and `MomentTooLate` (S2) for the time, `Frame` (S3) if the octets
+    /// are not a valid frame, `TableFull` (S4) if the location table has no room for the packet's
+    /// source, and `NoMemory` (S5).
     ///
     /// - `step`: the answer and the station afterwards are those of the model's step, if the octets
     ///   are a frame; otherwise the step refuses them by their first fault.
@@ -74,8 +75,8 @@ impl<S: LocationStore> Station<S> {
         }
     }
 
-    /// Why octets with this fault are refused: for the moment (S1, S2), else for the fault (S3).
-    /// Nothing changes.
+    /// Returns why octets with this fault are refused: for the time (S1, S2), otherwise for the fault
+    /// (S3). Nothing changes.
     pub fn refuse_frame(&self, now: u64, fault: FrameFault) -> Refused
         ensures step { (s : StationModel) → RepresentsStation self.now s →
             IsRefusedStep result self.now (station_step s now (Junk fault)) }
@@ -87,10 +88,11 @@ impl<S: LocationStore> Station<S> {
         }
     }
 
-    /// Takes a frame that was read, as `receive` takes its octets: a frame whose fields are read
-    /// besides (`FrameView`), one that was read once for many receivers (`KnownFrame`), or a secured
-    /// one with its plain part (`VerifiedFrame`). Refused as there, but for its octets (S3). What
-    /// goes on of a secured frame is that frame, with other link addresses and one hop fewer left.
+    /// Receives a frame that was read, as `receive` does with its octets: one whose fields are read
+    /// when they are needed (`FrameView`), one that was read once for many receivers (`KnownFrame`),
+    /// or a secured one with its plain part (`VerifiedFrame`). Errors are those of `receive` without
+    /// `Frame`. A secured packet is forwarded in the frame that came, with other link addresses and
+    /// one hop fewer left.
     #[inline(always)]
     pub fn receive_frame<'a, F: ReceivedFrame<'a>>(
         &mut self,
@@ -109,12 +111,12 @@ impl<S: LocationStore> Station<S> {
         ensures short { IfOk result (Fits 1394) }
         ensures short_frame { IfOk result (SendsAtMost (F.most frame.now)) }
     {
-        self.check_moment(now)?;
-        self.hear(now, frame)
+        let looked = self.look_up(now, frame)?;
+        self.take(now, frame, looked)
     }
 
-    /// The addresses in the location table, in ascending order, if the table keeps them in one slice:
-    /// where the source of the next frame can be looked up beforehand (`narrow`).
+    /// Returns the addresses in the location table, in ascending order, if the table keeps them in one
+    /// slice. The source of the next frame can be looked up there beforehand (`narrow`).
     pub fn column(&self) -> &[GnAddress]
         ensures { (result.now ≡ []) ⊎ (result.now
             ≡ map (λ entry. entry.address) self.now.content) }
@@ -132,15 +134,16 @@ impl<S: LocationStore> Station<S> {
         }
     }
 
-    /// Takes a secured frame that came, and the plain part that a security entity verified of its
-    /// message: as `receive` takes the packet that its Basic Header and the plain part make, sent
-    /// between the frame's link addresses. It is refused for its moment (S1, S2), by `Secured` (S3)
-    /// where the octets are no secured frame or with the plain part no packet, and then as there.
-    /// What goes on is the secured frame that came, with other link addresses and one hop fewer
-    /// left. What is delivered is the end of the plain part.
+    /// Receives a secured frame, with the plain part that a security entity verified of its message.
+    /// It is received as `receive` does with the packet that its Basic Header and the plain part make.
+    /// What is forwarded is the secured frame, with other link addresses and one hop fewer left. What
+    /// is delivered is the end of the plain part.
     ///
-    /// Nothing here ties the plain part to the message: who calls this with another plain part sends
-    /// on a message that wasn't verified. Link addresses, lifetime and hops are not signed.
+    /// Errors are those of `receive`. In place of `Frame` it is `Secured` (S3), if the octets are not a
+    /// secured frame or if they are not a packet with the plain part.
+    ///
+    /// Nothing here ties the plain part to the message. A caller that passes another plain part
+    /// forwards a message that wasn't verified. Link addresses, lifetime and hops are not signed.
     pub fn receive_verified<'a>(
         &mut self,
         now: u64,
@@ -165,8 +168,8 @@ impl<S: LocationStore> Station<S> {
         }
     }
 
-    /// Why octets with this fault are refused that came with a plain part: for the moment (S1, S2),
-    /// else for the fault (S3). Nothing changes.
+    /// Returns why octets with this fault are refused that came with a plain part: for the time (S1,
+    /// S2), otherwise for the fault (S3). Nothing changes.
     pub fn refuse_secured(&self, now: u64, fault: SecuredFault) -> Refused
         ensures step { (s : StationModel) → RepresentsStation self.now s →
             IsRefusedStep result self.now (secured_step_by s fault (moment_refusal s now)) }
@@ -178,78 +181,43 @@ impl<S: LocationStore> Station<S> {
         }
     }
 
-    /// Takes a frame at a moment that isn't refused.
+    /// Receives a frame of which `look_up` has found this at the same time, as `receive_frame` does.
+    /// The station must not have changed since. The source is not looked up again. `NoMemory` is the
+    /// one failure.
     #[inline(always)]
-    fn hear<'a, F: ReceivedFrame<'a>>(
+    pub fn take<'a, F: ReceivedFrame<'a>>(
         &mut self,
         now: u64,
         frame: &F,
+        looked: LookedUp,
     ) -> Result<Outcome<'a>, Refused>
         requires from { self.old.clock ≤ now }
         requires to { now ≤ 2 ^ 62 }
-        ensures step { (ports : List ℕ) (history : List Reception) → IsPast self.old ports history →
+        requires found { (s : StationModel) → RepresentsStation self.old s →
+            IsVerdictOf (Ok looked) (verdict s now (F.frame frame.now)) }
+        requires place { IsPlaceOf looked self.old now (F.frame frame.now) }
+        ensures step { (s : StationModel) → RepresentsStation self.old s →
             IsStepOf (TellsBy (F.Encodes frame.now)) result self.new
-            (receive_step (model_of self.old ports history) now (F.frame frame.now)) }
-        ensures memory { (ports : List ℕ) (history : List Reception) →
-            IsPast self.old ports history → result ≡ Err Refused.NoMemory →
-            (verdict (model_of self.old ports history) now (F.frame frame.now)
-            ≡ station.Verdict.Accept)
-            × TakesMemory (model_of self.old ports history) now (F.frame frame.now) }
+            (station_step s now (Receive (F.frame frame.now))) }
+        ensures memory { (s : StationModel) → RepresentsStation self.old s →
+            result ≡ Err Refused.NoMemory →
+            (verdict s now (F.frame frame.now) ≡ station.Verdict.Accept)
+            × TakesMemory s now (F.frame frame.now) }
         ensures unchanged { OnErr result (self.new ≡ self.old) }
         ensures payload { IfOk result (DeliversEndOf (payload_of (F.frame frame.now).pdu.body)) }
         ensures short { IfOk result (Fits 1394) }
         ensures short_frame { IfOk result (SendsAtMost (F.most frame.now)) }
     {
-        let heard = heard_of(frame);
-        if let Some(why) = self.reason_to_ignore(frame, &heard) {
-            self.set_clock(now);
-            return Ok(Outcome::Ignored(why));
-        }
-        match self.find(now, &heard) {
-            Found::Duplicate => {
+        match looked {
+            LookedUp::Ignored(why) => {
                 self.set_clock(now);
-                Ok(Outcome::Ignored(Why::Duplicate))
+                Ok(Outcome::Ignored(why))
             }
-            Found::Full => Err(Refused::TableFull),
-            Found::New(index) => self.accept(now, frame, &heard, index),
+            LookedUp::New { heard, index } => self.accept(now, frame, &heard, index),
         }
     }
 
-    /// What the location table finds of a packet's source: the one look-up of a reception.
-    #[inline(always)]
-    fn find(&self, now: u64, heard: &Heard) -> Found
-        requires from { self.now.clock ≤ now }
-        requires to { now ≤ 2 ^ 62 }
-        ensures verdict { (history : List Reception) →
-            Represents self.now.remember self.now.content history now →
-            verdict_of result
-            ≡ verdict_at self.now.remember self.now.capacity now heard.now history }
-        ensures new { IsAdmitted self.now now heard.now result }
-    {
-        self.store.find(now, heard)
-    }
-
-    /// Why a frame is ignored before the location table is asked, if it is.
-    #[inline(always)]
-    fn reason_to_ignore<'a, F: ReceivedFrame<'a>>(&self, frame: &F, heard: &Heard) -> Option<Why>
-        requires { heard.now ≡ report_of (F.frame frame.now).pdu }
-        ensures { (ports : List ℕ) (history : List Reception) →
-            result ≡ why_unasked (model_of self.now ports history) (F.frame frame.now) }
-    {
-        let source = heard.address();
-        if frame.target() != self.mac() && frame.target() != Mac::BROADCAST {
-            return Some(Why::NotForMe);
-        }
-        if source == self.vector.address() {
-            return Some(Why::OwnSource);
-        }
-        if heard.neighbour() && source.mid() != frame.sender() {
-            return Some(Why::SenderMismatch);
-        }
-        None
-    }
-
-    /// Takes in a packet that is no duplicate and for whose source there is room.
+    /// Accepts a packet that is not a duplicate. There has to be room for its source.
     #[inline(always)]
     fn accept<'a, F: ReceivedFrame<'a>>(
         &mut self,
@@ -306,7 +274,7 @@ impl<S: LocationStore> Station<S> {
         Ok(())
     }
 
-    /// What is delivered of a packet, inside or outside of its area.
+    /// Returns what is delivered of a packet, inside or outside of its area.
     #[inline(always)]
     fn handing<'a, F: ReceivedFrame<'a>>(&self, frame: &F, inside: bool) -> Option<Handed<'a>>
         requires { inside ≡ is_inside self.now.vector.place (F.frame frame.now).pdu.body }
@@ -330,7 +298,7 @@ impl<S: LocationStore> Station<S> {
         }
     }
 
-    /// Whether the station is inside of the packet's area, if that has one.
+    /// Returns whether the station is inside of the packet's area, if that has one.
     #[inline(always)]
     fn is_inside<'a, F: ReceivedFrame<'a>>(&self, frame: &F) -> bool
         ensures { result ≡ is_inside self.now.vector.place (F.frame frame.now).pdu.body }
@@ -341,7 +309,7 @@ impl<S: LocationStore> Station<S> {
         }
     }
 
-    /// The frame in which a packet would go on to all: the one allocation of a relay.
+    /// Returns the frame that would forward a packet to all: the only allocation of a relay.
     #[inline(always)]
     fn copy_for_relay<'a, F: ReceivedFrame<'a>>(
         &self,
@@ -363,8 +331,8 @@ impl<S: LocationStore> Station<S> {
         Ok(Some(relayed))
     }
 
-    /// Gives the frame its target, if it goes on at all. Inside of the area it goes to all (simple
-    /// forwarding).
+    /// Sets the target of the frame to forward. Inside of the area it is sent to all (simple
+    /// forwarding). Outside there may be no next hop.
     #[inline(always)]
     fn direct<'a, F: ReceivedFrame<'a>>(
         &mut self,
@@ -408,8 +376,8 @@ impl<S: LocationStore> Station<S> {
     }
 }
 
-/// Whether a packet goes on: a geobroadcast that has another hop left, and outside of its area a
-/// geoanycast.
+/// Returns whether a packet is forwarded: a GBC that has another hop left, and outside of its area
+/// a GAC.
 #[inline(always)]
 fn goes_on<'a, F: ReceivedFrame<'a>>(frame: &F, inside: bool) -> bool
     ensures { (place : Position) → inside ≡ is_inside place (F.frame frame.now).pdu.body →
@@ -421,12 +389,4 @@ fn goes_on<'a, F: ReceivedFrame<'a>>(frame: &F, inside: bool) -> bool
         Kind::Gbc => has_hops,
         Kind::Gac => has_hops && !inside,
     }
-}
-
-/// What a packet says of its source.
-#[inline(always)]
-fn heard_of<'a, F: ReceivedFrame<'a>>(frame: &F) -> Heard
-    ensures { result ≡ report_of (F.frame frame.now).pdu }
-{
-    Heard::new(frame.vector(), frame.number())
 }

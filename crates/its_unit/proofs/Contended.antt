@@ -200,7 +200,7 @@ waiting_same (Some b) g s now say p knew t a = refl
 
 composed : (Encodes : Encoded) (say : Transmission → List ℕ) (u : UnitModel) (now : ℕ)
     (t : Transmission) (left : Outcome) (result : Reaction) (r : Receiver) (new : UnitState)
-    → r ≡ asked Limiting.Within u now t.pdu.vector.address
+    → r ≡ asked Limiting.Within u now t.pdu.vector.address true
     → RepresentsStation new.station (station_step u.station now (model.Call.Receive t)).station
     → TellsBy Encodes left (left_of u.contention (Some u.governor)
     (station_step u.station now (model.Call.Receive t)).station now t
@@ -251,7 +251,7 @@ composed Encodes say u now t left result r new is rep leaves due cancelled waits
 -- the same by the unit as contracts see it
 composed_from : (Encodes : Encoded) (say : Transmission → List ℕ) (u : UnitModel) (now : ℕ)
     (t : Transmission) (left : Outcome) (result : Reaction) (r : Receiver) (old new : UnitState)
-    → RepresentsUnit old u → r ≡ asked Limiting.Within u now t.pdu.vector.address
+    → RepresentsUnit old u → r ≡ asked Limiting.Within u now t.pdu.vector.address true
     → RepresentsStation new.station (station_step u.station now (model.Call.Receive t)).station
     → TellsBy Encodes left (left_of old.contention (Some old.governor)
     (station_step u.station now (model.Call.Receive t)).station now t
@@ -421,7 +421,7 @@ refused_past say u now t e new held same is =
 
 pub reacts_by : (l : Limiting) (Encodes : Encoded) (say : Transmission → List ℕ) (u : UnitModel)
     (now : ℕ) (t : Transmission) (left : Outcome) (result : Reaction) (r : Receiver)
-    (old new : UnitState) → RepresentsUnit old u → r ≡ asked l u now t.pdu.vector.address
+    (old new : UnitState) → RepresentsUnit old u → r ≡ asked l u now t.pdu.vector.address true
     → RepresentsStation new.station (station_step u.station now (model.Call.Receive t)).station
     → TellsBy Encodes left (left_of old.contention (applied l old.governor)
     (station_step u.station now (model.Call.Receive t)).station now t

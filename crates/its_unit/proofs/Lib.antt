@@ -9,6 +9,7 @@ pub mod Outcomes
 pub mod Lawful
 pub mod Passing
 pub mod Contended
+pub mod Unforwarded
 pub mod FleetFrames
 pub mod Fleets
 pub mod FleetUnits

@@ -1,6 +1,6 @@
 -- Frames that wait: what holds of each, by the frame and when it is due, stays so.
 use Rattle.std.proofs.Common.{◌≡◌, ℕ, zero, suc, ◌+◌, ◌-◌, ◌*◌, ◌/◌, ◌%◌, ◌^◌, ◌≤◌, ◌<◌, List, []}
-use Rattle.std.proofs.Common.{◌∷◌, ◌++◌, length, map, Bool, true, false, cond, not, ◌&&◌}
+use Rattle.std.proofs.Common.{◌∷◌, length, map, Bool, true, false, cond, not, ◌&&◌}
 use Rattle.std.proofs.Common.{Option, Some, None, eqb, refl, sym, ap, subst, ◌∙◌, take, drop}
 use Rattle.std.proofs.Common.{inl, inr, arith, mod-lt, All, is_some}
 use Rattle.std.specs.Prelude.{◌≢◌, ◌⊎◌, slice_get, slice_index_or, nat_le, nat_lt, position}
@@ -12,7 +12,7 @@ use Rattle.std.proofs.lemmas.List.Elements.{All-filter, All-take, All-drop, filt
 use Rattle.its_model.specs.History.{is_among}
 use Rattle.its_model.specs.Contention.{ContentionRule, shorter, wait, HeldFrame, newly_held}
 use Rattle.its_model.specs.Contention.{after_due, counted, counted_as, first_due, frame_at, kept_at}
-use Rattle.its_model.specs.Contention.{late_after, next_due, place_due, place_due_by, stays, without}
+use Rattle.its_model.specs.Contention.{late_after, place_due, place_due_by, stays, without}
 use Rattle.its_model.proofs.NumberTests.{eq_test}
 use Rattle.its_contention.specs.Buffer.{Buffer, after_drop, after_release, more}
 use Rattle.its_contention.specs.Counted.{BufferCall, after_call, after_calls}

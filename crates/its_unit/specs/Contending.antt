@@ -1,5 +1,5 @@
 -- Contention in a unit: between the answer of its station and the limits.
-use Rattle.std.specs.Prelude.{◌≡◌, ℕ, zero, suc, Bool, true, false, if◌then◌else◌, List, length}
+use Rattle.std.specs.Prelude.{ℕ, zero, suc, Bool, true, false, if◌then◌else◌, List, length}
 use Rattle.std.specs.Prelude.{Option, Some, None, nat_lt}
 use Rattle.std.specs.Option.{option_map}
 use Rattle.its_gnvalue.specs.Values.{mid_of}

@@ -12,7 +12,6 @@ use Rattle.its_station.specs.declared.refused.Refused.{Refused}
 use Rattle.its_contention.specs.Buffer.{Buffer}
 use Rattle.its_contention.specs.Waiting.{Waiting, longest}
 use Rattle.its_contention.specs.declared.counts.ContentionCounts.{ContentionCounts}
-use Rattle.its_governor.specs.declared.governor.Governor.{Governor}
 use Rattle.its_unit.specs.Contending.{Released, governed_release, past_release}
 use Rattle.its_unit.specs.Unit.{UnitModel, UnitState, RepresentsUnit}
 use Rattle.its_unit.specs.declared.limiting.Limiting.{Limiting}

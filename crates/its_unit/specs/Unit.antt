@@ -12,6 +12,8 @@ use Rattle.its_station.specs.State.{StationState, RepresentsStation}
 use Rattle.its_station.specs.Beside.{move_at_step, send_shb_for_step}
 use Rattle.its_station.specs.Receiving.{VerifiedCall, verified_step}
 use Rattle.its_station.specs.declared.counts.Counts.{Counts}
+use Rattle.its_station.specs.declared.looked_up.LookedUp.{LookedUp}
+use Rattle.its_station.specs.declared.looked_up.LookedUp.TheVariants as looks
 use Rattle.its_station.specs.declared.requests.ShbOptions.{ShbOptions}
 use Rattle.its_governor.specs.declared.governor.Governor.{Governor}
 use Rattle.its_governor.specs.declared.receiver.Receiver.{Receiver}
@@ -241,10 +243,16 @@ looks_up Limiting.Within u now =
     is_some u.contention || is_pressed u.governor.forward u.governor.shares now
 looks_up Limiting.Past u now = is_some u.contention
 
--- the receiver of a frame as a unit sees it
-abbrev pub asked : Limiting → UnitModel → ℕ → ℕ → Receiver
-asked l u now source =
+-- whether a packet that was looked up may be forwarded: it is new, and has a sequence number
+abbrev pub may_forward : LookedUp → Bool
+may_forward (looks.Ignored why) = false
+may_forward (looks.New heard index) = is_some heard.number
+
+-- The receiver of a frame as a unit sees it. Only the source of a packet that may be forwarded is
+-- looked up.
+abbrev pub asked : Limiting → UnitModel → ℕ → ℕ → Bool → Receiver
+asked l u now source forwards =
     record {
       address = u.station.address;
-      knew_source = looks_up l u now && knows u.station now source;
+      knew_source = forwards && (looks_up l u now && knows u.station now source);
     }

@@ -1,5 +1,5 @@
 -- Words of the contracts of private functions about frames that wait.
-use Rattle.std.specs.Prelude.{◌≡◌, ◌≤◌, ℕ, ◌^◌, List, Bool, true, false, Option, Some, None, Result, Ok, Err}
+use Rattle.std.specs.Prelude.{◌≡◌, ◌≤◌, ℕ, ◌^◌, List, true, false, Option, Some, None, Result, Ok, Err}
 use Rattle.its_model.specs.Packet.{Transmission}
 use Rattle.its_model.specs.Calls as model
 use Rattle.its_model.specs.Calls.{Answer, Refusal}

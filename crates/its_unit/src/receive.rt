@@ -1,6 +1,6 @@
-//! What a unit does with a frame.
+//! How a unit receives a frame.
 
-ghost use Rattle.std.specs.Prelude.{◌≡◌, ◌≢◌, ℕ, List, Some, Err, IfOk, OnErr, false};
+ghost use Rattle.std.specs.Prelude.{◌≡◌, ◌≢◌, ◌≤◌, ◌^◌, ℕ, List, Some, Ok, Err, IfOk, OnErr, false};
 ghost use Rattle.its_model.specs.Packet.{Transmission};
 ghost use Rattle.its_model.specs.Calls.{Answer, Call};
 ghost use Rattle.its_model.specs.Calls.Call.{Receive as IsReceived, Junk};
@@ -11,6 +11,7 @@ ghost use Rattle.its_linkframe.specs.Frames.{EncodesFrame, IsFrame};
 ghost use Rattle.its_linkframe.specs.Secured.{Verified, EncodesVerified, IsVerified};
 ghost use Rattle.its_station.specs.State.{RepresentsStation};
 ghost use Rattle.its_station.specs.Receiving.{IsFrameCall, TakesMemory, Tells, DeliversEndOf};
+ghost use Rattle.its_station.specs.Receiving.{IsPlaceOf, IsVerdictOf};
 ghost use Rattle.its_station.specs.Receiving.{SendsAtMost, TellsBy, VerifiedCall};
 ghost use Rattle.its_station.specs.Receiving.{IsVerifiedCall, sealed_by, verified_step};
 ghost use Rattle.its_station.specs.Steps as station;
@@ -20,7 +21,7 @@ ghost use Rattle.its_unit.specs.Unit.{UnitModel, RepresentsUnit, unit_step};
 ghost use Rattle.its_unit.specs.Unit.{unlimited_step, step_of_by};
 ghost use Rattle.its_unit.specs.Waits.{AreSaid};
 ghost use Rattle.its_unit.specs.Unit.UnitCall.{Receive, ReceiveVerified};
-ghost use Rattle.its_unit.specs.Unit.{answer_by, asked, knows, looks_up};
+ghost use Rattle.its_unit.specs.Unit.{answer_by, asked, knows, looks_up, may_forward};
 ghost use Rattle.its_unit.specs.Steps.{IsReactionOf, IsRefusedStep, TellsUnit, WherePassed, IsSameUnit};
 ghost use Rattle.its_unit.specs.Steps.{AreKept, IsPassedBy, counted_received};
 
@@ -32,14 +33,14 @@ use its_gnvalue::GnAddress;
 use its_governor::{Accepted, Governor, Receiver};
 use its_linkframe::{FrameFault, SecuredFault, VerifiedFrame, read_frame};
 use its_loctable::LocationStore;
-use its_station::{LAST_MOMENT, Outcome, ReceivedFrame, Refused};
+use its_station::{LAST_MOMENT, LookedUp, Outcome, ReceivedFrame, Refused};
 
 impl<S: LocationStore> Unit<S> {
-    /// Receives the octets that came, as `Station::receive` does, and keeps what passes of its
-    /// outcome: a frame that doesn't pass is not sent, and a packet that was delivered before is
-    /// `Repeated`. If the unit contends, a frame that waits is not sent either (`next_due`), and a
-    /// duplicate may cancel one. It is refused as there, also for memory. Then nothing changes but the
-    /// counts.
+    /// Receives a frame, as `Station::receive` does, within the limits. A frame that they withhold is
+    /// not sent, and a packet that was delivered before is `Repeated`. If the unit contends, a frame
+    /// that waits is not sent yet (`next_due`), and a duplicate may cancel one.
+    ///
+    /// Errors are those of `Station::receive`. After one only the counts have changed.
     pub fn receive<'a>(&mut self, now: u64, frame: &'a [u8]) -> Result<Reaction<'a>, Refused>
         ensures step { (call : Call) × IsFrameCall frame.now call
             × ((u : UnitModel) → RepresentsUnit self.old u →
@@ -60,8 +61,8 @@ impl<S: LocationStore> Unit<S> {
         }
     }
 
-    /// Receives a secured frame that came, and the plain part that a security entity verified of its
-    /// message, as `Station::receive_verified` does, and keeps what passes of its outcome.
+    /// Receives a secured frame, with the plain part that a security entity verified of its message,
+    /// as `Station::receive_verified` does, within the limits.
     pub fn receive_verified<'a>(
         &mut self,
         now: u64,
@@ -88,10 +89,9 @@ impl<S: LocationStore> Unit<S> {
         }
     }
 
-    /// Receives a frame that was read of these octets, as `receive` does with its octets, and
-    /// `receive_verified` with those of a secured frame and its plain part. Past the limits none
-    /// applies to the frame, and it takes nothing from one. It may wait or cancel frames that do, as
-    /// any.
+    /// Receives a frame that was read from these octets: as `receive` does, or as `receive_verified`
+    /// does if it is secured. Past the limits nothing is withheld, and nothing is noted in them. The
+    /// frame may still wait, or cancel frames that wait.
     ///
     /// - `step`: `say` is how the octets of such frames are made of packets.
     #[inline(always)]
@@ -118,58 +118,96 @@ impl<S: LocationStore> Unit<S> {
         ensures short_frame { IfOk result (λ r.
             WherePassed (SendsAtMost (F.most frame.now)) r.outcome) }
     {
-        let receiver = self.receiver_of(limiting, now, frame);
-        let said = match self.station.receive_frame(now, frame) {
-            Ok(outcome) => {
-                let left = contend(
-                    &mut self.contention,
-                    limiting,
-                    &self.governor,
-                    &self.station,
-                    now,
-                    octets,
-                    receiver.knew_source,
-                    frame,
-                    outcome,
-                );
-                let Left {
-                    outcome,
-                    due,
-                    cancelled,
-                } = left;
-                Ok(Reaction {
-                    outcome: pass(limiting, &mut self.governor, now, &receiver, frame, outcome),
-                    due,
-                    cancelled,
-                })
-            }
+        let said = match self.station.look_up(now, frame) {
+            Ok(looked) => self.take(limiting, now, octets, frame, looked),
             Err(refused) => Err(refused),
         };
         self.note_received(&said);
         said
     }
 
-    /// Returns the station as the receiver of a frame that it has not received yet. The source is
-    /// looked up if the unit contends, and within the limits under pressure.
+    /// Receives a frame of which `Station::look_up` has found this, as `receive_frame` does, but
+    /// counts nothing.
+    #[inline(always)]
+    fn take<'a, F: ReceivedFrame<'a>>(
+        &mut self,
+        limiting: Limiting,
+        now: u64,
+        octets: &[u8],
+        frame: &F,
+        looked: LookedUp,
+    ) -> Result<Reaction<'a>, Refused>
+        requires from { self.old.station.clock ≤ now }
+        requires to { now ≤ 2 ^ 62 }
+        requires found { (s : StationModel) → RepresentsStation self.old.station s →
+            IsVerdictOf (Ok looked) (verdict s now (F.frame frame.now)) }
+        requires place { IsPlaceOf looked self.old.station now (F.frame frame.now) }
+        ensures step { (say : Transmission → List ℕ) → AreSaid (F.Encodes frame.now) say →
+            octets.now ≡ say (F.frame frame.now) → (u : UnitModel) → RepresentsUnit self.old u →
+            IsReactionOf (TellsBy (F.Encodes frame.now)) result self.new
+            (step_of_by limiting say u now (F.frame frame.now)) }
+        ensures counts { self.new.counts ≡ self.old.counts }
+        ensures limits { AreKept limiting self.old.governor self.new.governor }
+        ensures memory { (s : StationModel) → RepresentsStation self.old.station s →
+            result ≡ Err Refused.NoMemory →
+            (verdict s now (F.frame frame.now) ≡ stations.Verdict.Accept)
+            × TakesMemory s now (F.frame frame.now) }
+        ensures unchanged { OnErr result (IsSameUnit self.old self.new) }
+        ensures payload { IfOk result (λ r.
+            WherePassed (DeliversEndOf (payload_of (F.frame frame.now).pdu.body)) r.outcome) }
+        ensures short_frame { IfOk result (λ r.
+            WherePassed (SendsAtMost (F.most frame.now)) r.outcome) }
+    {
+        let receiver = self.receiver_of(limiting, now, frame, &looked);
+        let outcome = self.station.take(now, frame, looked)?;
+        let Left {
+            outcome,
+            due,
+            cancelled,
+        } = contend(
+            &mut self.contention,
+            limiting,
+            &self.governor,
+            &self.station,
+            now,
+            octets,
+            receiver.knew_source,
+            frame,
+            outcome,
+        );
+        Ok(Reaction {
+            outcome: pass(limiting, &mut self.governor, now, &receiver, frame, outcome),
+            due,
+            cancelled,
+        })
+    }
+
+    /// Returns the station as the receiver of a frame that it has not received yet. Whether it knows
+    /// the source is asked only for a packet that may be forwarded, if the unit contends, and within
+    /// the limits under pressure.
     #[inline(always)]
     fn receiver_of<'a, F: ReceivedFrame<'a>>(
         &self,
         limiting: Limiting,
         now: u64,
         frame: &F,
+        looked: &LookedUp,
     ) -> Receiver
         ensures { (u : UnitModel) → RepresentsUnit self.now u →
-            result ≡ asked limiting u now (F.frame frame.now).pdu.vector.address }
+            result ≡ asked limiting u now (F.frame frame.now).pdu.vector.address
+            (may_forward looked.now) }
     {
-        let knew_source = self.looks_up(limiting, now) && self.knows(now, frame.vector().address());
+        let knew_source = may_forward(looked)
+            && self.looks_up(limiting, now)
+            && self.knows(now, frame.vector().address());
         Receiver {
             address: self.station.address(),
             knew_source,
         }
     }
 
-    /// Whether the source of a frame that comes decides anything: if the unit contends, and within the
-    /// limits under pressure.
+    /// Returns whether it matters that a source is known: if the unit contends, and within the limits
+    /// under pressure.
     #[inline(always)]
     fn looks_up(&self, limiting: Limiting, now: u64) -> bool
         ensures { (u : UnitModel) → RepresentsUnit self.now u →
@@ -182,8 +220,8 @@ impl<S: LocationStore> Unit<S> {
             }
     }
 
-    /// Whether the station, at a time that it accepts, has a live entry of a source in its location
-    /// table.
+    /// Returns whether the location table has a live entry of a source, at a time that the station
+    /// accepts.
     pub(crate) fn knows(&self, now: u64, source: GnAddress) -> bool
         ensures { (s : StationModel) → RepresentsStation self.now.station s →
             result ≡ knows s now source }
@@ -193,7 +231,7 @@ impl<S: LocationStore> Unit<S> {
             && self.station.table().lookup(now, source).is_some()
     }
 
-    /// Why octets with this fault are refused, which are counted: as `Station::refuse_frame` says.
+    /// Counts octets with this fault, and returns why they are refused (`Station::refuse_frame`).
     pub fn refuse_frame(&mut self, now: u64, fault: FrameFault) -> Refused
         ensures step { (u : UnitModel) → RepresentsUnit self.old u →
             IsRefusedStep result self.new (unit_step u now (Receive (Junk fault))) }
@@ -210,8 +248,8 @@ impl<S: LocationStore> Unit<S> {
         refused
     }
 
-    /// Why octets with this fault are refused that came with a plain part, and are counted: as
-    /// `Station::refuse_secured` says.
+    /// Counts octets with this fault that came with a plain part, and returns why they are refused
+    /// (`Station::refuse_secured`).
     pub fn refuse_secured(&mut self, now: u64, fault: SecuredFault) -> Refused
         ensures step { (u : UnitModel) → RepresentsUnit self.old u →
             IsRefusedStep result self.new (unit_step u now (ReceiveVerified (Faulty fault))) }
@@ -228,7 +266,7 @@ impl<S: LocationStore> Unit<S> {
         refused
     }
 
-    /// Counts octets that came and are refused.
+    /// Counts a frame that is refused.
     fn note_refused(&mut self, refused: Refused)
         ensures { self.new ≡ record self.old {
           counts = counted_received (Err refused) self.old.counts;
@@ -255,6 +293,16 @@ impl<S: LocationStore> Unit<S> {
             },
             Err(refused) => self.counts.note_refused(*refused),
         }
+    }
+}
+
+/// Returns whether a packet may be forwarded: it is new, and has a sequence number.
+fn may_forward(looked: &LookedUp) -> bool
+    ensures { result ≡ may_forward looked.now }
+{
+    match looked {
+        LookedUp::New { heard, .. } => heard.number().is_some(),
+        LookedUp::Ignored(_) => false,
     }
 }
 

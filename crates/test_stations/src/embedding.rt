@@ -131,7 +131,7 @@ fn prints(alloc: Global, refused: Refused, want: &str) -> bool {
     }
 }
 
-/// Of all refusals the lines of the program tell these two otherwise, or not at all.
+/// The two refusals that the program's lines print differently, or never.
 #[test]
 fn refusals_have_codes_and_sentences(rt: HostRuntime) -> Result<(), Fail> {
     let hops = Fault {

@@ -1,4 +1,4 @@
-//! What becomes of calls of a station.
+//! The outcomes of calls of a station.
 
 ghost use Rattle.std.specs.Prelude.{All};
 ghost use Rattle.its_station.specs.Runs.{IsInRange};
@@ -9,26 +9,26 @@ use its_station::{Call, Outcome, Ran, Refused, Reply, Station, Why};
 use std::alloc::Global;
 use test_support::PORT;
 
-/// What becomes of a packet that came before.
+/// The outcome of a packet that was received before.
 pub(crate) const DUPLICATE: Fate = Fate::Ignored(Why::Duplicate);
 
-/// What becomes of octets that are too few for a frame.
+/// The outcome of too few octets for a frame.
 pub(crate) const SHORT: Fate = Fate::Refused(Refused::Frame(FrameFault::Short));
 
-/// What a call gave. A payload counts as delivered where it is "hi" for `PORT`, with info 0.
+/// The outcome of a call. A payload counts as delivered if it is "hi" for `PORT`, with info 0.
 #[derive(Clone, Copy, PartialEq, Eq)]
 pub(crate) enum Fate {
     /// Refused, and nothing changed.
     Refused(Refused),
     /// Ignored, for this reason.
     Ignored(Why),
-    /// Accepted: nothing is delivered, and nothing goes on.
+    /// Accepted: nothing is delivered, and nothing is forwarded.
     Kept,
-    /// Delivered, and it doesn't go on.
+    /// Delivered, and not forwarded.
     Delivered,
-    /// It goes on, and isn't delivered.
+    /// Forwarded, and not delivered.
     Relayed,
-    /// Delivered, and it goes on.
+    /// Delivered and forwarded.
     DeliveredAndRelayed,
     /// Another payload was delivered, or to another port.
     Misdelivered,
@@ -36,7 +36,7 @@ pub(crate) enum Fate {
     Done,
     /// No beacon was due.
     Quiet,
-    /// A call gave a frame.
+    /// A call sent a frame.
     Sent,
 }
 
@@ -54,8 +54,8 @@ fn is_hi(port: u16, info: u16, payload: &[u8]) -> bool {
     port == PORT && info == 0 && payload == b"hi".as_slice()
 }
 
-/// What becomes of a frame, with nothing promised: all that the call's contract says would else be
-/// carried along in the proof of each test.
+/// Returns the outcome of a frame. It has no contract, since otherwise the proof of each test would
+/// carry all that the contract of the call says.
 pub(crate) fn fate_of<S: LocationStore>(station: &mut Station<S>, now: u64, frame: &[u8]) -> Fate {
     match station.receive(now, frame) {
         Err(refused) => Fate::Refused(refused),
@@ -70,14 +70,14 @@ pub(crate) fn fate_of<S: LocationStore>(station: &mut Station<S>, now: u64, fram
     }
 }
 
-/// `Station::run`, with nothing promised either.
+/// `Station::run`, without its contract.
 pub(crate) fn run<S: LocationStore>(station: &mut Station<S>, calls: &[(u64, Call)]) -> Ran
     requires { All (λ call. IsInRange call.1) calls.now }
 {
     station.run(calls)
 }
 
-/// What becomes of a call that was one of a run.
+/// Returns the outcome of a call of a run.
 fn fate_of_reply(reply: &Reply) -> Fate {
     match reply {
         Reply::Done => Fate::Done,
@@ -96,7 +96,7 @@ fn fate_of_reply(reply: &Reply) -> Fate {
     }
 }
 
-/// Whether this becomes of a call, in a run of its own.
+/// Whether a call has this outcome, in a run of its own.
 pub(crate) fn gives<S: LocationStore>(
     station: &mut Station<S>,
     moment: u64,
@@ -111,7 +111,7 @@ pub(crate) fn gives<S: LocationStore>(
     }
 }
 
-/// Whether this becomes of a frame, in a run of its own.
+/// Whether a frame has this outcome, in a run of its own.
 pub(crate) fn gives_of_frame<S: LocationStore>(
     alloc: Global,
     station: &mut Station<S>,
@@ -125,7 +125,7 @@ pub(crate) fn gives_of_frame<S: LocationStore>(
     }
 }
 
-/// Whether these are the answers of a run, which had memory enough.
+/// Whether these are the outcomes of a run, which had enough memory.
 pub(crate) fn are_fates(ran: &Ran, want: &[Fate]) -> bool {
     if ran.out_of_memory || ran.replies.len() != want.len() {
         return false;

@@ -1,26 +1,26 @@
-//! Out of memory: a process with no memory left but the budget that a test leaves it.
+//! Out of memory: a process with no memory except the budget that a test leaves it.
 //!
 //! `Shortage::new` takes all memory that the process can get, and `leave` gives a budget of it
 //! back. From then on each allocation that goes past the budget fails: in the code under test, in
-//! std and in the libraries below. Where `leave` answers false more is left, and the test shows
-//! nothing.
+//! std and in the libraries below. If `leave` returns false, more memory is left, and the test
+//! shows nothing.
 //!
 //! **What a budget stands for.** Code that stops at the first allocation that fails is tried with
-//! budgets of 0, 16, 32, .. octets until it answers as with ample memory. Each of its allocations
-//! is then, under some of these budgets, the first that fails: the budgets stand for 'the Nth
-//! allocation fails', for N = 1, 2, .. . A call that answers under the budget 0 takes no memory.
-//! Where the lowest budget at which a call succeeds is that of a single piece as large as its
-//! result, it has one allocation and no second.
+//! budgets of 0, 16, 32, .. octets until it returns what it does with ample memory. Each of its
+//! allocations is then, under some of these budgets, the first that fails: the budgets stand for
+//! 'the Nth allocation fails', for N = 1, 2, .. . A call that succeeds under the budget 0 allocates
+//! no memory. If the lowest budget at which a call succeeds is that of a single piece as large as
+//! its result, it has one allocation and no second.
 //!
 //! - A piece costs more than its octets (on glibc 8 more, rounded up to 16), so compare budgets,
 //!   and do not take them for lengths.
-//! - Make all that a test needs before `Shortage::new`, and let go what a call gave before the next
-//!   `leave`.
-//! - Let the budgets of a test rise. A lower one finds what was let go in pieces that the heap
-//!   keeps apart, and `leave` may answer false; 0 may come last.
+//! - Make all that a test needs before `Shortage::new`, and release the result of a call before the
+//!   next `leave`.
+//! - Let the budgets of a test rise. For a lower one, released memory is in pieces that the heap
+//!   keeps apart, and `leave` may return false. 0 may come last.
 //! - One `Shortage` in a test. Each test runs in a process of its own, so no other sees it.
-//! - It acts on the heap of a built test. An allocator that only watches for errors, as that of a
-//!   run without proof, has memory elsewhere.
+//! - It acts on the heap of a built test. The allocator of an unproved run, which watches for
+//!   errors, has memory elsewhere.
 
 use std::alloc::{AllocError, Global};
 
@@ -108,8 +108,8 @@ impl Shortage {
         Ok(())
     }
 
-    /// Takes pieces of that many octets until there is none.
-    /// An error says that there was no room to note one more.
+    /// Takes pieces of that many octets until no more are left. Returns an error if there was no
+    /// memory to note one more.
     fn take(&mut self, size: usize) -> Result<(), AllocError> {
         for _ in self.held.len()..self.held.capacity() {
             match Vec::with_capacity(self.alloc, size) {

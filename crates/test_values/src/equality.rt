@@ -1,15 +1,15 @@
-//! Two values that have to be the same. The calls stand for `assert_eq!`, whose text would be proved
-//! again wherever it is written out: these tests compare most.
+//! Compares two values that have to be equal. The tests that compare most call these functions
+//! instead of `assert_eq!`, whose text would be proved again at each use.
 
 use std::fmt::{Debug, Display};
 use std::process::Abort;
 
-/// Ends the test where the two differ, and prints both.
+/// Ends the test if the two differ, and prints both.
 pub(crate) fn same<T: Copy + PartialEq + Debug>(rt: &impl Abort, found: T, wanted: T) {
     assert_eq!(*rt; found, wanted);
 }
 
-/// The same for one of several cases, which it prints too.
+/// Ends the test if the two differ in one of several cases, and prints both and the case.
 pub(crate) fn same_at<T: Copy + PartialEq + Debug>(
     rt: &impl Abort,
     found: T,

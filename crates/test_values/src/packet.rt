@@ -1,6 +1,6 @@
 //! Tests of packets, frames and files of records through their public calls: typed values that are
-//! written, devices of the caller's own, memory that runs out, and what is longest. What becomes of
-//! octets is seen of the program (`checks/packets`, `checks/failures`).
+//! written, devices of the caller's own, memory that runs out, and the longest values. How octets
+//! are read is tested with the program (`checks/packets`, `checks/failures`).
 
 #[cfg(test)]
 mod devices;

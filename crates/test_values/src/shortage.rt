@@ -15,7 +15,8 @@ fn nothing_is_left(rt: HostRuntime) -> Result<(), Fail> {
     Ok(())
 }
 
-/// Of two allocations of 76 octets the first fails, then the second, then none.
+/// With rising budgets, the first of two allocations of 76 octets fails, then the second, then
+/// none.
 #[test]
 fn each_allocation_fails_in_turn(rt: HostRuntime) -> Result<(), Fail> {
     let mut shortage = Shortage::new(rt.alloc())?;
@@ -36,7 +37,7 @@ fn each_allocation_fails_in_turn(rt: HostRuntime) -> Result<(), Fail> {
     Ok(())
 }
 
-/// What a test still has of the last budget is missing for the next one; a budget of 0 holds
+/// What a test still holds from the last budget is missing in the next one. A budget of 0 works
 /// nevertheless.
 #[test]
 fn a_budget_that_is_still_held_is_told(rt: HostRuntime) -> Result<(), Fail> {
@@ -53,8 +54,8 @@ fn a_budget_that_is_still_held_is_told(rt: HostRuntime) -> Result<(), Fail> {
     Ok(())
 }
 
-/// Memory from before the shortage that is let go after adds to the budget, until a budget of 0
-/// takes it.
+/// Memory from before the shortage that is released during it adds to the budget, until a budget of
+/// 0 takes it.
 #[test]
 fn memory_beside_the_budget_is_told(rt: HostRuntime) -> Result<(), Fail> {
     let older = Vec::<u8>::with_capacity(rt.alloc(), MOST / 2)?;

@@ -1,4 +1,4 @@
-//! Worlds of stations: schedules, frames that are let go, memory that runs out, and what they show.
+//! Worlds of stations: schedules, released frames, memory that runs out, and what worlds show.
 
 ghost use Rattle.std.specs.Prelude.{◌≤◌, All, IfOk, length};
 ghost use Rattle.its_world.specs.Events.{IsConfig, IsInRange};
@@ -34,19 +34,19 @@ fn run(world: &mut World, events: &[Event]) -> Run
     world.run(events)
 }
 
-/// What came of one event, which is run alone.
+/// Runs one event by itself, and returns its outcome.
 fn fate_in(world: &mut World, event: Event) -> Option<Fate>
     requires { IsInRange event.what }
 {
     fate_at(run(world, &[event]).log.first())
 }
 
-/// What came of an event. A packet counts as delivered where it is "hi" for `PORT`, with info 0.
+/// The outcome of an event. A packet counts as delivered if it is "hi" for `PORT`, with info 0.
 #[derive(Clone, Copy, PartialEq, Eq)]
 enum Fate {
     Opened,
     Sent(usize),
-    /// Delivered, and relayed as this frame.
+    /// Delivered, and forwarded as this frame.
     Relayed(usize),
     Ignored(Why),
     Refused(EntryFault),
@@ -70,7 +70,7 @@ fn fate_of(entry: &Entry) -> Fate {
     }
 }
 
-/// The same of an entry, where there is one.
+/// Returns the outcome of an entry, if there is one.
 fn fate_at(entry: Option<&Entry>) -> Option<Fate> {
     match entry {
         Some(entry) => Some(fate_of(entry)),
@@ -78,7 +78,7 @@ fn fate_at(entry: Option<&Entry>) -> Option<Fate> {
     }
 }
 
-/// A station that remembers eight numbers of each of 64 sources.
+/// A station with a duplicate packet list of length 8 for each of 64 sources.
 fn config(address: u64, lat: i32, lon: i32) -> Result<Config, Fail>
     ensures { IfOk result IsConfig }
 {

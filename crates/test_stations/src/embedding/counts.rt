@@ -46,9 +46,8 @@ const ONE_BEACON: SentCounts = SentCounts {
     geoanycasts: 0,
 };
 
-/// Receives a frame, and counts what became of it, with nothing promised: all that the calls'
-/// contracts say would else be carried along in the proof of each test. So it is of the calls
-/// below.
+/// Receives a frame, and counts its outcome. It has no contract, and neither have the calls below.
+/// Otherwise the proof of each test would carry all that the contracts of the calls say.
 fn receive(counts: &mut Counts, station: &mut Unit, now: u64, octets: &[u8]) {
     counts.note_received(&station.receive(now, octets));
 }
@@ -73,7 +72,7 @@ fn restart(counts: &mut Counts, station: &mut Unit, now: u64, number: u16) {
     counts.note_done(&station.restart(now, number));
 }
 
-/// Makes a call, and counts what came of it.
+/// Makes a call, and counts its outcome.
 fn note(counts: &mut Counts, station: &mut Unit, moment: u64, call: &Call)
     requires { IsInRange call.now }
 {

@@ -107,8 +107,8 @@ fn beacon_comes(station: &mut Station<SortedTable>, now: u64) -> Option<bool> {
     Some(station.tick(now, 0).ok()?.is_some())
 }
 
-/// Whether this is what a station tells of itself that moved to this place at 5, but for the number
-/// of its next packet.
+/// Whether a station shows that it moved to this position at time 5. The number of its next packet
+/// is not compared.
 fn is_told(station: &Station<OrderedTable>, place: Place) -> bool {
     let vector = station.vector();
     station.address().as_u64() == SECOND
@@ -119,7 +119,7 @@ fn is_told(station: &Station<OrderedTable>, place: Place) -> bool {
         && station.open_ports() == [PORT].as_slice()
 }
 
-/// What a station that moved tells of itself, before and after it sends.
+/// A station that moved shows its state, before and after it sends.
 #[test]
 fn a_station_tells_what_it_knows_of_itself(rt: HostRuntime) -> Result<(), Fail> {
     let (place, request) = (
@@ -133,7 +133,7 @@ fn a_station_tells_what_it_knows_of_itself(rt: HostRuntime) -> Result<(), Fail> 
     Ok(())
 }
 
-/// From when on a beacon is due, and when the next one is.
+/// The time from which a beacon is due, and the time of the next one.
 fn beacons_of(station: &Station<SortedTable>) -> (u64, u64) {
     (station.beacon_from(), station.next_beacon())
 }

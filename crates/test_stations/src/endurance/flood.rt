@@ -11,12 +11,12 @@ const SOURCES: u16 = 10_000;
 
 const FULL: Fate = Fate::Refused(Refused::TableFull);
 
-/// What becomes of the beacon of one of them.
+/// The outcome of a beacon from one of the sources.
 fn fate_of_source<S: LocationStore>(near: &mut Station<S>, now: u64, source: u16) -> Fate {
     fate_of(near, now, &beacon_of_many(source))
 }
 
-/// Whether the first 64 are taken and the others are not, all at one moment.
+/// Whether the first 64 are accepted and the others are not, all at one time.
 fn are_64_taken<S: LocationStore>(near: &mut Station<S>) -> bool {
     for source in 0..SOURCES {
         let want = if source < 64 { Fate::Kept } else { FULL };

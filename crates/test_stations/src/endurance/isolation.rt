@@ -9,7 +9,7 @@ use std::process::Abort;
 use std::test::Fail;
 use test_support::{GEOBROADCAST_OCTETS, PORT, SECOND, beacon_of};
 
-/// What is no frame.
+/// Octets that are not a frame.
 const JUNK: [u8; 3] = [0, 1, 2];
 
 /// Whether the packet is delivered and its copy isn't, with junk and the beacon between, in one
@@ -33,7 +33,7 @@ fn is_so_with_others<S: LocationStore>(
     are_fates(&run(near, &calls), &want)
 }
 
-/// The same of the packet and its copy alone.
+/// Whether the packet is delivered and its copy isn't, with nothing between, in one run.
 fn is_so_alone<S: LocationStore>(near: &mut Station<S>, packet: Vec<u8>, again: Vec<u8>) -> bool {
     let calls = [
         (0, Call::Own(OwnCall::Open(PORT))),
@@ -44,7 +44,7 @@ fn is_so_alone<S: LocationStore>(near: &mut Station<S>, packet: Vec<u8>, again: 
     are_fates(&run(near, &calls), &want)
 }
 
-/// The packet, junk, the beacon and the packet again, each with its moment and what becomes of it.
+/// The packet, junk, the beacon and the packet again, each with its time and its outcome.
 fn frames_of<'a>(beacon: &'a [u8]) -> [(u64, &'a [u8], Fate); 4] {
     [
         (1010, &GEOBROADCAST_OCTETS, Fate::DeliveredAndRelayed),
@@ -54,7 +54,7 @@ fn frames_of<'a>(beacon: &'a [u8]) -> [(u64, &'a [u8], Fate); 4] {
     ]
 }
 
-/// Whether the same comes of the same calls as with others, each in a run of its own.
+/// Whether the calls have the same outcomes if each is a run of its own.
 fn is_so_one_by_one<S: LocationStore>(alloc: Global, near: &mut Station<S>, beacon: &[u8]) -> bool {
     if !gives(near, 0, Call::Own(OwnCall::Open(PORT)), Fate::Done) {
         return false;

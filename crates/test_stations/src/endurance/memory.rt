@@ -9,7 +9,7 @@ use std::process::Abort;
 use std::test::Fail;
 use test_support::{GEOBROADCAST_OCTETS, LINK, MOST, STEP, Shortage, beacon_of, geobroadcast_of};
 
-/// What becomes of the second packet of the source, which goes on.
+/// The outcome of the source's second packet, which is forwarded.
 fn fate_of_new<S: LocationStore>(near: &mut Station<S>, now: u64) -> Fate {
     fate_of(near, now, &geobroadcast_of(1))
 }
@@ -35,8 +35,8 @@ fn to_another() -> [u8; 76] {
     octets
 }
 
-/// What takes no memory of the same source: a duplicate, a packet with its last hop, a geoanycast,
-/// a beacon.
+/// Whether packets from the same source that allocate nothing are accepted: a duplicate, a packet
+/// with its last hop, a geoanycast, a beacon.
 fn accepted_takes_none<S: LocationStore>(near: &mut Station<S>) -> bool {
     fate_of(near, 1011, &GEOBROADCAST_OCTETS) == DUPLICATE
         && fate_of(near, 1011, &last_hop()) == Fate::Delivered
@@ -44,15 +44,16 @@ fn accepted_takes_none<S: LocationStore>(near: &mut Station<S>) -> bool {
         && fate_of(near, 1011, &beacon_of(1)) == Fate::Kept
 }
 
-/// And a moment of the past, octets that are too few for a frame, a frame for another station.
+/// Whether calls that allocate nothing are refused: an earlier time, too few octets for a frame, a
+/// frame for another station.
 fn refused_takes_none<S: LocationStore>(near: &mut Station<S>) -> bool {
     fate_of_new(near, 1010) == Fate::Refused(Refused::MomentEarlier)
         && fate_of(near, 1011, &[0; 13]) == SHORT
         && fate_of(near, 1011, &to_another()) == Fate::Ignored(Why::NotForMe)
 }
 
-/// How often the new packet is refused until there is a piece of memory as large as its frame;
-/// `None` where anything else becomes of it, or a budget could not be left.
+/// How often the new packet is refused until there is a piece of memory as large as its frame.
+/// `None` if it has any other outcome, or a budget could not be left.
 fn refusals<S: LocationStore>(
     alloc: Global,
     near: &mut Station<S>,

@@ -20,7 +20,7 @@ struct OnAir {
     octets: Vec<u8>,
 }
 
-/// What came of a storm.
+/// The outcome of a storm.
 #[derive(Drop)]
 struct Storm {
     /// How many frames were forwarded.

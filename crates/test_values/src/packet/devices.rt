@@ -1,5 +1,5 @@
-//! Devices of the caller's own: files of each format answer where one fails, and that they failed
-//! from then on; failed calls are counted; memory that ends while a file is read.
+//! Devices of the caller's own: files of each format report a device that fails, and afterwards
+//! that they failed. Failed calls are counted. Memory runs out while a file is read.
 
 use crate::packet::vectors::RECORD;
 use cap_pcap::{
@@ -23,7 +23,7 @@ static PCAPNG: [u8; 108] = *b"\x0a\x0d\x0d\x0a\x1c\0\0\0\x4d\x3c\x2b\x1a\x01\0\0
     \x06\0\0\0\x24\0\0\0\0\0\0\0\0\0\0\0\xe9\x03\0\0\
     \x03\0\0\0\x03\0\0\0abc\0\x24\0\0\0";
 
-/// A device that gives an octet a call, and fails once it was called so many times.
+/// A device that returns one octet per call, and fails after this many calls.
 #[derive(Drop)]
 struct Slow<'a> {
     octets: &'a [u8],
@@ -43,7 +43,7 @@ impl Read for Slow<'_> {
     }
 }
 
-/// A device that takes an octet a call, and none or an error once it was called so many times.
+/// A device that takes one octet per call, and after this many calls none or returns an error.
 #[derive(Drop)]
 struct Slot {
     calls: u64,
@@ -67,11 +67,11 @@ impl Write for Slot {
     }
 }
 
-/// What a call for the next record of a file answers.
+/// The result of a call for the next record of a file.
 type Answer = Result<Step, SourceFault>;
 
-/// What eight calls for the next record answer. Nothing is promised: all that their contracts say
-/// would else be carried along in the proof of each test.
+/// Returns the results of eight calls for the next record. It has no contract, since otherwise the
+/// proof of each test would carry all that the contracts of the calls say.
 fn eight_of<S: RecordSource + Drop>(alloc: Global, mut source: S) -> [Answer; 8] {
     let mut frame = Vec::new(alloc);
     let mut answers = [Ok(Step::Passed); 8];
@@ -81,7 +81,7 @@ fn eight_of<S: RecordSource + Drop>(alloc: Global, mut source: S) -> [Answer; 8]
     answers
 }
 
-/// The first end or fault, and the answer behind it.
+/// The first end or fault, and the result after it.
 fn end_of(answers: &[Answer; 8]) -> [Answer; 2] {
     for place in 0..7usize {
         match answers[place] {
@@ -92,7 +92,7 @@ fn end_of(answers: &[Answer; 8]) -> [Answer; 2] {
     [Ok(Step::Passed), answers[7]]
 }
 
-/// How a file of this format ends whose device fails at the call after so many.
+/// How a file of this format ends if its device fails after this many calls.
 fn read_failing(alloc: Global, format: Format, octets: &[u8], calls: u64) -> [Answer; 2] {
     let device = Counted::new(Slow { octets, calls });
     match AnySource::open(alloc, device, Some(format), 2) {
@@ -101,7 +101,7 @@ fn read_failing(alloc: Global, format: Format, octets: &[u8], calls: u64) -> [An
     }
 }
 
-/// A device that fails is told by C3 wherever it fails, and C5 comes from then on.
+/// A device that fails is reported as C3 wherever it fails, and as C5 from then on.
 #[test]
 fn a_failing_source_is_told_at_each_octet(rt: HostRuntime) {
     let want = [
@@ -120,7 +120,8 @@ fn a_failing_source_is_told_at_each_octet(rt: HostRuntime) {
     }
 }
 
-/// Whether the file of pcapng is read to its end, where it is or memory ran out.
+/// Whether the pcapng file is read to its end. `false` if memory ran out, and `None` for any other
+/// result.
 fn is_read(alloc: Global) -> Option<bool> {
     match read_failing(alloc, Format::Pcapng, &PCAPNG, u64::MAX)[0] {
         Ok(Step::End) => Some(true),
@@ -129,8 +130,8 @@ fn is_read(alloc: Global) -> Option<bool> {
     }
 }
 
-/// Whether it is read under some budgets, and memory runs out under some; `None` where anything
-/// else comes, or a budget could not be left.
+/// Whether it is read under some budgets, and memory runs out under others. `None` for any other
+/// result, or if a budget could not be left.
 fn read_short_of_memory(alloc: Global) -> Option<[bool; 2]> {
     let mut shortage = Shortage::new(alloc).ok()?;
     let mut was = [false; 2];
@@ -145,20 +146,20 @@ fn read_short_of_memory(alloc: Global) -> Option<[bool; 2]> {
     Some(was)
 }
 
-/// Each allocation that fails is told by C4, be it for the list of interfaces or for a frame.
+/// Each allocation that fails is reported as C4, for the list of interfaces and for a frame.
 #[test]
 fn memory_that_ends_is_told(rt: HostRuntime) {
     assert!(rt; read_short_of_memory(rt.alloc()) == Some([true, true]));
 }
 
-/// What a sink answers to a start, an interface and a frame, up to the first fault.
+/// The results of a sink for a start, an interface and a frame, up to the first fault.
 fn write_file<S: RecordSink>(sink: &mut S, name: &str, frame: &[u8]) -> Result<(), PutFault> {
     sink.start()?;
     sink.add_interface(name)?;
     sink.put_frame(0, Stamp::of_millis(5), frame)
 }
 
-/// What is answered to a file in this format, and to one more frame, on a device that takes so many
+/// The results of a file in this format, and of one more frame, on a device that takes this many
 /// octets.
 fn write_failing(format: Format, calls: u64, errs: bool) -> [Result<(), PutFault>; 2] {
     let mut sink = AnySink::new(Counted::new(Slot { calls, errs }), format);
@@ -168,8 +169,8 @@ fn write_failing(format: Format, calls: u64, errs: bool) -> [Result<(), PutFault
     ]
 }
 
-/// A device that is full is told wherever it is, by an error or by taking nothing; the file answers
-/// that it failed from then on.
+/// A device that is full at any octet is reported, if it returns an error and if it takes nothing.
+/// From then on the file returns that it failed.
 #[test]
 fn a_full_device_is_told_at_each_octet(rt: HostRuntime) {
     for (format, size) in [
@@ -190,8 +191,8 @@ fn a_full_device_is_told_at_each_octet(rt: HostRuntime) {
     }
 }
 
-/// What is answered to a frame of so many octets in a file of pcapng with an interface of no name,
-/// or with none.
+/// The result of a frame of this many octets in a pcapng file, with an interface without a name or
+/// without an interface.
 fn write_long(alloc: Global, size: usize, has_interface: bool) -> Option<Result<(), PutFault>> {
     let frame = Vec::from_elem(alloc, 7, size).ok()?;
     let device = Slot {
@@ -206,7 +207,7 @@ fn write_long(alloc: Global, size: usize, has_interface: bool) -> Option<Result<
     })
 }
 
-/// A frame of no interface isn't written; 262144 octets are at most.
+/// A frame without an interface isn't written, nor one of more than 262144 octets.
 #[test]
 fn frames_without_a_place(rt: HostRuntime) {
     for (size, has_interface, want) in [
@@ -221,7 +222,7 @@ fn frames_without_a_place(rt: HostRuntime) {
     }
 }
 
-/// `failures` tells the failed calls of a reader and of a writer, from none on.
+/// `failures` returns the number of failed calls of a reader and of a writer, from 0 on.
 #[test]
 fn failures_are_counted(rt: HostRuntime) {
     let octets = b"abc".as_slice();

@@ -29,7 +29,7 @@ pub(crate) fn heard(
     Some(Heard::new(vector, number))
 }
 
-/// What becomes of a packet.
+/// The outcome of a packet.
 pub(crate) fn accept<S: LocationStore>(
     store: &mut S,
     now: u64,

@@ -4,8 +4,8 @@
 ghost use Rattle.std.specs.Prelude.{◌≤◌, ◌^◌};
 
 use crate::table::fixtures::{accept, store_of};
-use its_forwarding::{Choice, choose, choose_and_keep};
-use its_geometry::Area;
+use its_forwarding::{Choice, choose, choose_outside};
+use its_geometry::{Area, contains};
 use its_gnvalue::{GnAddress, LongPv, Mac, NoMemory, Place};
 use its_loctable::{
     Heard, Known, LocationStore, NearestSearch, OrderedTable, Piece, SortedTable, StoreRefused,
@@ -211,11 +211,16 @@ fn choice<S: LocationStore>(store: &S, now: u64, area: &Area) -> Option<Choice>
     Some(choose(store, now, place_at(0)?, area, None))
 }
 
-/// The same, where the table keeps the nearest neighbour.
+/// To whom a packet for an area goes from the origin, which the area doesn't hold. The table keeps the
+/// nearest neighbour.
 fn kept_choice<S: LocationStore>(store: &mut S, now: u64, area: &Area) -> Option<Choice>
     requires { now ≤ 2 ^ 62 }
 {
-    Some(choose_and_keep(store, now, place_at(0)?, area, None))
+    let own = place_at(0)?;
+    if contains(area, own) {
+        return None;
+    }
+    Some(choose_outside(store, now, own, area, None))
 }
 
 /// How many pieces of neighbours two choices for an area elsewhere asked for: over a table with no

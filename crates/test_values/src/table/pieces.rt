@@ -129,12 +129,12 @@ fn is_walked<S: LocationStore>(alloc: Global, count: u16) -> Option<bool> {
     Some(false)
 }
 
-/// A moment, the neighbour above which a piece is filled, or the address above it, and the indices
-/// that the piece holds then: from one up to another, without one.
+/// A time, the address above which a piece is filled, and the indices that the piece then holds:
+/// from the first up to the second, without the third.
 type Filling = (u64, Option<GnAddress>, (u16, u16, u16));
 
-/// A neighbour that has expired is passed over, and the piece filled up with the next; above a
-/// neighbour stand those behind it, and above an address of no neighbour too.
+/// Whether an expired neighbour is skipped, and the next one fills the piece. Above an address are
+/// the neighbours that follow it, whether or not it is that of a neighbour.
 fn is_passed_over<S: LocationStore>(alloc: Global) -> Option<bool> {
     let store = table_of::<S>(alloc, 40, 5)?;
     let fillings: [Filling; 4] = [
@@ -168,7 +168,7 @@ fn walks_by_pieces_over_both_tables(rt: HostRuntime) {
     assert_eq!(rt; (ordered, sorted), (Some(true), Some(true)));
 }
 
-/// A table of so many neighbours at one place, but for two, which stand nearer.
+/// A table of `count` neighbours at one position, except for two, which are nearer.
 fn near_two<S: LocationStore>(alloc: Global, count: u16, first: u16, second: u16) -> Option<S> {
     let mut store = store_of(alloc, 100, 1)?;
     for index in 0..count {
@@ -185,8 +185,8 @@ fn near_two<S: LocationStore>(alloc: Global, count: u16, first: u16, second: u16
     Some(store)
 }
 
-/// Of so many neighbours two stand nearer, and equally near: whether the first of them is taken, in
-/// whichever piece either stands.
+/// Whether the first of two nearer neighbours, which are equally near, is chosen among `count`, in
+/// whichever pieces they are.
 fn is_nearer<S: LocationStore>(alloc: Global, count: u16, first: u16, second: u16) -> Option<bool> {
     let store = near_two::<S>(alloc, count, first, second)?;
     let area = Area::circle(Place::new(0, 100_000).ok()?, 10).ok()?;
@@ -194,7 +194,7 @@ fn is_nearer<S: LocationStore>(alloc: Global, count: u16, first: u16, second: u1
     Some(found == Choice::To(address_of(first)?.mid()))
 }
 
-/// How many neighbours there are, and which two stand nearer.
+/// How many neighbours there are, and which two are nearer.
 static NEARER_TWO: [(u16, u16, u16); 10] = [
     (31, 0, 30),
     (31, 30, NONE),
@@ -221,8 +221,7 @@ fn choices_by_pieces_over_both_tables(rt: HostRuntime) {
     }
 }
 
-/// Of several places the first of the nearest counts, and of those that come later only nearer
-/// ones.
+/// The first of the nearest positions counts. Later positions count only if they are nearer.
 fn nearest() -> Option<[Option<usize>; 4]> {
     let (far, near) = (Place::new(0, 3000).ok()?, Place::new(0, 2000).ok()?);
     let (as_near, nearest) = (Place::new(0, -2000).ok()?, Place::new(0, 1000).ok()?);

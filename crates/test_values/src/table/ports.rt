@@ -25,7 +25,7 @@ fn a_header_is_split_and_joined(rt: HostRuntime) {
     assert!(rt; out == [0xff, 0xff, 0, 0, b'f', b'o', b'u', b'r']);
 }
 
-/// What is done with ports, or asked of them, and what comes of it.
+/// A call on ports, with its expected result.
 #[derive(Clone, Copy)]
 enum Row {
     Open(u16, Result<(), PortFault>),

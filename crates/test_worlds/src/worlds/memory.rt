@@ -1,4 +1,4 @@
-//! A world that is made, and run, with budgets of memory from none to enough. A run goes on once
+//! A world that is made, and run, with budgets of memory from none to enough. A run can go on when
 //! there is more.
 
 ghost use Rattle.std.specs.Prelude.{◌≤◌, All, IfOk, length};
@@ -11,10 +11,10 @@ use std::process::Abort;
 use std::test::Fail;
 use test_support::{FIRST, GEOBROADCAST, RELAYED, SECOND, Shortage};
 
-/// What comes of the events.
+/// The outcomes of the events.
 static FATES: [Fate; 3] = [Fate::Opened, Fate::Sent(0), Fate::Relayed(1)];
 
-/// How many budgets are tried at most, and how far they lie apart, in octets.
+/// How many budgets are tried at most, and how far they are apart, in octets.
 const BUDGETS: usize = 400;
 
 const APART: usize = 32;
@@ -43,14 +43,14 @@ fn frames_at_the_end(alloc: Global) -> Result<Frames, Fail> {
     })
 }
 
-/// A world that may have stopped short of the last event, and what it told until then.
+/// A world that may have stopped before the last event, and its entries up to then.
 #[derive(Drop)]
 struct PartialRun {
     world: World,
     run: Run,
 }
 
-/// A world that was made with ample memory, and run with so many octets, which are free again
+/// Makes a world with ample memory, and runs it with this many octets, which are free again
 /// afterwards.
 fn run_short(
     rt: &impl Abort,
@@ -154,7 +154,8 @@ fn done_with(
     Ok(done)
 }
 
-/// The same of a world that is made with them too; `None` where they were too few to make it.
+/// Makes and runs a world with this many octets, and then goes on. Returns how many events were
+/// done before. `None` if the octets were too few to make the world.
 fn made_and_done_with(
     rt: &impl Abort,
     alloc: Global,
@@ -173,7 +174,7 @@ fn made_and_done_with(
     Ok(Some(done))
 }
 
-/// Some budgets end the run before each of the events, and the last one has room for all.
+/// Some budgets end the run before each of the events, and the last one is enough for all.
 #[test]
 fn a_world_runs_short_of_memory(rt: HostRuntime) -> Result<(), Fail> {
     let alloc = rt.alloc();

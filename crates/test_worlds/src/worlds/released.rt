@@ -1,4 +1,4 @@
-//! Frames that are let go: the others keep their numbers and octets.
+//! Frames that are released. The others keep their numbers and octets.
 
 use super::{Fate, config, deliver, fate_in, new_world, open, run, send};
 use its_world::{EntryFault, World};
@@ -13,7 +13,7 @@ fn release(world: &mut World, before: usize) {
 }
 
 /// What is done in a world: the first station sends, a frame is delivered to the second one, or the
-/// frames before a number are let go.
+/// frames before a number are released.
 #[derive(Clone, Copy)]
 enum Doing {
     Send,
@@ -21,7 +21,7 @@ enum Doing {
     Release(usize),
 }
 
-/// What comes of it; nothing where frames are let go.
+/// Does it, and returns the outcome. `None` for a release of frames.
 fn fate_of_doing(world: &mut World, alloc: Global, doing: Doing) -> Result<Option<Fate>, Fail> {
     let event = match doing {
         Doing::Send => send(alloc)?,
@@ -34,7 +34,7 @@ fn fate_of_doing(world: &mut World, alloc: Global, doing: Doing) -> Result<Optio
     Ok(fate_in(world, event))
 }
 
-/// What is done, what comes of it, and how many frames were let go and were given then.
+/// What is done, its outcome, and how many frames were released and were sent by then.
 static ROWS: [(Doing, Option<Fate>, usize, usize); 10] = [
     (Doing::Send, Some(Fate::Sent(0)), 0, 1),
     (Doing::Send, Some(Fate::Sent(1)), 0, 2),
@@ -77,20 +77,20 @@ fn pair(alloc: Global) -> Result<World, Fail> {
     Ok(world)
 }
 
-/// A frame that was let go is refused as one that never was, and the next one is numbered behind
-/// all that were given.
+/// A frame that was released is refused like one that never existed, and the number of the next one
+/// follows those of all frames that were sent.
 #[test]
 fn frames_are_let_go(rt: HostRuntime) -> Result<(), Fail> {
     let mut world = pair(rt.alloc())?;
     expect_rows(&rt, &mut world, rt.alloc())
 }
 
-/// Whether a frame differs from the first in its sequence number alone, which is 1.
+/// Whether a frame differs from the first only in its sequence number, which is 1.
 fn is_second(frame: &[u8], first: &[u8]) -> bool {
     frame.get(26..28) == Some([0, 1].as_slice()) && frame.get(28..) == first.get(28..)
 }
 
-/// Whether the second of two frames is kept alone.
+/// Whether only the second of two frames is kept.
 fn is_second_kept(world: &World, first: &[u8]) -> bool {
     match (
         world.kept_frame(0),
@@ -104,7 +104,7 @@ fn is_second_kept(world: &World, first: &[u8]) -> bool {
     }
 }
 
-/// The octets stay of those that are kept.
+/// The octets of frames that are kept don't change.
 #[test]
 fn frames_that_are_kept(rt: HostRuntime) -> Result<(), Fail> {
     let first = hex::decode(rt.alloc(), GEOBROADCAST)?;

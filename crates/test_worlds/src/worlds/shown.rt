@@ -1,4 +1,5 @@
-//! What a world shows of its stations, and why there is none: codes and sentences.
+//! The stations that a world shows, and the codes and sentences of faults for which no world is
+//! made.
 
 use super::{config, new_world};
 use its_world::{World, WorldFault};
@@ -19,7 +20,7 @@ fn address_of(world: &World, station: usize) -> Option<u64> {
     Some(world.station(station)?.address().as_u64())
 }
 
-/// The station of a number is shown, and none where there is none.
+/// A world shows the station with a number, if there is one.
 #[test]
 fn a_world_shows_its_stations(rt: HostRuntime) -> Result<(), Fail> {
     let world = new_world(rt.alloc(), &[config(FIRST, 0, 0)?, config(SECOND, 449, 0)?])?;

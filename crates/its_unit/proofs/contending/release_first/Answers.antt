@@ -1,6 +1,6 @@
-use Rattle.std.proofs.Common.{◌≡◌, ℕ, suc, ◌-◌, Bool, true, false, Option, Some, sym, ap, ◌∙◌, subst, arith}
+use Rattle.std.proofs.Common.{◌≡◌, ℕ, suc, ◌-◌, Bool, true, false, Option, Some, sym, ap, ◌∙◌, arith}
 use Rattle.its_model.specs.Contention.{first_due}
-use Rattle.its_contention.specs.Buffer.{Buffer, after_drop, after_release}
+use Rattle.its_contention.specs.Buffer.{Buffer, after_drop}
 use Rattle.its_contention.specs.Waiting.{Waiting}
 use Rattle.its_governor.specs.declared.governor.Governor.{Governor}
 use Rattle.its_unit.specs.Contending.{Released, after_due_frame, has_room_for_due, release_first}

@@ -61,8 +61,8 @@ fn packets_of_both() -> Option<Packets> {
 }
 
 /// How many budgets of 0, 16, 32, .. octets are too small for the other source. Under each, a
-/// duplicate is told all the same where the first source is live, and all look-ups are as before;
-/// `None` where anything else comes.
+/// duplicate of a live first source is still found, and all look-ups are as before. `None` for any
+/// other result.
 fn refused_budgets<S: LocationStore>(
     shortage: &mut Shortage,
     store: &mut S,

@@ -1,4 +1,4 @@
-//! Packets and look-ups of a table as rows, each with what becomes of it. A test that is such rows
+//! Packets and look-ups of a table as rows, each with its expected result. A test made of such rows
 //! holds no table, so its own proof is short.
 
 use super::{FIRST, LookUps, Request, has_room, heard_at, look_up_all, lookup, remembers};
@@ -7,7 +7,7 @@ use its_gnvalue::GnAddress;
 use its_loctable::{Heard, LocationStore, StoreRefused, Verdict};
 use std::alloc::Global;
 
-/// What becomes of a packet.
+/// The outcome of a packet.
 type Answer = Result<Verdict, StoreRefused>;
 
 pub(super) const ACCEPTED: Answer = Ok(Verdict::Accepted);
@@ -19,18 +19,18 @@ pub(super) const FULL: Answer = Err(StoreRefused::Full);
 /// Numbers from the first up to the second, without that.
 pub(super) type Range = (u16, u16);
 
-/// A row: a moment, sources, counted from the first, and what becomes of their packets or is
-/// answered of them.
+/// A row: a time, sources, counted from the first, and the expected result of their packets or
+/// look-ups.
 #[derive(Clone, Copy)]
 pub(super) enum Row {
-    /// A packet of a source, a GBC where there is a number, else a BEACON.
+    /// A packet of a source: a GBC if there is a number, and a BEACON otherwise.
     Packet(u32, u16, Option<u16>, Answer),
     /// A packet of each of these sources, in order.
     Sources(u32, Range, Option<u16>, Answer),
     /// A packet with each of these numbers of a source.
     Numbers(u32, u16, Range, Answer),
-    /// Of each of these numbers a packet with it of one source and, with that greater by 1000, of
-    /// the next. All are accepted.
+    /// For each of these numbers, a packet of one source with it, and a packet of the next source
+    /// with it plus 1000. All are accepted.
     SideBySide(u32, u16, Range),
     /// Whether a source would find room.
     HasRoom(u32, u16, bool),
@@ -56,7 +56,7 @@ fn address_of(source: u16) -> Option<GnAddress> {
     GnAddress::from_u64(FIRST + u64::from(source)).ok()
 }
 
-/// Whether this becomes of a packet.
+/// Whether a packet has this outcome.
 fn is_answered<S: LocationStore>(
     store: &mut S,
     now: u32,

@@ -1,4 +1,5 @@
-//! Worked rows: each becomes of a table in order of addresses and of one in a map.
+//! Worked rows: their results are expected of a table in the order of addresses and of one in a
+//! map.
 
 use super::rows::Row::{
     AllRemember, Capacity, Clear, HasRoom, Nobody, Numbers, Packet, Remembers, SideBySide, Sources,
@@ -8,10 +9,10 @@ use super::rows::{ACCEPTED, DUPLICATE, FULL, Row, first_other_of};
 use its_loctable::{OrderedTable, SortedTable};
 use std::test::Fail;
 
-/// A capacity, how many numbers are remembered, and the rows.
+/// A capacity, the length of the duplicate packet list, and the rows.
 type Worked = (u16, u8, &'static [Row]);
 
-/// In a table with one place, the first source keeps it until it expires.
+/// In a table with one entry, the first source keeps it until it expires.
 const ONE_PLACE: &[Row] = &[
     Packet(1000, 0, Some(0), ACCEPTED),
     HasRoom(2000, 2, false),
@@ -92,8 +93,8 @@ const CLEARED: &[Row] = &[
     Packet(1013, 1, None, FULL),
 ];
 
-/// A source whose numbers begin anew: the one that is remembered is a duplicate, another is
-/// accepted.
+/// A source whose numbers begin again: a number that is remembered is a duplicate, and another one
+/// is accepted.
 const RESTARTED: &[Row] = &[
     Packet(1010, 0, Some(0), ACCEPTED),
     Packet(1040, 0, Some(0), DUPLICATE),

@@ -23,13 +23,13 @@ fn padded(alloc: Global, digits: &str, length: usize) -> Result<Vec<u8>, Fail> {
 /// Target, source and type of frame 0.
 static LINK: &str = "ffffffffffff0200000000018947";
 
-/// A frame to another station with the longest payload, up to where that is only 0.
+/// A frame to another station with the longest payload. The zeros of the payload are left out.
 static LONGEST: &str =
     "020000000009020000000001894711001a0a2040008005760a00000000001400020000000001\
     0000000000000000000000000000000000000000000000000064";
 
-/// Of a datagram of this length the mesh printed this entry, between the lines of the events. It
-/// ended well, and told nothing else.
+/// Checks that the mesh printed this entry for a datagram of this length, between the lines of the
+/// events, that it succeeded, and that it reported nothing else.
 fn is_told_between(
     rt: &impl Abort,
     alloc: Global,

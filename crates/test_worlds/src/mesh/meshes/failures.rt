@@ -1,4 +1,4 @@
-//! Sockets that fail, and scenarios for which none is made.
+//! Sockets that fail, and scenarios for which no socket is made.
 
 use super::{BEFORE, DELIVER, LINES, OPEN, SEND, STATIONS, left_of, scenario};
 use crate::mesh::scripted::{Scripted, Trouble};
@@ -7,14 +7,14 @@ use cmd_reporting::Status;
 use std::alloc::{AllocError, Global};
 use std::test::Fail;
 
-/// Frame 0 came to station 1, and its relay wasn't sent.
+/// The lines if station 1 received frame 0, and its forwarded frame wasn't sent.
 const NOT_RELAYED: &str =
     "0 1 opened\n1000 0 sent 0\n1000 1 accepted port 2002 info 0 6869 sent 1\n";
 
-/// Calls of sockets, from one up to another, the trouble that one of them meets, what is told then,
-/// and the lines that are printed: two sockets are made, each is asked four times after the first
-/// event, frame 0 is sent, and so on. A send that would block is a failed one; a receive that would
-/// block is none. No memory for a socket is told apart. The call after the last is never made.
+/// A range of socket calls, the trouble that one of them meets, the report of it, and the lines
+/// that are printed. Two sockets are made, each is asked four times after the first event, frame 0
+/// is sent, and so on. A send that would block counts as failed, and a receive that would block
+/// does not. Out of memory for a socket has its own report. The call after the last is never made.
 static TROUBLES: [(u32, u32, Trouble, &str, &str); 15] = [
     (0, 1, Trouble::Failed, "station 0: no socket", ""),
     (1, 2, Trouble::Failed, "station 1: no socket", ""),
