@@ -36,6 +36,9 @@ WAITING = 16_384  # so many records wait at most
 UNREAD = 65_536  # so many records that are not read are kept
 DOUBTFUL = 200  # packets that were never received
 SENT = 400_000  # own packets of the capture that is judged for its memory
+STORM = 12_000  # packets of one number
+OTHERS = 64  # for so many other frames of its number the copies of a packet are looked at
+NEAR_OCTETS = 1 << 22  # so many octets of heard packets are kept
 MOST_KIB = 64 * 1024
 QUIET = 30_000  # ms after which nothing of before is doubtful any more
 
@@ -145,7 +148,53 @@ def check_hidden(folder: Path) -> int:
     return len(records)
 
 
+def check_owed(folder: Path, frames: list[Sent], wanted: list[tuple[int, str]]) -> int:
+    """Of these records, and of no others, it is judged whether they were forwarded."""
+    capture = folder / "owed.pcap"
+    write_pcap(capture, [(BEGIN + sent.at, sent.frame()) for sent in frames])
+    lines = judge(folder, capture, claims_with(0), (0, 1))[1:-1]
+    found = [(line["record"], line["result"]) for line in lines if line["duty"] == "D20"]
+    if found != wanted:
+        sys.exit(f"owed among {len(frames)} records: expected {wanted}, got {found[:9]}")
+    return len(frames)
+
+
+def check_storm(folder: Path) -> int:
+    """A number that comes again and again: only the first packet is owed, and then the next number."""
+    first, last, end = gbc(QUIET, NEAR, 1), gbc(2 * QUIET, NEAR, 2), beacon(3 * QUIET, FAR)
+    again = [replace(first, at=QUIET + n // 100) for n in range(STORM)]
+    frames = [beacon(0, FAR), first, *again, last, end]
+    return check_owed(folder, frames, [(1, "fail"), (STORM + 2, "fail")])
+
+
+def check_given_way(folder: Path) -> int:
+    """So many large packets come after a packet that it isn't kept any more. Then its number comes
+    again, and isn't new. The next number is judged as usual."""
+    first, last = gbc(QUIET, NEAR, 1), gbc(2 * QUIET, NEAR, 2)
+    size = 1_000
+    large = replace(gbc(QUIET + 1, FAR, 0).packet, hops=1, payload=bytes(size))
+    others = [
+        replace(gbc(QUIET + 1, FAR, 0), packet=replace(large, number=number))
+        for number in range(NEAR_OCTETS // size)
+    ]
+    again, end = replace(first, at=QUIET + 2), beacon(3 * QUIET, FAR)
+    frames = [beacon(0, FAR), first, *others, again, last, end]
+    return check_owed(folder, frames, [(1, "inconclusive"), (len(others) + 3, "fail")])
+
+
+def check_others(folder: Path) -> int:
+    """The station sends other packets of a number, as many as its copies are looked at for and one
+    more, before it forwards the packet. So it is no doubt forwarded."""
+    first, end = gbc(QUIET, NEAR, 1), beacon(2 * QUIET, FAR)
+    other = replace(first, packet=replace(first.packet, payload=b"fog"))
+    frames = [beacon(0, FAR), first, *[relay(other, 2)] * (OTHERS + 1), relay(first, 3), end]
+    return check_owed(folder, frames, [(1, "pass")]) + check_owed(
+        folder, [*frames[:-2], end], [(1, "inconclusive")]
+    )
+
+
 def check_crowds(folder: Path) -> int:
     """Returns how many records there are."""
     crowds = check_crowd(folder, 0) + check_crowd(folder, 1) + check_memory(folder)
-    return crowds + check_again(folder) + check_hidden(folder)
+    forward = check_storm(folder) + check_given_way(folder) + check_others(folder)
+    return crowds + check_again(folder) + check_hidden(folder) + forward

@@ -1,4 +1,4 @@
-//! The frame of a record, of the profile or outside of it.
+//! The frame of a record, in the profile or outside it.
 
 ghost use Rattle.std.specs.Prelude.{◌≡◌, ◌≤◌, ◌+◌, IfErr, IfNone, IfOk, IfSome, false, length, drop};
 ghost use Rattle.its_linkframe.specs.Secured.{EncodesVerified, IsVerifiedFault, Verified};
@@ -16,8 +16,8 @@ use crate::signed::{
 use cap_pcap::{LinkLayer, RecordHeader, frame_start};
 use its_linkframe::{SecuredFault, VerifiedFrame};
 
-/// Finds the frame of a record, of the profile or outside of it. With `signed`, of a secured one the
-/// inner frame, which is put together among the octets.
+/// Finds the frame of a record, in the profile or outside it. With `signed`, finds the inner frame
+/// of a secured frame, which is put together among the octets.
 ///
 /// - `found`: the frame, and where it is (`IsAnyFound`).
 /// - `fault`: otherwise the first fault (`IsFaultOfAll`): the one by which a station refuses it.
@@ -62,8 +62,8 @@ fn any_unsecured(layer: LinkLayer, octets: &Vec<u8>, start: usize) -> Result<Fou
     }
 }
 
-/// Finds the inner frame of the secured one that begins at this octet, and puts it together among the
-/// octets.
+/// Finds the inner frame of the secured frame that begins at this octet, and puts it together among
+/// the octets.
 fn any_inside(octets: &mut Vec<u8>, start: usize) -> Result<Found, RecordFault>
     requires { start ≤ length octets.old.items }
     ensures found { IfOk result (IsAnyInner (drop start octets.old.items) octets.new.items) }
@@ -92,7 +92,8 @@ fn any_inside(octets: &mut Vec<u8>, start: usize) -> Result<Found, RecordFault>
     }
 }
 
-/// Why the plain part of a secured frame is no packet of the profile. `None` if it is one.
+/// Returns why the plain part of a secured frame is not a packet of the profile. `None` if it is
+/// one.
 fn fault_inside(frame: &[u8], plain: PlainPart) -> Option<SecuredFault>
     requires { plain.start + plain.length ≤ length frame.now }
     ensures none { IfNone result ((v : Verified)

@@ -1,4 +1,4 @@
-//! Which records of a capture a command is over.
+//! Selects records of a capture by their frames and times.
 
 ghost use Rattle.std.specs.Prelude.{◌≡◌, ◌<◌, ◌^◌, ℕ, IsTrue, Option, Some, false, true};
 ghost use Rattle.its_linkframe.specs.Frames.{transmission_of};
@@ -16,7 +16,7 @@ use its_headers::Kind;
 use its_linkframe::FrameView;
 use its_outside::StandardKind;
 
-/// The kinds of packet that are chosen.
+/// The kinds of packet that are selected.
 #[derive(Clone, Copy, Debug, PartialEq, Eq)]
 pub struct Kinds {
     /// Beacons.
@@ -38,7 +38,7 @@ pub struct Kinds {
 }
 
 impl Kinds {
-    /// No kind.
+    /// Returns a set without any kind.
     pub fn none() -> Kinds
         ensures { result ≡ no_kinds }
     {
@@ -54,7 +54,7 @@ impl Kinds {
         }
     }
 
-    /// Whether a kind is one of them.
+    /// Whether the set has this kind.
     pub fn has(self, kind: StandardKind) -> bool
         ensures { result ≡ has_kind self kind }
     {
@@ -71,7 +71,7 @@ impl Kinds {
     }
 }
 
-/// The kind of the standard that a kind of the profile is.
+/// Returns the kind of the standard for a kind of the profile.
 pub fn kind_of_standard(kind: Kind) -> StandardKind
     ensures { result ≡ standard_kind kind }
 {
@@ -83,62 +83,62 @@ pub fn kind_of_standard(kind: Kind) -> StandardKind
     }
 }
 
-/// What a frame is chosen by.
+/// What a frame is selected by.
 #[derive(Clone, Copy, Debug, PartialEq, Eq)]
 pub struct Traits {
     /// The kind of its packet.
     pub kind: StandardKind,
     /// The address of the packet's source. Outside the profile it may have the MID of a group.
     pub source: u64,
-    /// The link address that it comes from.
+    /// The link address of its sender.
     pub from: Mac,
-    /// The link address that it goes to.
+    /// The link address that it is sent to.
     pub to: Mac,
-    /// The destination port, where the packet has one.
+    /// The destination port, if the packet has one.
     pub port: Option<u16>,
     /// The remaining hop limit (RHL).
     pub left: u8,
     /// The traffic class (TC).
     pub class: u8,
-    /// The sequence number, where the packet has one.
+    /// The sequence number, if the packet has one.
     pub number: Option<u16>,
-    /// The destination area, where the packet has one whose values are in range.
+    /// The destination area, if the packet has one whose values are in range.
     pub area: Option<Area>,
 }
 
-/// Which records are chosen: those of which all holds that is given.
+/// Which records are selected: those that meet all that is given.
 #[derive(Clone, Copy, Debug, PartialEq, Eq)]
 pub struct Choice {
-    /// Frames of these kinds.
+    /// Frames whose packets are of these kinds.
     pub kinds: Option<Kinds>,
-    /// Frames of this source.
+    /// Frames whose packets have this source.
     pub source: Option<GnAddress>,
     /// Frames from this link address.
     pub from: Option<Mac>,
     /// Frames to this port.
     pub port: Option<u16>,
-    /// Records of which all these conditions hold.
+    /// Records that meet all these conditions.
     pub all: Conditions,
-    /// Records of which one of these conditions holds, if there are any.
+    /// Records that meet at least one of these conditions, if there are any.
     pub any: Conditions,
-    /// Records of which none of these conditions holds.
+    /// Records that meet none of these conditions.
     pub leaves_out: Conditions,
-    /// Records of this moment in milliseconds and later.
+    /// Records of this time in milliseconds and later.
     pub since: u64,
-    /// Records of this moment in milliseconds and before.
+    /// Records of this time in milliseconds and earlier.
     pub until: u64,
-    /// Refused records alone.
+    /// Only rejected records.
     pub refused: bool,
     /// Only records of GeoNetworking: those of another protocol or of a link layer that is not read
     /// are skipped.
     pub skips_others: bool,
-    /// Whether a frame outside the profile, which the standard lays out, is one like others.
-    /// Otherwise its record is refused.
+    /// Whether a frame that the standard defines outside the profile is treated as other frames
+    /// are. Otherwise its record is rejected.
     pub all_kinds: bool,
 }
 
 impl Choice {
-    /// All records.
+    /// Returns the choice of all records.
     pub fn all() -> Choice
         ensures { (moment : ℕ) → (frame : Option Traits) → moment < 2 ^ 64
             → chosen result moment frame ≡ true }
@@ -159,7 +159,7 @@ impl Choice {
         }
     }
 
-    /// Whether a record of this moment is chosen: one that is refused, and so is no frame, has no
+    /// Whether a record of this time is selected. A rejected record has no frame, so it has no
     /// kind, source, link address or port.
     pub fn is_chosen(&self, moment: u64, frame: Option<Traits>) -> bool
         ensures { result ≡ chosen self.now moment frame }
@@ -192,16 +192,16 @@ impl Choice {
         self.all.is_empty() && self.any.is_empty() && self.leaves_out.is_empty()
     }
 
-    /// Whether a record of this moment is chosen, of which this is said beside its frame: that it is
-    /// of another protocol than GeoNetworking, or of a link layer that is not read.
+    /// Whether a record of this time with this frame is selected. `is_other` says that it is of
+    /// another protocol than GeoNetworking, or of a link layer that is not read.
     pub fn selects(&self, moment: u64, frame: Option<Traits>, is_other: bool) -> bool
         ensures { result ≡ selects self.now moment frame is_other }
     {
         !(self.skips_others && is_other) && self.is_chosen(moment, frame)
     }
 
-    /// Whether a record of this moment is selected, which has this frame. Only what is asked for is
-    /// read of the frame.
+    /// Whether a record of this time with this frame is selected. Only the fields that are asked
+    /// for are read from the frame.
     pub(crate) fn selects_frame(&self, moment: u64, frame: &FrameView<'_>) -> bool
         ensures { result
             ≡ selects self.now moment (Some (traits_in (transmission_of frame.now))) false }
@@ -221,7 +221,7 @@ impl Choice {
         self.has_no_conditions() || self.meets_lists(&Some(traits_of(frame)))
     }
 
-    /// Whether all holds of this frame that is asked of frames.
+    /// Whether this frame meets all that is asked of frames.
     fn holds_of(&self, frame: &FrameView<'_>) -> bool
         ensures { result ≡ all_holds self.now (traits_in (transmission_of frame.now)) }
     {
@@ -250,7 +250,7 @@ impl Choice {
         }
     }
 
-    /// Whether all holds of a frame that is asked of frames.
+    /// Whether a frame with these traits meets all that is asked of frames.
     fn holds(&self, frame: &Traits) -> bool
         ensures { result ≡ all_holds self.now frame.now }
     {

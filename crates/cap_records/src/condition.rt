@@ -1,4 +1,4 @@
-//! Conditions on the frame of a record, of which all, some or none have to hold.
+//! Conditions on the frame of a record. A list of them asks that all, some or none hold.
 
 ghost use Rattle.std.specs.Prelude.{◌≡◌, ◌==◌, ◌++◌, ◌∷◌, [], IfNone, IfSome, length};
 ghost use Rattle.std.specs.List.{list_all, list_any};
@@ -19,9 +19,9 @@ pub enum Condition {
     Kind(Kinds),
     /// Its packet has this source GN address.
     Source(u64),
-    /// Its frame comes from this link address.
+    /// Its frame was sent from this link address.
     From(Mac),
-    /// Its frame goes to this link address.
+    /// Its frame was sent to this link address.
     To(Mac),
     /// Its packet is for this destination port.
     Port(u16),
@@ -31,15 +31,15 @@ pub enum Condition {
     Class(u8),
     /// Its packet has a sequence number from the first of these to the second.
     Number(u16, u16),
-    /// Its packet has a destination area that contains this place. The border is inside.
+    /// Its packet has a destination area that contains this position. The border is inside.
     Area(Place),
     /// It is rejected, and so has no frame.
     Refused,
 }
 
 impl Condition {
-    /// Whether the condition holds of a record with this frame, or with none. A rejected record has
-    /// none, and only `Refused` holds of it.
+    /// Whether the condition holds for a record with this frame, or without one. A rejected record
+    /// has no frame, and only `Refused` holds for it.
     pub fn holds(&self, frame: &Option<Traits>) -> bool
         ensures { result ≡ meets self.now frame.now }
     {
@@ -76,7 +76,7 @@ fn is_between(least: u16, most: u16, number: u16) -> bool
     least <= number && number <= most
 }
 
-/// Whether there is a number, which is in a range.
+/// Whether there is a number, and it is in a range.
 fn is_number_between(least: u16, most: u16, number: Option<u16>) -> bool
     ensures { result ≡ is_number_between least most number }
 {
@@ -86,7 +86,7 @@ fn is_number_between(least: u16, most: u16, number: Option<u16>) -> bool
     }
 }
 
-/// Whether there is an area that contains a place.
+/// Whether there is an area, and it contains this position.
 fn has_place(place: Place, area: &Option<Area>) -> bool
     ensures { result ≡ has_place place area.now }
 {
@@ -104,7 +104,7 @@ pub struct Conditions {
 }
 
 impl Conditions {
-    /// No condition.
+    /// Returns an empty list.
     pub fn none() -> Conditions
         ensures { listed result ≡ [] }
     {
@@ -114,14 +114,14 @@ impl Conditions {
         }
     }
 
-    /// The conditions, in the order in which they were added.
+    /// Returns the conditions, in the order in which they were added.
     pub fn as_slice(&self) -> &[Condition]
         ensures { result.now ≡ listed self.now }
     {
         &self.list[..self.count.min(MOST_CONDITIONS)]
     }
 
-    /// Whether there is no condition.
+    /// Whether the list is empty.
     pub fn is_empty(&self) -> bool
         ensures { result ≡ (length (listed self.now) == 0) }
     {
@@ -142,14 +142,14 @@ impl Conditions {
         Some(())
     }
 
-    /// Whether one of the conditions holds of a record with this frame, or with none.
+    /// Whether at least one of the conditions holds for a record with this frame, or without one.
     pub fn has_one(&self, frame: &Option<Traits>) -> bool
         ensures { result ≡ list_any (λ c. meets c frame.now) (listed self.now) }
     {
         self.as_slice().iter().any(|c| c.holds(frame))
     }
 
-    /// Whether all of them hold.
+    /// Whether all conditions hold for a record with this frame, or without one.
     pub fn has_all(&self, frame: &Option<Traits>) -> bool
         ensures { result ≡ list_all (λ c. meets c frame.now) (listed self.now) }
     {

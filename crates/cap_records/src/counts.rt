@@ -9,8 +9,8 @@ pub struct RecordCounts {
     pub read: u64,
     /// How many of them are selected.
     pub chosen: u64,
-    /// How many steps are left. The number is there so that a loop ends on any source. No file
-    /// reaches its end: a step has 11 octets at least, so that many are over 2^67 octets.
+    /// How many steps are left. The count makes a loop end for any source. No file uses it up: a
+    /// step has at least 11 octets, so 2^64 steps need over 2^67 octets.
     pub left: u64,
     ghost bounded: { read + left ≤ 2 ^ 64 - 1 },
     ghost fewer: { chosen ≤ read },

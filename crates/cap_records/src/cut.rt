@@ -1,4 +1,4 @@
-//! The frame of a record that was cut, read as far as it goes.
+//! The frame of a record that was cut, read up to the cut.
 
 ghost use Rattle.std.specs.Prelude.{◌≤◌, ◌<◌, IfOk};
 ghost use Rattle.its_model.specs.Packet.{Transmission};
@@ -38,32 +38,33 @@ const AREA_ADDRESS_END: usize = 24;
 const ADDRESS_END: usize = 20;
 
 /// Where the fields of a packet for an area begin, from the payload length to the last reserved
-/// octets. Those before have an octet each, or half of one.
+/// octets. Each field before these has one octet, or half of one.
 const AREA_FIELDS: [usize; 17] = [
     LENGTH, 10, 11, 12, 14, 16, 24, 28, 32, 36, 38, 40, 44, 48, 50, 52, 54,
 ];
 
-/// Where those of another packet do.
+/// Where the same fields of other packets begin.
 const OTHER_FIELDS: [usize; 10] = [LENGTH, 10, 11, 12, 20, 24, 28, 32, 34, 36];
 
-/// The octets of a port.
+/// The size of a port, in octets.
 const PORT: usize = 2;
 
-/// The record was cut before its source's address ends.
+/// The fault of a record that was cut before the end of its source's address.
 pub(crate) const CUT: RecordFault = RecordFault::Record(cap_pcap::RecordFault::CutFrame);
 
-/// A frame of which the last octets are missing, and which was completed: its missing octets are those
-/// of a packet with places, a payload and a time stamp of 0, and so say nothing. So are those of a
-/// field that isn't wholly there.
+/// A completed frame, whose last octets were missing. The missing octets, and those of a field that
+/// is only partly there, are replaced by those of a packet whose positions, payload and time stamp
+/// are 0. So they say nothing.
 #[derive(Clone, Copy)]
 pub(crate) struct Completed {
     /// How many octets it has.
     pub(crate) length: usize,
-    /// How many of them there are, without those of such a field.
+    /// How many of these octets come from the record, without those of a field that is only partly
+    /// there.
     pub(crate) known: usize,
 }
 
-/// Completes the frame of a record that was cut, in this room. The record's octets begin with the
+/// Completes the frame of a record that was cut, in this buffer. The record's octets begin with the
 /// header of their link layer.
 ///
 /// The fault is that of the link layer's header, or P4 if the record ends before the packet begins.
@@ -87,7 +88,8 @@ pub(crate) fn complete_frame(
     Ok(Completed { length, known })
 }
 
-/// Puts the octets into the room, and 0 behind them. Returns how many there are.
+/// Copies the octets to the front of the buffer, and fills the rest with 0. Returns how many octets
+/// were copied.
 fn put_front(octets: &[u8], room: &mut [u8; LONGEST_FRAME]) -> usize
     ensures { result ≤ 1468 }
 {
@@ -97,8 +99,8 @@ fn put_front(octets: &[u8], room: &mut [u8; LONGEST_FRAME]) -> usize
     known
 }
 
-/// Puts 0 in place of the octets of a field that isn't wholly there, in a frame of which so many
-/// octets are. Returns how many there are without them.
+/// Replaces the octets of a field that is only partly there by 0, in a frame with `known` octets.
+/// Returns how many octets come before that field.
 fn clear_cut_field(room: &mut [u8; LONGEST_FRAME], known: usize) -> usize
     requires { (14 ≤ known) × (known ≤ 1468) }
     ensures { result ≤ known }
@@ -108,7 +110,7 @@ fn clear_cut_field(room: &mut [u8; LONGEST_FRAME], known: usize) -> usize
     start
 }
 
-/// Where the field begins of which this octet of a packet is one. Each octet of a payload is a field
+/// Returns where the field with this octet of a packet begins. Each octet of a payload is a field
 /// by itself.
 fn field_start(kind: u8, octet: usize) -> usize
     ensures { result ≤ octet }
@@ -124,7 +126,7 @@ fn field_start(kind: u8, octet: usize) -> usize
     start.unwrap_or(octet).min(octet)
 }
 
-/// Completes a frame of which so many octets are there, and returns its length.
+/// Completes a frame of which the first `known` octets are there, and returns its length.
 fn complete(room: &mut [u8; LONGEST_FRAME], known: usize) -> usize
     ensures { result ≤ 1468 }
 {
@@ -145,7 +147,7 @@ fn complete(room: &mut [u8; LONGEST_FRAME], known: usize) -> usize
     (PACKET + end + usize::from(payload)).min(LONGEST_FRAME)
 }
 
-/// Makes a distance one that may be, if its lower octet is missing.
+/// Makes a distance valid, if its lower octet is missing.
 fn complete_distance(room: &mut [u8; LONGEST_FRAME], known: usize, place: usize)
     requires { place < 1468 }
 {
@@ -154,18 +156,18 @@ fn complete_distance(room: &mut [u8; LONGEST_FRAME], known: usize, place: usize)
     }
 }
 
-/// A frame of which the last octets are missing, in a buffer.
+/// A completed frame in a buffer, whose last octets were missing.
 #[derive(Clone, Copy)]
 pub(crate) struct CutFrame {
     pub(crate) place: FramePlace,
-    /// What it is chosen by. A port or an area of which an octet is missing is none.
+    /// The traits by which it is selected. A port or an area that lacks an octet is left out.
     pub(crate) traits: Traits,
 }
 
-/// Reads a frame that was completed, of which so many octets are there.
+/// Reads a completed frame, whose first `known` octets were in the record.
 ///
-/// The fault is the frame's first one, if what it is of is there; P4 if the record ends before the
-/// source's address does.
+/// Returns the first fault of the frame, if the octets at fault were in the record. Returns P4 if
+/// the record ends before the end of the source's address.
 pub(crate) fn read_front(octets: &[u8], known: usize) -> Result<CutFrame, RecordFault>
     ensures { IfOk result (λ cut. (t : Transmission) × IsPlaced octets.now t cut.place) }
 {
@@ -185,7 +187,7 @@ pub(crate) fn read_front(octets: &[u8], known: usize) -> Result<CutFrame, Record
     })
 }
 
-/// Where the source's address ends in a packet of this kind.
+/// Returns where the source's address ends in a packet of this kind.
 fn address_end(kind: Kind) -> usize
     ensures { result ≤ 24 }
 {
@@ -195,7 +197,7 @@ fn address_end(kind: Kind) -> usize
     }
 }
 
-/// What a frame is chosen by of which so many octets are there.
+/// Returns the traits of a frame whose first `known` octets were in the record.
 fn known_traits(frame: &FrameView<'_>, known: usize) -> Traits {
     let traits = traits_of(frame);
     let packet = &frame.packet;
@@ -208,7 +210,7 @@ fn known_traits(frame: &FrameView<'_>, known: usize) -> Traits {
     }
 }
 
-/// Why a frame is refused of which so many octets are there.
+/// Returns why a frame is rejected whose first `known` octets were in the record.
 fn fault_in_front(fault: FrameFault, octets: &[u8], known: usize) -> RecordFault {
     let is_there = match fault {
         FrameFault::EtherType => true,

@@ -22,7 +22,7 @@ pub struct FramePlace {
 }
 
 impl FramePlace {
-    /// The octets of the frame.
+    /// Returns the octets of the frame.
     pub fn octets(self, octets: &[u8]) -> &[u8]
         requires order { self.start ≤ self.end }
         requires inside { self.end ≤ length octets.now }
@@ -31,7 +31,7 @@ impl FramePlace {
         &octets[self.start..self.end]
     }
 
-    /// The frame that is there. It was read before, and is not checked again.
+    /// Returns the frame at this position. It was read before, and is not checked again.
     pub fn view(self, octets: &[u8]) -> FrameView<'_>
         requires { (t : Transmission) × IsPlaced octets.now t self }
         ensures { EncodesFrame (transmission_of result) (octets_at self octets.now) }
@@ -45,7 +45,7 @@ impl FramePlace {
 pub struct FoundFrame {
     /// Where it is in the buffer.
     pub place: FramePlace,
-    /// What is known of the secured frame, if it is the inner frame of one.
+    /// What is known about the secured frame, if it is the inner frame of one.
     pub secured: Option<SecuredFacts>,
 }
 
@@ -56,7 +56,7 @@ pub struct FoundOutside {
     pub place: FramePlace,
     /// Why a station refuses it.
     pub fault: RecordFault,
-    /// What is known of the secured frame, if it is the inner frame of one.
+    /// What is known about the secured frame, if it is the inner frame of one.
     pub secured: Option<SecuredFacts>,
 }
 
@@ -83,7 +83,7 @@ pub enum Found {
 }
 
 impl Found {
-    /// What is known of the secured frame, if it is the inner frame of one.
+    /// What is known about the secured frame, if it is the inner frame of one.
     pub fn secured(&self) -> Option<SecuredFacts> {
         match self {
             Found::Profile(found) => found.secured,

@@ -1,4 +1,4 @@
-//! The frame of a record, or why it has none, and what it is chosen by.
+//! The frame of a record, or why it has none, and what it is selected by.
 
 ghost use Rattle.std.specs.Prelude.{◌≡◌, ◌≤◌, ℕ, List, IfOk, IfErr, None, length, drop};
 ghost use Rattle.its_linkframe.specs.Frames.{EncodesFrame, transmission_of};
@@ -15,10 +15,9 @@ use cap_pcap::{LinkLayer, RecordHeader, frame_start};
 use its_btp::split;
 use its_linkframe::{FrameView, Unpadded, read_frame, read_unpadded};
 
-/// Finds the frame of a record, or why the record is refused. Its octets are the first ones of the
-/// record, `LONGEST_RECORD` of them if there are so many. A frame that is found is put together among
-/// them: the header of its link layer is read first, and what Ethernet filled a short frame up with
-/// is left out.
+/// Finds the frame of a record, or returns why the record is rejected. The octets are the first
+/// ones of the record, at most `LONGEST_RECORD`. A frame that is found is put together among them:
+/// the header of its link layer is read first, and Ethernet's padding of a short frame is left out.
 ///
 /// - `frame`: the frame of a record (`HasFrame`), and where it is (`IsPlaced`): its link layer is
 ///   read, it wasn't cut, and its octets are that frame: in pcap and pcapng what their link layer
@@ -35,8 +34,8 @@ pub fn frame_of(head: &RecordHeader, octets: &mut Vec<u8>) -> Result<FoundFrame,
     find_on(layer, octets.as_slice(), start)
 }
 
-/// Returns the frame in octets that came from this link layer, and the octets of that frame alone:
-/// Ethernet fills short frames up. The octets are read once.
+/// Returns the frame in octets from this link layer, and only the octets of that frame: Ethernet
+/// pads short frames. The octets are read once.
 pub fn read_from(layer: LinkLayer, octets: &[u8]) -> Unpadded<'_>
     ensures octets { IsReadAs layer octets.now result.octets.now }
     ensures found { IfOk result.frame (λ v.
@@ -54,8 +53,8 @@ pub fn read_from(layer: LinkLayer, octets: &[u8]) -> Unpadded<'_>
     }
 }
 
-/// Finds the frame in what this link layer carried, which are the octets from this one on, or why
-/// they aren't a frame.
+/// Finds the frame in what this link layer carried, which begins at octet `start`, or returns why
+/// it isn't a frame.
 pub(crate) fn find_on(
     layer: LinkLayer,
     octets: &[u8],
@@ -84,7 +83,7 @@ pub(crate) fn find_on(
     }
 }
 
-/// What a frame is chosen by.
+/// Returns what a frame is selected by.
 pub fn traits_of(frame: &FrameView<'_>) -> Traits
     ensures { result ≡ traits_in (transmission_of frame.now) }
 {
@@ -101,7 +100,7 @@ pub fn traits_of(frame: &FrameView<'_>) -> Traits
     }
 }
 
-/// The destination port of a frame; a beacon has none.
+/// Returns the destination port of a frame. A beacon has none.
 pub(crate) fn port_of(frame: &FrameView<'_>) -> Option<u16>
     ensures { result ≡ port_in (transmission_of frame.now).pdu.body }
 {

@@ -1,4 +1,4 @@
-//! What is read of the records of a file for a command that looks at each frame.
+//! Reads records for a command that looks at each frame.
 
 ghost use Rattle.std.specs.Prelude.{◌≡◌, IfOk, IfSome, None, Err, Ok};
 ghost use Rattle.cap_records.specs.FoundFrames.{IsThere, ReadsFrame};
@@ -15,18 +15,18 @@ use cap_pcap::RecordHeader;
 use its_linkframe::LONGEST_FRAME;
 use std::alloc::AllocError;
 
-/// Where a record stands in its file, and what is known of it beside its frame.
+/// The position of a record in its file, and what is known about it besides its frame.
 #[derive(Clone, Copy, Debug, PartialEq, Eq)]
 pub struct RecordPlace {
     /// How many records come before it.
     pub number: u64,
-    /// Its moment, in milliseconds.
+    /// Its time, in milliseconds.
     pub moment: u64,
-    /// The nanoseconds of its time below the millisecond.
+    /// The nanoseconds of its time below a millisecond.
     pub nanos: u32,
-    /// The moment of the file's first record.
+    /// The time of the file's first record, in milliseconds.
     pub first: u64,
-    /// The nanoseconds of that below the millisecond.
+    /// The nanoseconds of that time below a millisecond.
     pub first_nanos: u32,
     /// The number of its interface, from 0.
     pub interface: u32,
@@ -34,15 +34,16 @@ pub struct RecordPlace {
     pub length: u32,
     /// What the headers of its link layer say.
     pub link: LinkFacts,
-    /// How many octets of its frame there are, if the record was cut and is read as far as it goes.
+    /// How many octets of its frame there are, if the record was cut and is read up to the cut.
     pub known: Option<usize>,
-    /// What is known of its secured frame, if it has one and that is read by its plain part.
+    /// What is known about its secured frame, if that is read by its plain part.
     pub secured: Option<SecuredFacts>,
 }
 
 impl RecordPlace {
-    /// What is known of a record that was found, before which this number of records comes. The
-    /// first record of the file has this moment and these nanoseconds below it.
+    /// Returns what is known about a record that was found, which this number of records precede.
+    /// `first` is the time of the file's first record: milliseconds, and the nanoseconds below
+    /// them.
     pub(crate) fn of(
         number: u64,
         head: &RecordHeader,
@@ -64,7 +65,7 @@ impl RecordPlace {
     }
 }
 
-/// What the headers of the link layer say, if that is one that is read.
+/// Returns what the headers of the link layer say, if that is one that is read.
 fn link_facts(head: &RecordHeader, octets: &[u8]) -> LinkFacts {
     match head.layer {
         Some(layer) => LinkFacts::of(layer, octets),
@@ -72,19 +73,19 @@ fn link_facts(head: &RecordHeader, octets: &[u8]) -> LinkFacts {
     }
 }
 
-/// What is found of a record that is selected, beside its header.
+/// What was found in a selected record, besides its header.
 #[derive(Clone, Copy, Debug, PartialEq, Eq)]
 pub struct FoundRecord {
     /// What the headers of its link layer say.
     pub link: LinkFacts,
-    /// How many octets of its frame there are, if the record was cut and is read as far as it goes.
+    /// How many octets of its frame there are, if the record was cut and is read up to the cut.
     pub known: Option<usize>,
     /// Where its frame is in the buffer, or why it has none.
     pub frame: Result<Found, RecordFault>,
 }
 
 impl FoundRecord {
-    /// What is known of its secured frame, if it has one and that is read by its plain part.
+    /// What is known about its secured frame, if that is read by its plain part.
     fn secured(&self) -> Option<SecuredFacts> {
         match &self.frame {
             Ok(found) => found.secured(),
@@ -96,7 +97,7 @@ impl FoundRecord {
 /// Reads the frame of each record that is selected, in the buffer.
 #[derive(Drop)]
 pub struct FrameReader {
-    /// The moment of the first record, and the nanoseconds below it.
+    /// The time of the first record: milliseconds, and the nanoseconds below them.
     first: Option<(u64, u32)>,
     /// Where a frame that was cut is completed.
     room: [u8; LONGEST_FRAME],
@@ -111,13 +112,14 @@ impl FrameReader {
         }
     }
 
-    /// The moment of the first record, and the nanoseconds below it. Before any, those of this one.
+    /// Returns the time of the first record: milliseconds, and the nanoseconds below them. Before
+    /// any record was read, returns the time of this one.
     pub(crate) fn first(&self, head: &RecordHeader) -> (u64, u32) {
         self.first.unwrap_or((head.moment, head.fine.nanos))
     }
 
-    /// Reads the frame of a record that was cut, as far as it goes. Where secured frames are read by
-    /// their plain part, one that was cut isn't read.
+    /// Reads the frame of a record that was cut, up to the cut. If secured frames are read by their
+    /// plain part, a cut secured frame isn't read.
     fn read_cut(
         &mut self,
         selection: &Selection,
@@ -145,7 +147,7 @@ impl FrameReader {
     }
 }
 
-/// A record of this moment that was cut and has this frame, of which so many octets are there, if it
+/// Returns a cut record of this time with this frame, whose first `known` octets are there, if it
 /// is selected.
 fn known_part(
     selection: &Selection,
@@ -170,7 +172,7 @@ fn known_part(
     })
 }
 
-/// A record of this moment that was cut and is refused, if it is selected.
+/// Returns a cut record of this time that is rejected, if it is selected.
 fn refused(
     selection: &Selection,
     moment: u64,
@@ -220,7 +222,7 @@ impl RecordReader for FrameReader {
     }
 }
 
-/// Whether the record is of a link layer that is read, and was cut.
+/// Whether the link layer of the record is one that is read, and the record was cut.
 fn is_cut(head: &RecordHeader) -> bool {
     head.fault() == Some(cap_pcap::RecordFault::CutFrame)
 }

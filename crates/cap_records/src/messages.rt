@@ -1,5 +1,5 @@
-//! Messages of secured packets (IEEE 1609.2), read as far as the header info: the plain part, and what
-//! is said of it. No signature is verified.
+//! Messages of secured packets (IEEE 1609.2), read up to the header info: the plain part, and what
+//! is said about it. No signature is verified.
 
 mod cursor;
 mod fault;

@@ -1,4 +1,4 @@
-//! Frames that the standard lays out (EN 302 636-4-1 clause 9) and the profile doesn't have.
+//! Frames that the standard defines (EN 302 636-4-1 clause 9) and the profile does not support.
 
 ghost use Rattle.std.specs.Prelude.{◌≡◌, ◌≤◌, ◌+◌, ◌↔◌, All, false, IfNone, IfSome, IsFalse, IsTrue, length, take, drop};
 ghost use Rattle.byteorder.specs.Endian.{big_number};
@@ -18,7 +18,7 @@ use its_gnvalue::{Mac, Place};
 use its_linkframe::PACKET;
 use its_outside::{AreaFields, BtpHeader, ExtendedFields, Fields, OutsidePacket, btp_header};
 
-/// Octets of a frame: its target, its source and its type.
+/// Positions in a frame: its target, its source and its type.
 const TARGET: usize = 0;
 
 const SOURCE: usize = 6;
@@ -30,15 +30,15 @@ const TYPE_HIGH: u8 = 0x89;
 
 const TYPE_LOW: u8 = 0x47;
 
-/// The most octets of a frame that Ethernet fills up.
+/// The length to which Ethernet pads short frames.
 const SHORTEST: usize = 60;
 
-/// A frame that the standard lays out and the profile doesn't have.
+/// A frame that the standard defines and the profile does not support.
 #[derive(Clone, Copy, Debug)]
 pub struct OutsideFrame<'a> {
-    /// The link address that it goes to.
+    /// The link address that it is sent to.
     pub to: Mac,
-    /// The link address that it comes from.
+    /// The link address of its sender.
     pub from: Mac,
     /// All fields of its packet, except the payload.
     pub fields: Fields,
@@ -48,11 +48,11 @@ pub struct OutsideFrame<'a> {
     pub length: usize,
     /// All its octets.
     pub octets: &'a [u8],
-    /// Why a station refuses it: lines have its code.
+    /// Why a station rejects it. Lines show the code.
     pub fault: RecordFault,
 }
 
-/// Whether Ethernet fills up the frames of this link layer.
+/// Whether Ethernet pads the frames of this link layer.
 pub(crate) fn is_filled(layer: LinkLayer) -> bool
     ensures { result ≡ is_padded layer }
 {
@@ -62,8 +62,7 @@ pub(crate) fn is_filled(layer: LinkLayer) -> bool
     }
 }
 
-/// Returns how many octets the frame outside the profile has that the octets are. They may be
-/// filled up.
+/// Returns how many of these octets a frame outside the profile has. Padding may follow it.
 pub(crate) fn outside_length(octets: &[u8], padded: bool) -> Option<usize>
     ensures found { IfSome result (λ n. (s : StandardFrame)
         × IsOutsideAt padded octets.now n s) }
@@ -86,7 +85,7 @@ pub(crate) fn outside_length(octets: &[u8], padded: bool) -> Option<usize>
     }
 }
 
-/// Whether a frame of so many octets ends with these octets, or is filled up to them.
+/// Whether a frame that ends at `end` fills these octets, alone or with padding.
 fn ends_at(octets: &[u8], end: usize, padded: bool) -> bool
     requires { end ≤ length octets.now }
     ensures yes { IsTrue result → EndsAt padded octets.now end }
@@ -106,7 +105,8 @@ fn are_zero(octets: &[u8]) -> bool
 }
 
 impl<'a> OutsideFrame<'a> {
-    /// The frame that these octets are, which a station refuses so. It was found before.
+    /// Returns the frame in these octets, which a station rejects with this fault. It was found
+    /// before.
     pub(crate) fn of_frame(octets: &'a [u8], fault: RecordFault) -> OutsideFrame<'a>
         requires { (s : StandardFrame) × IsOutsideFrame octets.now s }
         ensures frame { IsOutsideFrame octets.now (standard_of result) }
@@ -128,7 +128,7 @@ impl<'a> OutsideFrame<'a> {
         }
     }
 
-    /// What the frame is chosen by.
+    /// Returns what the frame is selected by.
     pub fn traits(&self) -> Traits
         ensures { result ≡ outside_traits (standard_of self.now) }
     {
@@ -145,14 +145,14 @@ impl<'a> OutsideFrame<'a> {
         }
     }
 
-    /// The header of BTP that the payload begins with, if it has one.
+    /// Returns the BTP header at the beginning of the payload, if there is one.
     pub fn btp(&self) -> Option<BtpHeader>
         ensures { result ≡ btp_of self.now.fields.common.next self.now.payload.now }
     {
         btp_header(self.fields.common.next, self.payload)
     }
 
-    /// The destination port, if the payload begins with a header of BTP.
+    /// Returns the destination port, if the payload begins with a BTP header.
     pub fn port(&self) -> Option<u16>
         ensures { result ≡ port_of_btp
             (btp_of self.now.fields.common.next self.now.payload.now) }
@@ -164,7 +164,8 @@ impl<'a> OutsideFrame<'a> {
     }
 }
 
-/// What a frame outside the profile is chosen by, which these octets are and a station refuses so.
+/// Returns what the frame outside the profile in these octets is selected by. A station rejects it
+/// with this fault.
 pub(crate) fn traits_of_outside(octets: &[u8], fault: RecordFault) -> Traits
     requires { (s : StandardFrame) × IsOutsideFrame octets.now s }
     ensures { (s : StandardFrame) → IsOutsideFrame octets.now s → result ≡ outside_traits s }
@@ -173,7 +174,7 @@ pub(crate) fn traits_of_outside(octets: &[u8], fault: RecordFault) -> Traits
     frame.traits()
 }
 
-/// The sequence number of a packet that has one.
+/// Returns the sequence number, if the packet has one.
 fn number_of(extended: &ExtendedFields) -> Option<u16>
     ensures { result ≡ number_of extended.now }
 {
@@ -188,7 +189,7 @@ fn number_of(extended: &ExtendedFields) -> Option<u16>
     }
 }
 
-/// The destination area of a packet that has one whose values are in range.
+/// Returns the destination area, if the packet has one whose values are in range.
 fn area_of(extended: &ExtendedFields) -> Option<Area>
     ensures { result ≡ area_of extended.now }
 {
@@ -198,7 +199,7 @@ fn area_of(extended: &ExtendedFields) -> Option<Area>
     }
 }
 
-/// The area that these fields say, if all are in range. A circle has a radius alone.
+/// Returns the area of these fields, if all are in range. A circle has only a radius.
 fn area_said(fields: &AreaFields) -> Option<Area>
     ensures { result ≡ area_said fields.now }
 {
@@ -209,7 +210,7 @@ fn area_said(fields: &AreaFields) -> Option<Area>
     }
 }
 
-/// The place of this latitude and longitude, if they are in range.
+/// Returns the position with this latitude and longitude, if they are in range.
 fn place_said(latitude: i32, longitude: i32) -> Option<Place>
     ensures { result ≡ place_said latitude longitude }
 {
@@ -222,7 +223,7 @@ fn place_said(latitude: i32, longitude: i32) -> Option<Place>
     Some(Place::within(latitude, longitude))
 }
 
-/// The circle of this radius, if that is not 0.
+/// Returns the circle with this radius, if the radius is not 0.
 fn circle_said(centre: Place, radius: u16) -> Option<Area>
     ensures { result ≡ circle_said centre radius }
 {
@@ -232,7 +233,7 @@ fn circle_said(centre: Place, radius: u16) -> Option<Area>
     Some(Area::within(Shape::Circle, centre, radius, 0, 0))
 }
 
-/// The rectangle or ellipse round this centre that these fields say, if they are in range.
+/// Returns the rectangle or ellipse of these fields around this centre, if they are in range.
 fn turned_said(centre: Place, fields: &AreaFields) -> Option<Area>
     requires { is_circle fields.now.shape ≡ false }
     ensures { result ≡ turned_said centre fields.now }
@@ -243,7 +244,7 @@ fn turned_said(centre: Place, fields: &AreaFields) -> Option<Area>
     Some(Area::within(fields.shape, centre, fields.a, fields.b, fields.angle))
 }
 
-/// The link address that begins at this octet.
+/// Returns the link address that begins at this octet.
 fn mac_at(octets: &[u8], at: usize) -> Mac
     requires { at + 6 ≤ length octets.now }
     ensures { result ≡ big_number 6 (take 6 (drop at octets.now)) }

@@ -15,11 +15,11 @@ pub trait RecordReader {
     ghost use Rattle.cap_pcap.specs.declared.record.RecordHeader.{RecordHeader};
     ghost use Rattle.cap_records.specs.declared.selection.Selection.{Selection};
 
-    /// What is read of a record that is selected.
+    /// What is read from a record that is selected.
     type Record;
 
-    /// What is read of a record with this header and these octets, and which octets the buffer has
-    /// afterwards. Nothing is read if the record is not selected.
+    /// What is read from a record with this header and these octets, and which octets the buffer
+    /// has afterwards. Nothing is read if the record is not selected.
     ghost Reads: { Selection → RecordHeader → List ℕ → List ℕ → Option Self.Record → Type 0 };
 
     /// Reads a record, if it is selected. Its octets are in the buffer. `AllocError` if an allocation
@@ -33,10 +33,10 @@ pub trait RecordReader {
         ensures { IfOk result (Reads selection.now head.now octets.old.items octets.new.items) };
 }
 
-/// What a pull met.
+/// The result of a pull.
 #[derive(Debug, Drop, PartialEq, Eq)]
 pub enum Pulled<T> {
-    /// A record that is selected, and what was read of it.
+    /// A record that is selected, and what was read from it.
     Chosen(RecordHeader, T),
     /// An interface begins in the file. Pull again.
     Interface,
@@ -61,7 +61,7 @@ pub struct Records<S: RecordSource + Drop, R: RecordReader + Drop> {
 }
 
 impl<S: RecordSource + Drop, R: RecordReader + Drop> Records<S, R> {
-    /// Returns the records of a file of which nothing was read. They are read into this buffer.
+    /// Returns the records of a file that was not read yet. They are read into this buffer.
     pub fn new(source: S, reader: R, octets: Vec<u8>, selection: Selection) -> Records<S, R>
         ensures source { result.source ≡ source }
         ensures selection { result.selection ≡ selection }

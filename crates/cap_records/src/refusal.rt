@@ -1,4 +1,4 @@
-//! Why a record or a capture is refused: a code, and a sentence for a person.
+//! Why a record or a capture is rejected: a code, and a sentence for a person.
 
 ghost use Rattle.std.specs.Prelude.{◌≡◌, IfOk, IfErr, IsTrue, IsFalse, true};
 ghost use Rattle.its_linkframe.specs.declared.record.CaptureFault.TheVariants as captures;
@@ -18,38 +18,38 @@ use its_words::frames::{FrameReason, SecuredReason};
 use std::alloc::AllocError;
 use std::fmt;
 
-/// Why a record is refused. It prints as a sentence.
+/// Why a record is rejected. It prints as a sentence.
 #[derive(Clone, Copy, Debug, PartialEq, Eq)]
 pub enum RecordFault {
-    /// It was taken from a link layer that isn't read, or was cut.
+    /// Its link layer isn't read, or it was cut.
     Record(cap_pcap::RecordFault),
-    /// Its link layer's header has no frame behind it.
+    /// No frame follows the header of its link layer.
     Link(LinkFault),
-    /// Its octets are no frame.
+    /// Its octets are not a frame.
     Frame(FrameFault),
-    /// Its octets are no unsecured frame, but seem to be a secured one: the fault is that of the
-    /// length, or of the next header.
+    /// Its octets are not an unsecured frame, but seem to be a secured one. The fault is in the
+    /// length or in the next header.
     Secured(FrameFault),
-    /// Its octets begin as a secured frame and are none, or its plain part is no packet.
+    /// Its octets begin like a secured frame but are not one, or its plain part is not a packet.
     Signed(SecuredFault),
     /// The message of its secured frame can't be read.
     Message(MessageFault),
 }
 
-/// What follows the Basic Header of a secured packet, in the lower half of an octet.
+/// The next header of a secured packet's Basic Header, which is the lower half of an octet.
 const SECURED: u8 = 2;
 
-/// The first octet of a secured packet: version 1, and that next header.
+/// The first octet of a secured packet: version 1 and next header `SECURED`.
 const SECURED_PACKET: u8 = 0x12;
 
-/// How a secured packet is read, after the reason why it is refused.
+/// How to read a secured packet. It follows the reason why the packet is rejected.
 pub const SIGNED_HINT: &str = "; --signed reads its plain part and doesn't verify it";
 
-/// What may make a secured frame too long.
+/// What may have made a secured frame too long.
 const LENGTH_HINT: &str = "; padding, and a check sequence without a flag, count as its message";
 
 impl RecordFault {
-    /// Why these octets are no frame, with this fault.
+    /// Returns why these octets are not a frame, if reading them returned this fault.
     pub fn of(fault: FrameFault, frame: &[u8]) -> RecordFault
         ensures { IsTold fault frame.now result }
     {
@@ -59,8 +59,8 @@ impl RecordFault {
         RecordFault::Frame(fault)
     }
 
-    /// Whether it is of another protocol than GeoNetworking: of a link layer that is not read, of
-    /// another kind of its frames, or of another type.
+    /// Whether the record is of another protocol than GeoNetworking: its link layer is not read, or
+    /// its frame is of another kind or of another type.
     pub fn is_other(&self) -> bool
         ensures { result ≡ is_other self.now }
     {
@@ -72,7 +72,7 @@ impl RecordFault {
         }
     }
 
-    /// What lines show, as `P4`, `L1` or `L5 G9 at 10`.
+    /// Returns what lines show, for example `P4`, `L1` or `L5 G9 at 10`.
     pub fn code(self) -> RecordCode
         ensures { result ≡ record { 0 = self } }
     {
@@ -80,7 +80,7 @@ impl RecordFault {
     }
 }
 
-/// Whether octets that are no unsecured frame, with this fault, seem to be a secured one.
+/// Whether octets that are not an unsecured frame, by this fault, seem to be a secured one.
 fn seems_secured(fault: FrameFault, frame: &[u8]) -> bool
     ensures yes { IsTrue result → IsSecured frame.now fault }
     ensures no { IsFalse result → ¬ IsSecured frame.now fault }
@@ -145,7 +145,7 @@ impl fmt::Display for RecordFault {
     }
 }
 
-/// Why a record is refused, as its code.
+/// Why a record is rejected, printed as a code.
 #[derive(Clone, Copy, Debug, PartialEq, Eq)]
 pub struct RecordCode(RecordFault);
 
@@ -163,21 +163,21 @@ impl fmt::Display for RecordCode {
     }
 }
 
-/// Why a file is not read on, as a line reports it. It prints as a sentence.
+/// Why no more records are read from a file, as a line reports it. It prints as a sentence.
 #[derive(Clone, Copy, Debug, PartialEq, Eq)]
 pub struct FileFault {
     fault: SourceFault,
-    /// Whether the file begins as one of no format that is read. Without a format it is read as a
-    /// capture, which has no first octets of its own.
+    /// Whether the beginning of the file fits no format that is read. Without a format such a file
+    /// is read as a capture, which has no magic.
     begins_as_none: bool,
-    /// Whether the file is gzip's.
+    /// Whether gzip compressed the file.
     is_gzip: bool,
 }
 
 impl FileFault {
-    /// The fault of the file of this name after so many records, where its octets are at fault: a
-    /// failed read and want of memory end the command instead. The format is the one that the file
-    /// was said to have; its first four octets tell it where none was given.
+    /// Returns the fault of the file with this name after this number of records, if its octets are
+    /// at fault. A failed read and a failed allocation end the command instead. `format` is the
+    /// format that was given for the file. Without one, its first four octets say it.
     pub fn of<'a>(
         fault: SourceFault,
         file: &'a str,
@@ -201,8 +201,8 @@ impl FileFault {
         }
     }
 
-    /// The fault of a file that gzip compressed: its code is that of a file of no format that is
-    /// read.
+    /// Returns the fault of a file that gzip compressed. It has the code of a file whose format is
+    /// not read.
     pub fn gzip() -> FileFault
         ensures { (result.fault ≡ sources.Capture captures.Length) × (result.is_gzip ≡ true) }
     {
@@ -213,7 +213,7 @@ impl FileFault {
         }
     }
 
-    /// What lines show, as `C1` or `P2`.
+    /// Returns what lines show, for example `C1` or `P2`.
     pub fn code(self) -> &'static str
         ensures { result.now ≡ code_of self.fault }
     {

@@ -1,4 +1,4 @@
-//! The line of a file that is refused.
+//! The line for a file that is rejected.
 
 ghost use Rattle.std.specs.Prelude.{◌≡◌, Some, None, if◌then◌else◌};
 ghost use Rattle.cap_pcap.specs.Codes.{code_of};
@@ -8,7 +8,7 @@ use its_words::frames::Explanation;
 use serde::Serialize;
 use std::fmt;
 
-/// The line of a file that is refused after this number of records.
+/// The line for a file that is rejected after this number of records.
 #[derive(Clone, Copy, Serialize)]
 pub struct RefusedCapture {
     capture: &'static str,
@@ -18,8 +18,8 @@ pub struct RefusedCapture {
 }
 
 impl RefusedCapture {
-    /// The line of a file that is refused by this fault after this number of records. With `explain`
-    /// it ends with the reason.
+    /// Returns the line for a file that is rejected by this fault after this number of records.
+    /// With `explain` it ends with the reason.
     pub fn new(records: u64, fault: FileFault, explain: bool) -> RefusedCapture
         ensures code { result.capture.now ≡ code_of fault.fault }
         ensures record { result.record ≡ records }

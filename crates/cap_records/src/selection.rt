@@ -26,21 +26,21 @@ use std::alloc::AllocError;
 /// Which records of a file a command is over.
 #[derive(Clone, Copy, Debug, PartialEq, Eq)]
 pub struct Selection {
-    /// The format of the file; its first four octets tell it where none is given.
+    /// The format of the file. If it is `None`, the first four octets of the file say it.
     pub format: Option<Format>,
-    /// Which records are chosen. The others are as if they weren't there, but that they count in
-    /// the places of those that are.
+    /// Which records are selected. The others are skipped, but they count in the numbers of
+    /// records.
     pub choice: Choice,
-    /// How many are chosen at most: then nothing more is read.
+    /// How many records are selected at most. After the last one nothing more is read.
     pub count: Option<u64>,
-    /// Whether records that were cut are read as far as they go.
+    /// Whether records that were cut are read up to the cut.
     pub partial: bool,
     /// Whether secured frames are read by their plain part, which isn't verified.
     pub signed: bool,
 }
 
 impl Selection {
-    /// All records of a file.
+    /// Returns the selection of all records of a file.
     pub fn all() -> Selection
         ensures { (result.format ≡ None) × (result.count ≡ None) }
     {
@@ -87,8 +87,9 @@ impl Selection {
         }
     }
 
-    /// Whether a record is selected, which has these octets. If its frame has to be known, that is
-    /// read in this room, and the octets stay. `OutOfMemory` if the room can't be had.
+    /// Whether a record with these octets is selected. If the answer needs its frame, that is read
+    /// in the other buffer, and the octets stay. Returns `AllocError` if that buffer can't be
+    /// allocated.
     pub fn has_record(
         &self,
         head: &RecordHeader,
@@ -107,7 +108,7 @@ impl Selection {
         Ok(self.has(head.moment, &found, room.as_slice()))
     }
 
-    /// Whether a record of this moment is chosen, whatever its frame is.
+    /// Whether a record of this time is selected, whatever its frame is.
     fn has_any(&self, moment: u64) -> bool
         ensures { IsTrue result
             → (traits : Option Traits) → (other : Bool)
@@ -125,7 +126,7 @@ impl Selection {
             && moment <= choice.until
     }
 
-    /// Whether a record of this moment is chosen, of which this was found among these octets.
+    /// Whether a record of this time is selected, if this was found among its octets.
     pub(crate) fn has(&self, moment: u64, found: &Result<Found, RecordFault>, octets: &[u8]) -> bool
         requires { IfOk found.now (IsThere octets.now) }
         ensures { IsChosenBy self.now.choice moment octets.now found.now result }
@@ -139,7 +140,7 @@ impl Selection {
         }
     }
 
-    /// Whether a record of this moment is chosen, whose frame was found among these octets.
+    /// Whether a record of this time is selected, whose frame was found among these octets.
     fn has_found(&self, moment: u64, found: &Found, octets: &[u8]) -> bool
         requires { IsThere octets.now found.now }
         ensures { IsFoundChosen self.now.choice moment octets.now found.now result }
@@ -150,7 +151,8 @@ impl Selection {
         }
     }
 
-    /// Whether a record of this moment is chosen, whose frame is here among these octets.
+    /// Whether a record of this time is selected, whose frame is at this position among these
+    /// octets.
     fn has_frame(&self, moment: u64, place: FramePlace, octets: &[u8]) -> bool
         requires { (t : Transmission) × IsPlaced octets.now t place }
         ensures { (t : Transmission) → IsPlaced octets.now t place
@@ -160,7 +162,7 @@ impl Selection {
         self.choice.selects_frame(moment, &place.view(octets))
     }
 
-    /// Whether a record of this moment is chosen, whose frame outside the profile is here among these
+    /// Whether a record of this time is selected, whose frame outside the profile is among these
     /// octets.
     fn has_outside(&self, moment: u64, found: &FoundOutside, octets: &[u8]) -> bool
         requires { (s : StandardFrame) × IsPlacedOutside octets.now s found.now.place }

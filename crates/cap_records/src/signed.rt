@@ -36,7 +36,7 @@ const SECURED: u8 = 0x12;
 /// The first octet of an unsecured packet: version 1, next header 1.
 const UNSECURED: u8 = 0x11;
 
-/// Where the plain part of a secured frame is, and what its message says of it.
+/// Where the plain part of a secured frame is, and what the message says about it.
 #[derive(Clone, Copy, Debug, PartialEq, Eq)]
 pub struct PlainPart {
     /// Where it begins in the frame.
@@ -57,7 +57,7 @@ impl PlainPart {
     }
 }
 
-/// What is known of a secured frame beside the packet inside.
+/// What is known about a secured frame besides the packet inside.
 #[derive(Clone, Copy, Debug, PartialEq, Eq)]
 pub struct SecuredFacts {
     /// How many octets the frame has.
@@ -102,8 +102,8 @@ pub fn find_plain(frame: &[u8]) -> Result<PlainPart, RecordFault>
     })
 }
 
-/// Puts the inner frame of a secured one, which begins at this octet, together in front of its plain
-/// part: link addresses, type, Basic Header with next header 1, plain part.
+/// Puts the inner frame of the secured frame that begins at this octet together in front of its
+/// plain part: link addresses, type, Basic Header with next header 1, plain part.
 pub fn bring_inner(octets: &mut Vec<u8>, start: usize, plain: &PlainPart) -> FramePlace
     requires behind { 18 ≤ plain.now.start }
     requires inside { start + plain.now.start + plain.now.length ≤ length octets.old.items }
@@ -121,7 +121,7 @@ pub fn bring_inner(octets: &mut Vec<u8>, start: usize, plain: &PlainPart) -> Fra
     }
 }
 
-/// The octets from a place on.
+/// Returns the octets from this position on.
 pub(crate) fn rest(octets: &Vec<u8>, start: usize) -> &[u8]
     requires { start ≤ length octets.now.items }
     ensures { result.now ≡ drop start octets.now.items }
@@ -129,11 +129,11 @@ pub(crate) fn rest(octets: &Vec<u8>, start: usize) -> &[u8]
     &octets.as_slice()[start..]
 }
 
-/// Finds the frame of a record, as `frame_of`; of a secured one the inner frame, which is put together
-/// among the octets.
+/// Finds the frame of a record as `frame_of` does. For a secured frame it finds the inner frame,
+/// which is put together among the octets.
 ///
-/// A secured frame is refused as by `find_plain`, and then with L6 if the plain part has no packet,
-/// or L4 if octets follow it.
+/// A secured frame is rejected with the faults of `find_plain`, then with L6 if the plain part has
+/// no packet, or L4 if octets follow the packet.
 pub(crate) fn signed_frame_of(
     head: &RecordHeader,
     octets: &mut Vec<u8>,
@@ -151,8 +151,8 @@ pub(crate) fn signed_frame_of(
     }
 }
 
-/// Finds the inner frame of the secured one that begins at this octet, and puts it together among the
-/// octets.
+/// Finds the inner frame of the secured frame that begins at this octet, and puts it together among
+/// the octets.
 fn find_inner(octets: &mut Vec<u8>, start: usize) -> Result<FoundFrame, RecordFault>
     requires { start ≤ length octets.old.items }
     ensures frame { IfOk result (λ f. (t : Transmission)
@@ -198,7 +198,7 @@ fn find_packet(frame: &[u8]) -> Result<PlainPart, RecordFault>
     }
 }
 
-/// What a secured frame is chosen by: the packet in its plain part.
+/// Returns what a secured frame is selected by: the packet in its plain part.
 pub fn traits_inside(frame: &VerifiedFrame<'_, '_>) -> Traits
     ensures { result ≡ traits_in frame.now.frame }
 {

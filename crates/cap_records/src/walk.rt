@@ -18,9 +18,9 @@ use std::io::{Read, Write};
 
 /// What a command does with the records of a capture.
 pub trait RecordVisitor {
-    /// Does what there is to do with a record that is chosen, which has this frame, or was refused. A
-    /// frame is outside the profile only if all kinds are chosen.
-    /// `NoOutput` where a write failed, `OutOfMemory` where an allocation did.
+    /// Processes a selected record, which has this frame or was rejected. A frame is outside the
+    /// profile only if all kinds are selected. Returns `NoOutput` if a write failed, and
+    /// `OutOfMemory` if an allocation failed.
     fn visit<'f, W: Write>(
         &mut self,
         place: RecordPlace,
@@ -29,23 +29,23 @@ pub trait RecordVisitor {
     ) -> Result<(), Fault<'f>>;
 }
 
-/// What a walk met.
+/// The counts of a walk, and how it ended.
 #[derive(Clone, Copy, Debug, PartialEq, Eq)]
 pub struct Walked {
-    /// How many records were chosen.
+    /// How many records were selected.
     pub records: u64,
-    /// How many of these are refused.
+    /// How many of these were rejected.
     pub refused: u64,
     /// How many of them have a frame outside the profile.
     pub outside: u64,
-    /// Why the file wasn't read on, where its octets are at fault.
+    /// Why reading stopped before the end of the file, if the file's octets are at fault.
     pub fault: Option<FileFault>,
-    /// How many records were read before that.
+    /// How many records were read before the end or the fault.
     pub read: u64,
 }
 
 impl Walked {
-    /// Nothing yet.
+    /// Returns the counts before the first record.
     fn begin() -> Walked
         ensures { (result.records ≡ 0) × (result.refused ≡ 0) × (result.outside ≡ 0)
             × (result.read ≡ 0) }
@@ -59,7 +59,7 @@ impl Walked {
         }
     }
 
-    /// Returns the counts after a further selected record, of which this was found.
+    /// Returns the counts after one more selected record, in which this was found.
     fn after(self, found: &Result<Found, RecordFault>) -> Walked
         requires { (self.records < 2 ^ 64 - 1) × (self.refused + self.outside ≤ self.records) }
         ensures counts { result ≡ walked_after self found.now }
@@ -81,7 +81,7 @@ impl Walked {
         }
     }
 
-    /// Returns the counts once so many records were read.
+    /// Returns the counts at the end of a file from which this many records were read.
     fn at_end(self, read: u64) -> Walked
         ensures { (result.records ≡ self.records) × (result.refused ≡ self.refused)
             × (result.outside ≡ self.outside) × (result.read ≡ read)
@@ -102,7 +102,7 @@ impl Walked {
         }
     }
 
-    /// The exit status of a command that did nothing but this walk.
+    /// Returns the exit status of a command that only made this walk.
     pub fn status(self) -> Status
         ensures { result ≡ walk_status self }
     {
@@ -117,9 +117,9 @@ impl Walked {
 /// A file that is open.
 #[derive(Drop)]
 pub enum CaptureFile<S: Source> {
-    /// Its records are read one after the other.
+    /// A file whose records are read one after the other.
     Source(AnySource<S>),
-    /// It has none: gzip compressed it.
+    /// A file that gzip compressed. It has no records.
     Gzip,
 }
 
@@ -130,8 +130,8 @@ impl<S: Source> CaptureFile<S> {
     }
 }
 
-/// Opens the file of this name that the reader gives, in this format, or in that which its first
-/// four octets tell. `CannotRead` where a read failed.
+/// Opens the file with this name from the reader, in this format. Without a format, the first four
+/// octets of the file say it. Returns `CannotRead` if a read failed.
 pub fn open_records<'a, R: Read + Drop>(
     alloc: Global,
     file: &'a str,
@@ -147,11 +147,12 @@ pub fn open_records<'a, R: Read + Drop>(
     }
 }
 
-/// Visits each record of the file that is chosen, in order. All are read into one buffer, which
-/// has room for all that is kept of one. The file has this name; where it is standard input, what
-/// was printed is written out before the next record is read. No record of a gzip file is visited.
+/// Visits each selected record of the file, in order. All records are read into one buffer, which
+/// is large enough for all that is kept of one. If the file is standard input, the output is
+/// flushed before the next record is read. No record of a gzip file is visited.
 ///
-/// `CannotRead` where a read failed, `OutOfMemory` where an allocation did, and what a visit answers.
+/// Returns `CannotRead` if a read failed, `OutOfMemory` if an allocation failed, and any fault of a
+/// visit.
 pub fn each_record<'a, S: Source + Drop, V: RecordVisitor, W: Write>(
     alloc: Global,
     file: &'a str,
@@ -194,7 +195,7 @@ pub fn each_record<'a, S: Source + Drop, V: RecordVisitor, W: Write>(
     }
 }
 
-/// Visits a record, whose frame is among these octets, or which is refused.
+/// Visits a record whose frame is among these octets, or which was rejected.
 fn visit<'f, V: RecordVisitor, W: Write>(
     visitor: &mut V,
     place: RecordPlace,

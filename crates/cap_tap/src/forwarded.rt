@@ -1,13 +1,13 @@
 //! What is kept of a capture to judge whether a packet is forwarded once.
 
-use crate::heard_numbers::{HeardNumbers, PacketId};
+use crate::heard_numbers::{HeardFrom, HeardNumbers, PacketId};
 use crate::heard_sources::HeardSources;
 use crate::lost::Lost;
+use crate::packet_queue::PacketQueue;
 use crate::seen_record::{NANOS, SeenRecord};
 use crate::stretch::Stretch;
 use crate::unread::{UnreadIn, UnreadRecord, UnreadRecords};
 use its_duties::{Claims, EarlierRelay, RelayAgain, Verdict, judge_once, slack, wait};
-use its_gnvalue::GnAddress;
 use its_linkframe::FrameView;
 use std::alloc::{AllocError, Global};
 use std::collections::VecDeque;
@@ -179,7 +179,7 @@ pub(crate) fn once_time(claims: &Claims) -> u64 {
 #[derive(Drop)]
 pub(crate) struct ForwardedPackets {
     alloc: Global,
-    packets: VecDeque<ForwardedPacket>,
+    packets: PacketQueue<ForwardedPacket>,
     /// What had to give way.
     lost: Lost,
     /// What the station sent that isn't read and may be a forwarded packet.
@@ -193,7 +193,7 @@ impl ForwardedPackets {
     pub(crate) fn new(alloc: Global) -> ForwardedPackets {
         ForwardedPackets {
             alloc,
-            packets: VecDeque::new(alloc),
+            packets: PacketQueue::new(alloc),
             lost: Lost::nothing(),
             unread: UnreadRecords::new(alloc),
             numbers: HeardNumbers::new(alloc),
@@ -220,7 +220,8 @@ impl ForwardedPackets {
         {
             self.lose(first.stamp);
         }
-        self.packets.push_back(packet)?;
+        let id = packet.packet;
+        self.packets.push_back(&id, packet)?;
         Ok(())
     }
 
@@ -242,29 +243,32 @@ impl ForwardedPackets {
     pub(crate) fn add_heard(
         &mut self,
         record: &SeenRecord,
-        frame: &FrameView<'_>,
+        heard: &HeardFrom,
         settled: u64,
         oldest: u64,
     ) -> Result<(), AllocError> {
-        let source = frame.packet.vector().address();
         for stamp in record.repeats.iter() {
-            self.sources.add(source, *stamp, settled, oldest)?;
+            self.sources.add(heard.source, *stamp, settled, oldest)?;
         }
-        self.sources.add(source, record.stamp, settled, oldest)?;
-        self.numbers.add(record, frame, oldest)
+        self.sources
+            .add(heard.source, record.stamp, settled, oldest)?;
+        self.numbers.add(record, heard, oldest)
     }
 
-    /// Adds another sending of a frame of this source that was heard first in this record.
+    /// Adds another sending of a frame that was heard first in this record.
     pub(crate) fn repeat_heard(
         &mut self,
         first: u64,
         stamp: u64,
-        source: GnAddress,
+        heard: &HeardFrom,
         settled: u64,
         oldest: u64,
     ) -> Result<(), AllocError> {
-        self.sources.add(source, stamp, settled, oldest)?;
-        self.numbers.repeat(first, stamp)
+        self.sources.add(heard.source, stamp, settled, oldest)?;
+        match heard.sequence {
+            Some(_) => self.numbers.repeat(first, stamp),
+            None => Ok(()),
+        }
     }
 
     /// Adds another sending of a record that isn't read, if it is one of these.
@@ -277,12 +281,13 @@ impl ForwardedPackets {
         self.unread.within(from, to)
     }
 
-    /// How many sources were heard in a stretch: the greatest number if one may be missing.
-    pub(crate) fn sources_in(&self, stretch: Stretch) -> u32 {
+    /// At least as many sources as were heard in a stretch, and at most `limit` if those are: the
+    /// greatest number if one may be missing.
+    pub(crate) fn sources_at_most(&self, stretch: Stretch, limit: u32) -> u32 {
         if self.sources.may_lack(stretch.from) {
             return u32::MAX;
         }
-        self.sources.count(stretch)
+        self.sources.at_most(stretch, limit)
     }
 
     /// Finds the last earlier frame of a packet with which it fails to be forwarded once, or else
@@ -295,15 +300,7 @@ impl ForwardedPackets {
         packet: &ForwardedPacket,
     ) -> Result<FoundEarlier, AllocError> {
         let from = packet.stamp.saturating_sub(counted_time(claims));
-        let mut earlier = VecDeque::new(self.alloc);
-        for other in self.packets.iter() {
-            if from <= other.stamp && other.packet == packet.packet && other.is_before(packet) {
-                if MOST_TRIED <= earlier.len() {
-                    earlier.pop_front();
-                }
-                earlier.push_back(*other)?;
-            }
-        }
+        let mut earlier = self.earlier_of(packet, from)?;
         let mut last = None;
         for _ in 0..earlier.len() {
             let Some(other) = earlier.pop_back() else {
@@ -320,6 +317,28 @@ impl ForwardedPackets {
             Some(found) => FoundEarlier::Again(found),
             None => FoundEarlier::None(self.none(claims, begin, packet.stamp, from)),
         })
+    }
+
+    /// The last earlier frames of a packet since `from`.
+    fn earlier_of(
+        &self,
+        packet: &ForwardedPacket,
+        from: u64,
+    ) -> Result<VecDeque<ForwardedPacket>, AllocError> {
+        let mut earlier = VecDeque::new(self.alloc);
+        let mut walk = self.packets.walk(&packet.packet);
+        for _ in 0..self.packets.len() {
+            let Some(other) = self.packets.step(&mut walk) else {
+                break;
+            };
+            if from <= other.stamp && other.is_before(packet) {
+                if MOST_TRIED <= earlier.len() {
+                    earlier.pop_front();
+                }
+                earlier.push_back(*other)?;
+            }
+        }
+        Ok(earlier)
     }
 
     /// That a packet with this stamp wasn't forwarded since `from`.
@@ -371,8 +390,12 @@ impl ForwardedPackets {
             to: second.stamp,
         };
         let mut count: u32 = 0;
-        for other in self.packets.iter() {
-            if !other.retried && other.packet == second.packet && stretch.has(other.stamp) {
+        let mut walk = self.packets.walk(&second.packet);
+        for _ in 0..self.packets.len() {
+            let Some(other) = self.packets.step(&mut walk) else {
+                return count;
+            };
+            if !other.retried && stretch.has(other.stamp) {
                 count = count.saturating_add(1);
             }
         }

@@ -1,14 +1,15 @@
 //! The packets for areas that the station may have heard.
 
-use crate::heard_numbers::PacketId;
+use crate::heard_numbers::{HeardFrom, PacketId};
 use crate::kept_size::{STAMP, kept_size};
 use crate::lost::Lost;
+use crate::owed::sent_from_to;
+use crate::packet_queue::{PacketQueue, Walk};
 use crate::seen_record::SeenRecord;
 use its_duties::Claims;
-use its_gnvalue::{GnAddress, Hops, Lifetime};
+use its_gnvalue::{Hops, Lifetime};
 use its_linkframe::FrameView;
 use std::alloc::{AllocError, Global};
-use std::collections::VecDeque;
 
 /// How many octets of packets are kept at most, but for those within the longest wait.
 const MOST_OCTETS: usize = 1 << 20;
@@ -30,8 +31,8 @@ pub(crate) struct HeardPacket {
     pub(crate) stamp: u64,
     /// When the link sent it again.
     repeats: Vec<u64>,
-    pub(crate) source: GnAddress,
-    pub(crate) sequence: u16,
+    /// When it was sent last.
+    last: u64,
     pub(crate) hops: Hops,
     pub(crate) octets: Vec<u8>,
 }
@@ -42,11 +43,6 @@ impl HeardPacket {
         kept_size(self.octets.len(), self.repeats.len())
     }
 
-    /// Whether it has this source and number.
-    pub(crate) fn is_of(&self, packet: PacketId) -> bool {
-        self.source == packet.source && self.sequence == packet.sequence
-    }
-
     /// Whether the link sent it again.
     pub(crate) fn is_repeated(&self) -> bool {
         !self.repeats.is_empty()
@@ -54,11 +50,7 @@ impl HeardPacket {
 
     /// When it was sent last.
     pub(crate) fn last_sending(&self) -> u64 {
-        let mut last = self.stamp;
-        for stamp in self.repeats.iter() {
-            last = last.max(*stamp);
-        }
-        last
+        self.last
     }
 
     /// When it was sent last, up to a stamp. `None` if it was sent only later.
@@ -120,7 +112,7 @@ fn may_be_later(claims: &Claims, before: u8, after: u8) -> bool {
 #[derive(Drop)]
 pub(crate) struct HeardPackets {
     alloc: Global,
-    packets: VecDeque<HeardPacket>,
+    packets: PacketQueue<HeardPacket>,
     /// How many octets they have.
     octets: usize,
     /// What had to give way, by its last sending.
@@ -132,25 +124,30 @@ impl HeardPackets {
     pub(crate) fn new(alloc: Global) -> HeardPackets {
         HeardPackets {
             alloc,
-            packets: VecDeque::new(alloc),
+            packets: PacketQueue::new(alloc),
             octets: 0,
             lost: Lost::nothing(),
         }
     }
 
-    /// The packets, the oldest first.
-    pub(crate) fn packets(&self) -> &VecDeque<HeardPacket> {
-        &self.packets
+    /// How many packets are kept.
+    pub(crate) fn count(&self) -> usize {
+        self.packets.len()
     }
 
-    /// The packet of a record.
-    pub(crate) fn of_record(&self, number: u64) -> Option<&HeardPacket> {
-        for packet in self.packets.iter() {
-            if packet.number == number {
-                return Some(packet);
-            }
-        }
-        None
+    /// The packet of a place, if it is still kept.
+    pub(crate) fn at(&self, place: u64) -> Option<&HeardPacket> {
+        self.packets.at(place)
+    }
+
+    /// A walk over the packets with this source and number.
+    pub(crate) fn walk(&self, id: &PacketId) -> Walk {
+        self.packets.walk(id)
+    }
+
+    /// The next packet of a walk.
+    pub(crate) fn step(&self, walk: &mut Walk) -> Option<&HeardPacket> {
+        self.packets.step(walk)
     }
 
     /// Whether one may be missing that was sent at this time or later.
@@ -164,34 +161,34 @@ impl HeardPackets {
     }
 
     /// Adds the packet of a record, if it is one for an area. Those of before `oldest` are
-    /// forgotten, and so many octets of those of before `near` that the others fit.
+    /// forgotten, and so many octets of those of before `near` that the others fit. Returns its place.
     pub(crate) fn add(
         &mut self,
         record: &SeenRecord,
         frame: &FrameView<'_>,
-        oldest: u64,
-        near: u64,
-    ) -> Result<(), AllocError> {
-        let Some(sequence) = frame.packet.number() else {
-            return Ok(());
+        heard: &HeardFrom,
+        (oldest, near): (u64, u64),
+    ) -> Result<Option<u64>, AllocError> {
+        let Some(id) = heard.id() else {
+            return Ok(None);
         };
         let mut octets = Vec::new(self.alloc);
         octets.extend_from_slice(frame.packet.octets())?;
         let mut repeats = Vec::new(self.alloc);
         repeats.extend_from_slice(record.repeats.as_slice())?;
+        let (_, last) = sent_from_to(record);
         let packet = HeardPacket {
             number: record.number,
             stamp: record.stamp,
             repeats,
-            source: frame.packet.vector().address(),
-            sequence,
+            last,
             hops: frame.packet.hops(),
             octets,
         };
         self.octets = self.octets.saturating_add(packet.size());
-        self.packets.push_back(packet)?;
+        let place = self.packets.push_back(&id, packet)?;
         self.forget(oldest, near);
-        Ok(())
+        Ok(Some(place))
     }
 
     /// Forgets the first ones.
@@ -217,13 +214,29 @@ impl HeardPackets {
 
     /// Notes another sending of a record.
     pub(crate) fn repeat(&mut self, number: u64, stamp: u64) -> Result<(), AllocError> {
-        for packet in self.packets.iter_mut() {
-            if packet.number == number {
-                packet.repeats.push(stamp)?;
-                self.octets = self.octets.saturating_add(STAMP);
-            }
+        if let Some(place) = self.place_of(number)
+            && let Some(packet) = self.packets.at_mut(place)
+        {
+            packet.repeats.push(stamp)?;
+            packet.last = packet.last.max(stamp);
+            self.octets = self.octets.saturating_add(STAMP);
         }
         self.forget(0, 0);
         Ok(())
+    }
+
+    /// The place of the packet of a record. The last ones come first: the link sends a frame again
+    /// soon.
+    fn place_of(&self, number: u64) -> Option<u64> {
+        for place in self.packets.places().rev() {
+            if self
+                .packets
+                .at(place)
+                .is_some_and(|packet| packet.number == number)
+            {
+                return Some(place);
+            }
+        }
+        None
     }
 }

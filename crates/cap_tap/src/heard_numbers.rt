@@ -12,7 +12,7 @@ use std::collections::{BTreeSet, VecDeque};
 const MOST: usize = 65536;
 
 /// The source and the sequence number of a packet for an area.
-#[derive(Clone, Copy, PartialEq, Eq)]
+#[derive(Clone, Copy, PartialEq, Eq, PartialOrd, Ord)]
 pub struct PacketId {
     /// Its source.
     pub source: GnAddress,
@@ -26,6 +26,32 @@ impl PacketId {
         let sequence = frame.packet.number()?;
         let source = frame.packet.vector().address();
         Some(PacketId { source, sequence })
+    }
+}
+
+/// What is read once of a packet that was heard.
+#[derive(Clone, Copy)]
+pub(crate) struct HeardFrom {
+    pub(crate) source: GnAddress,
+    /// Its sequence number, if it is one for an area.
+    pub(crate) sequence: Option<u16>,
+}
+
+impl HeardFrom {
+    /// That of a frame.
+    pub(crate) fn of(frame: &FrameView<'_>) -> HeardFrom {
+        HeardFrom {
+            source: frame.packet.vector().address(),
+            sequence: frame.packet.number(),
+        }
+    }
+
+    /// Its source and its number, if it is a packet for an area.
+    pub(crate) fn id(&self) -> Option<PacketId> {
+        Some(PacketId {
+            source: self.source,
+            sequence: self.sequence?,
+        })
     }
 }
 
@@ -79,10 +105,10 @@ impl HeardNumbers {
     pub(crate) fn add(
         &mut self,
         record: &SeenRecord,
-        frame: &FrameView<'_>,
+        heard: &HeardFrom,
         oldest: u64,
     ) -> Result<(), AllocError> {
-        let Some(PacketId { source, sequence }) = PacketId::of(frame) else {
+        let Some(PacketId { source, sequence }) = heard.id() else {
             return Ok(());
         };
         self.forget(oldest);
@@ -129,13 +155,7 @@ impl HeardNumbers {
 
     /// Adds another sending of a record, if it is one of these.
     pub(crate) fn repeat(&mut self, record: u64, stamp: u64) -> Result<(), AllocError> {
-        let mut found = None;
-        for sending in self.sendings.iter() {
-            if sending.record == record {
-                found = Some(*sending);
-            }
-        }
-        match found {
+        match self.last_of(record) {
             Some(last) => {
                 self.push(NumberSending {
                     stamp,
@@ -145,6 +165,16 @@ impl HeardNumbers {
             }
             None => Ok(()),
         }
+    }
+
+    /// The last sending of a record, looked for from the end: the link sends a frame again soon.
+    fn last_of(&self, record: u64) -> Option<NumberSending> {
+        for sending in self.sendings.iter().rev() {
+            if sending.record == record {
+                return Some(*sending);
+            }
+        }
+        None
     }
 
     /// How many other numbers of the source of a packet were heard in a stretch.

@@ -5,7 +5,10 @@ use crate::seen_record::NANOS;
 use crate::stretch::Stretch;
 use its_gnvalue::GnAddress;
 use std::alloc::{AllocError, Global};
-use std::collections::BTreeMap;
+use std::collections::{BTreeMap, VecDeque};
+
+/// The room of a table that is as large as a claim can make it.
+pub const LARGEST_TABLE: u32 = 4096;
 
 /// How many sources are kept at most: more than any table has room for.
 const MOST: usize = 8192;
@@ -21,7 +24,7 @@ const PAUSE: u64 = 1000 * NANOS;
 #[derive(Drop)]
 pub(crate) struct HeardSources {
     alloc: Global,
-    sources: BTreeMap<u64, Vec<u64>>,
+    sources: BTreeMap<u64, VecDeque<u64>>,
     /// How many stamps there are.
     stamps: usize,
     /// When sources were forgotten last.
@@ -60,20 +63,30 @@ impl HeardSources {
         if self.is_full() {
             self.forget(stamp, oldest);
         }
-        let is_new = !self.sources.contains_key(&source);
-        if MOST_STAMPS <= self.stamps || (is_new && MOST <= self.sources.len()) {
+        if self.has_no_room(source) {
             self.lost.lose(stamp);
             return Ok(());
         }
-        let stamps = self.sources.entry(source)?.or_insert(Vec::new(self.alloc));
+        let stamps = self
+            .sources
+            .entry(source)?
+            .or_insert(VecDeque::new(self.alloc));
         let before = stamps.len();
         settle(stamps, settled);
-        if stamps.last() != Some(&stamp) {
-            stamps.push(stamp)?;
+        if stamps.back() != Some(&stamp) {
+            stamps.push_back(stamp)?;
         }
         let after = stamps.len();
         self.stamps = self.stamps.saturating_add(after).saturating_sub(before);
         Ok(())
+    }
+
+    /// Whether no stamp of a source can be kept.
+    fn has_no_room(&self, source: u64) -> bool {
+        if self.is_full() {
+            return MOST_STAMPS <= self.stamps || !self.sources.contains_key(&source);
+        }
+        false
     }
 
     /// Whether no more sources or stamps are kept.
@@ -89,7 +102,7 @@ impl HeardSources {
             return;
         }
         self.forgotten = Some(stamp);
-        self.sources.retain(|_, stamps| stamps.last().is_some_and(|last| oldest <= *last));
+        self.sources.retain(|_, stamps| stamps.back().is_some_and(|last| oldest <= *last));
         let mut count: usize = 0;
         for stamps in self.sources.values() {
             count = count.saturating_add(stamps.len());
@@ -101,7 +114,26 @@ impl HeardSources {
     pub(crate) fn count(&self, stretch: Stretch) -> u32 {
         let mut count: u32 = 0;
         for stamps in self.sources.values() {
-            if stamps.iter().any(|stamp| stretch.has(*stamp)) {
+            if was_heard(stamps, stretch) {
+                count = count.saturating_add(1);
+            }
+        }
+        count
+    }
+
+    /// At least as many as were heard in a stretch, and at most `limit` if those are. So they need no
+    /// count if all that are kept are not more.
+    pub(crate) fn at_most(&self, stretch: Stretch, limit: u32) -> u32 {
+        let all = u32::try_from(self.sources.len()).unwrap_or(u32::MAX);
+        if all <= limit {
+            return all;
+        }
+        let mut count: u32 = 0;
+        for stamps in self.sources.values() {
+            if was_heard(stamps, stretch) {
+                if limit <= count {
+                    return u32::MAX;
+                }
                 count = count.saturating_add(1);
             }
         }
@@ -109,13 +141,28 @@ impl HeardSources {
     }
 }
 
-/// Drops the stamps up to this one, but for the last of them.
-fn settle(stamps: &mut Vec<u64>, settled: u64) {
-    let mut last = 0;
+/// Whether a source with these stamps was heard in a stretch.
+fn was_heard(stamps: &VecDeque<u64>, stretch: Stretch) -> bool {
     for stamp in stamps.iter() {
-        if *stamp <= settled {
-            last = last.max(*stamp);
+        if stretch.has(*stamp) {
+            return true;
         }
     }
-    stamps.retain(|stamp| settled < *stamp || *stamp == last);
+    false
+}
+
+/// Leaves only the last of the first stamps up to `settled`: no stretch ends before it.
+fn settle(stamps: &mut VecDeque<u64>, settled: u64) {
+    for _ in 1..stamps.len() {
+        let (Some(first), Some(second)) = (stamps.front().copied(), stamps.get(1).copied()) else {
+            return;
+        };
+        if settled < first || settled < second {
+            return;
+        }
+        stamps.pop_front();
+        if let Some(front) = stamps.front_mut() {
+            *front = first.max(second);
+        }
+    }
 }

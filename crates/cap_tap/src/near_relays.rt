@@ -2,10 +2,10 @@
 
 use crate::heard_numbers::PacketId;
 use crate::lost::Lost;
+use crate::packet_queue::{PacketQueue, Walk};
 use crate::seen_record::SeenRecord;
 use its_linkframe::FrameView;
 use std::alloc::{AllocError, Global};
-use std::collections::VecDeque;
 
 /// How many octets of forwarded packets are kept at most.
 const MOST_OCTETS: usize = 1 << 20;
@@ -16,7 +16,6 @@ pub(crate) struct NearRelay {
     pub(crate) record: u64,
     pub(crate) stamp: u64,
     pub(crate) retried: bool,
-    pub(crate) packet: PacketId,
     pub(crate) left: u8,
     pub(crate) octets: Vec<u8>,
 }
@@ -25,7 +24,7 @@ pub(crate) struct NearRelay {
 #[derive(Drop)]
 pub(crate) struct NearRelays {
     alloc: Global,
-    relays: VecDeque<NearRelay>,
+    relays: PacketQueue<NearRelay>,
     octets: usize,
     /// What was forgotten.
     lost: Lost,
@@ -36,15 +35,20 @@ impl NearRelays {
     pub(crate) fn new(alloc: Global) -> NearRelays {
         NearRelays {
             alloc,
-            relays: VecDeque::new(alloc),
+            relays: PacketQueue::new(alloc),
             octets: 0,
             lost: Lost::nothing(),
         }
     }
 
-    /// The packets, the oldest first.
-    pub(crate) fn relays(&self) -> &VecDeque<NearRelay> {
-        &self.relays
+    /// A walk over the packets with this source and number.
+    pub(crate) fn walk(&self, id: &PacketId) -> Walk {
+        self.relays.walk(id)
+    }
+
+    /// The next packet of a walk.
+    pub(crate) fn step(&self, walk: &mut Walk) -> Option<&NearRelay> {
+        self.relays.step(walk)
     }
 
     /// Whether one may be missing that was sent at this time or later.
@@ -59,20 +63,20 @@ impl NearRelays {
         frame: &FrameView<'_>,
         oldest: u64,
     ) -> Result<(), AllocError> {
-        let Some(packet) = PacketId::of(frame) else {
+        let Some(id) = PacketId::of(frame) else {
             return Ok(());
         };
         let mut octets = Vec::new(self.alloc);
         octets.extend_from_slice(frame.packet.octets())?;
         self.octets = self.octets.saturating_add(octets.len());
-        self.relays.push_back(NearRelay {
+        let relay = NearRelay {
             record: record.number,
             stamp: record.stamp,
             retried: record.is_retry(),
-            packet,
             left: frame.packet.left(),
             octets,
-        })?;
+        };
+        self.relays.push_back(&id, relay)?;
         self.forget(oldest);
         Ok(())
     }

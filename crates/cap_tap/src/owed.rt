@@ -3,12 +3,13 @@
 use crate::forwarded::life;
 use crate::heard::HeardPacket;
 use crate::heard_numbers::PacketId;
+use crate::heard_sources::LARGEST_TABLE;
 use crate::near_relays::NearRelay;
 use crate::repeats::RETRY_TIME;
 use crate::seen_record::SeenRecord;
 use crate::source_runs::KnownSince;
 use crate::stretch::Stretch;
-use crate::tap::Tap;
+use crate::tap::{MetPacket, Tap};
 use crate::unread::UnreadIn;
 use its_duties::{Claims, OwedSearch, RelaySeen, lag, slack, wait};
 
@@ -19,8 +20,8 @@ pub struct HeardFrame<'a> {
     pub record: &'a SeenRecord,
     /// Its source and sequence number.
     pub packet: PacketId,
-    /// What was known of its source when it was met.
-    pub since: KnownSince,
+    /// What was known of it when it was met.
+    pub met: MetPacket,
 }
 
 /// When a capture begins, and up to when it is complete.
@@ -38,6 +39,13 @@ pub(crate) struct Kept<'a> {
     pub(crate) tap: &'a Tap,
     pub(crate) times: CaptureTimes,
 }
+
+/// How many frames of a packet's number are looked at, and how many packets of it if numbers of its
+/// source may be missing, so that each one may be new.
+const MOST_TRIED: usize = 4096;
+
+/// For so many frames that a packet didn't cause its copies are looked at.
+const MOST_OTHERS: usize = 64;
 
 /// The frame that a heard packet caused.
 #[derive(Clone, Copy)]
@@ -59,7 +67,7 @@ pub struct Gaps {
     pub unread: Option<UnreadIn>,
     /// A frame that the station may have sent isn't read.
     pub sent_unread: Option<UnreadIn>,
-    /// What was heard or forwarded had to give way.
+    /// What was heard or forwarded had to give way, or isn't all looked at.
     pub too_many: bool,
 }
 
@@ -93,6 +101,18 @@ struct Copies {
     repeated: bool,
     is_new: bool,
     other: Option<u64>,
+    /// There are more than are looked at.
+    too_many: bool,
+}
+
+/// The frame that a packet caused, as far as frames were looked at.
+#[derive(Clone, Copy)]
+struct CauseSearch {
+    caused: Caused,
+    /// How many frames the packet didn't cause, nor a copy of it.
+    others: usize,
+    /// There are more than are looked at.
+    too_many: bool,
 }
 
 /// How long a source may count for the station, by stamps.
@@ -136,45 +156,87 @@ fn is_made_from(claims: &Claims, packet: &HeardPacket, relay: &NearRelay) -> boo
 }
 
 impl Kept<'_> {
-    /// Finds what is known of a heard packet.
+    /// Finds what is known of a heard packet. Its copies are looked at only if its number is new,
+    /// because it isn't owed otherwise. A number is new once for as long as its source counts. So a
+    /// source that sends one number again and again has its packets looked at once.
     pub(crate) fn find(&self, frame: &HeardFrame<'_>) -> FoundOwed {
+        let own = self.tap.heard.at(frame.met.place);
+        if frame.met.since.is_new {
+            return self.find_new(frame, own);
+        }
         let claims = &self.tap.claims;
         let (first, last) = sent_from_to(frame.record);
-        let to = last.saturating_add(span(claims));
-        let (from, is_fresh) = self.known_from(frame.since);
-        let start = from.unwrap_or(first);
-        let own = self.tap.heard.of_record(frame.record.number);
-        let copies = self.copies(frame, own, start, Stretch { from: first, to });
-        let before = first.saturating_sub(slack(claims).saturating_mul(2));
-        let until = copies.until.saturating_add(span(claims));
-        let sent = Stretch {
-            from: before,
-            to: until,
-        };
-        let caused = self.caused(frame, own, copies.is_new, sent);
-        let mut gaps = self.gaps(Stretch { from: start, to }, sent);
-        gaps.too_many = gaps.too_many || own.is_none() || self.tap.heard.may_lack(first);
+        let sent = sent_then(claims, first, last);
+        let search = self.caused(frame, own, false, sent);
         FoundOwed {
             search: OwedSearch {
-                relay: relay_seen(caused),
+                relay: relay_seen(search.caused),
                 known_target: frame.record.known_target,
-                late: self
-                    .times
-                    .begin
-                    .saturating_add(slack(claims).saturating_mul(2))
-                    <= first,
+                late: false,
+                known_from: false,
+                new: false,
+                copies: false,
+                sources: u32::MAX,
+                goes_on: false,
+                all_read: false,
+            },
+            caused: search.caused,
+            is_fresh: false,
+            other: None,
+            gaps: Gaps {
+                unread: None,
+                sent_unread: None,
+                too_many: true,
+            },
+        }
+    }
+
+    /// Finds what is known of a heard packet whose number is new.
+    fn find_new(&self, frame: &HeardFrame<'_>, own: Option<&HeardPacket>) -> FoundOwed {
+        let claims = &self.tap.claims;
+        let (first, last) = sent_from_to(frame.record);
+        let heard = Stretch {
+            from: first,
+            to: last.saturating_add(span(claims)),
+        };
+        let (from, is_fresh) = self.known_from(frame.met.since);
+        let start = from.unwrap_or(first);
+        let copies = self.copies(frame, own, start, heard);
+        let sent = sent_then(claims, first, copies.until);
+        let search = self.caused(frame, own, copies.is_new, sent);
+        let mut gaps = self.gaps(
+            Stretch {
+                from: start,
+                ..heard
+            },
+            sent,
+        );
+        let lacks_heard = own.is_none() || copies.too_many || self.tap.heard.may_lack(first);
+        gaps.too_many = gaps.too_many || lacks_heard || search.too_many;
+        FoundOwed {
+            search: OwedSearch {
+                relay: relay_seen(search.caused),
+                known_target: frame.record.known_target,
+                late: self.is_late(first),
                 known_from: from.is_some(),
                 new: copies.is_new,
                 copies: copies.other.is_none(),
-                sources: self.sources(first, to),
-                goes_on: self.goes_on(frame.record.is_wireless() || copies.repeated, until),
+                sources: self.sources(heard),
+                goes_on: self.goes_on(frame.record.is_wireless() || copies.repeated, sent.to),
                 all_read: gaps.is_empty(),
             },
-            caused,
+            caused: search.caused,
             is_fresh,
             other: copies.other,
             gaps,
         }
+    }
+
+    /// Whether a packet that was sent first at this stamp comes after the last call before the
+    /// capture.
+    fn is_late(&self, first: u64) -> bool {
+        let doubt = slack(&self.tap.claims).saturating_mul(2);
+        self.times.begin.saturating_add(doubt) <= first
     }
 
     /// What isn't read of what was heard, and of what the station sent, in these stretches.
@@ -187,10 +249,16 @@ impl Kept<'_> {
         }
     }
 
-    /// How many sources count for a packet that was sent first at this stamp, up to another one.
-    fn sources(&self, first: u64, to: u64) -> u32 {
-        let from = first.saturating_sub(reach(&self.tap.claims));
-        self.tap.forwarded.sources_in(Stretch { from, to })
+    /// At least as many sources as count for a packet that was heard in this stretch, and not more
+    /// than a table has room for if those are not.
+    fn sources(&self, heard: Stretch) -> u32 {
+        let claims = &self.tap.claims;
+        let counted = Stretch {
+            from: heard.from.saturating_sub(reach(claims)),
+            ..heard
+        };
+        let room = claims.capacity.unwrap_or(LARGEST_TABLE);
+        self.tap.forwarded.sources_at_most(counted, room)
     }
 
     /// From which stamp on it is known what was heard of a source, if from one. `true`: it is known
@@ -228,28 +296,34 @@ impl Kept<'_> {
         let mut copies = Copies {
             until: last,
             repeated: false,
-            is_new: frame.since.is_new,
+            is_new: true,
             other: None,
+            too_many: false,
         };
         let Some(own) = own else {
             return copies;
         };
-        for packet in self.tap.heard.packets().iter() {
-            let is_other = packet.number != frame.record.number;
-            if is_other && packet.is_of(frame.packet) {
-                if packet.lies_in(beside.from, beside.to) {
-                    copies.until = copies.until.max(packet.last_sending());
-                    copies.repeated = copies.repeated || packet.is_repeated();
-                    let is_copy = own.is_copy(&self.tap.claims, packet.octets.as_slice());
-                    if !(is_copy && 2 <= packet.hops.left()) {
-                        copies.other = copies.other.or(Some(packet.number));
-                    }
+        let heard = &self.tap.heard;
+        let mut walk = heard.walk(&frame.packet);
+        for _ in 0..self.most_copies(frame) {
+            match heard.step(&mut walk) {
+                Some(packet) if packet.number == own.number => {}
+                Some(packet) => {
+                    copies = copies.with(&self.tap.claims, own, packet, start, beside);
                 }
-                let before = beside.from.saturating_sub(1);
-                copies.is_new = copies.is_new && !packet.lies_in(start, before);
+                None => return copies,
             }
         }
+        copies.too_many = walk.has_more();
         copies
+    }
+
+    /// How many packets of a packet's number are looked at.
+    fn most_copies(&self, frame: &HeardFrame<'_>) -> usize {
+        match frame.met.since.oldest {
+            Some(_) => self.tap.heard.count(),
+            None => MOST_TRIED,
+        }
     }
 
     /// The frame that a packet caused.
@@ -259,27 +333,33 @@ impl Kept<'_> {
         own: Option<&HeardPacket>,
         is_new: bool,
         sent: Stretch,
-    ) -> Caused {
-        let mut caused = Caused::None;
-        for relay in self.tap.relays.relays().iter() {
-            let later = if relay.retried { RETRY_TIME } else { 0 };
-            let is_then = sent.from <= relay.stamp && relay.stamp <= sent.to.saturating_add(later);
-            if relay.packet != frame.packet || !is_then {
+    ) -> CauseSearch {
+        let mut search = CauseSearch {
+            caused: Caused::None,
+            others: 0,
+            too_many: false,
+        };
+        let relays = &self.tap.relays;
+        let mut walk = relays.walk(&frame.packet);
+        for _ in 0..MOST_TRIED {
+            let Some(relay) = relays.step(&mut walk) else {
+                return search;
+            };
+            if !is_sent_then(relay, sent) {
                 continue;
             }
             if let Some(own) = own
                 && is_made_from(&self.tap.claims, own, relay)
             {
-                return Caused::Frame(relay.record);
+                search.caused = Caused::Frame(relay.record);
+                return search;
             }
-            let by_copy = is_new && self.is_of_copy(frame, own, relay);
-            caused = match caused {
-                Caused::None | Caused::Other(_) if by_copy => Caused::ByCopy(relay.record),
-                Caused::None => Caused::Other(relay.record),
-                other => other,
-            };
+            let may_be_by_copy = is_new && search.takes_copies();
+            let by_copy = may_be_by_copy && self.is_of_copy(frame, own, relay);
+            search = search.with(relay.record, by_copy);
         }
-        caused
+        search.too_many = search.too_many || walk.has_more();
+        search
     }
 
     /// Whether a frame was made from a copy of a packet.
@@ -292,15 +372,81 @@ impl Kept<'_> {
         let Some(own) = own else {
             return false;
         };
-        for packet in self.tap.heard.packets().iter() {
-            if packet.is_of(frame.packet)
-                && own.is_copy(&self.tap.claims, packet.octets.as_slice())
-                && is_made_from(&self.tap.claims, packet, relay)
+        let (claims, heard) = (&self.tap.claims, &self.tap.heard);
+        let mut walk = heard.walk(&frame.packet);
+        for _ in 0..self.most_copies(frame) {
+            let Some(packet) = heard.step(&mut walk) else {
+                return false;
+            };
+            if own.is_copy(claims, packet.octets.as_slice())
+                && is_made_from(claims, packet, relay)
             {
                 return true;
             }
         }
         false
+    }
+}
+
+impl Copies {
+    /// Adds another packet of the same source and number.
+    fn with(
+        self,
+        claims: &Claims,
+        own: &HeardPacket,
+        packet: &HeardPacket,
+        start: u64,
+        beside: Stretch,
+    ) -> Copies {
+        let mut copies = self;
+        if packet.lies_in(beside.from, beside.to) {
+            copies.until = copies.until.max(packet.last_sending());
+            copies.repeated = copies.repeated || packet.is_repeated();
+            let is_copy = own.is_copy(claims, packet.octets.as_slice());
+            if !(is_copy && 2 <= packet.hops.left()) {
+                copies.other = copies.other.or(Some(packet.number));
+            }
+        }
+        let before = beside.from.saturating_sub(1);
+        copies.is_new = copies.is_new && !packet.lies_in(start, before);
+        copies
+    }
+}
+
+impl CauseSearch {
+    /// Whether it may be by a copy that the next frame was caused.
+    fn takes_copies(self) -> bool {
+        self.others < MOST_OTHERS && !matches!(self.caused, Caused::ByCopy(_))
+    }
+
+    /// Adds the frame of a record that the packet itself didn't cause.
+    fn with(self, record: u64, by_copy: bool) -> CauseSearch {
+        let caused = match self.caused {
+            Caused::None | Caused::Other(_) if by_copy => Caused::ByCopy(record),
+            Caused::None => Caused::Other(record),
+            other => other,
+        };
+        let others = self.others.saturating_add(usize::from(!by_copy));
+        CauseSearch {
+            caused,
+            others,
+            too_many: MOST_OTHERS < others && !matches!(caused, Caused::ByCopy(_)),
+        }
+    }
+}
+
+/// Whether a frame was sent in this time, or may have been before its link sent it again.
+fn is_sent_then(relay: &NearRelay, sent: Stretch) -> bool {
+    let later = if relay.retried { RETRY_TIME } else { 0 };
+    sent.from <= relay.stamp && relay.stamp <= sent.to.saturating_add(later)
+}
+
+/// When the frames were sent that a packet may have caused: it was sent first at one stamp, and the
+/// last of its copies at the other.
+fn sent_then(claims: &Claims, first: u64, last: u64) -> Stretch {
+    Stretch {
+        from: first.saturating_sub(slack(claims).saturating_mul(2)),
+        to: last.saturating_add(span(claims)),
     }
 }
 

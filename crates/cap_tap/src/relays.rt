@@ -1,6 +1,7 @@
 //! What a forwarded packet was made from.
 
 use crate::heard::{HeardPacket, HeardPackets};
+use crate::heard_numbers::PacketId;
 use crate::repeats::RETRY_TIME;
 use crate::unread::{UnreadIn, UnreadRecords};
 use its_duties::{Claims, PacketOrigin, RelaySearch, longest, slack, wait};
@@ -89,11 +90,14 @@ impl Sources {
             last: None,
             nearest: Nearest::None,
         };
-        for packet in heard.packets().iter() {
-            if Some(packet.sequence) == relay.frame.packet.number()
-                && packet.source == relay.frame.packet.vector().address()
-            {
-                sources = sources.with(claims, packet, relay, search);
+        let Some(id) = PacketId::of(relay.frame) else {
+            return sources;
+        };
+        let mut walk = heard.walk(&id);
+        for _ in 0..heard.count() {
+            match heard.step(&mut walk) {
+                Some(packet) => sources = sources.with(claims, packet, relay, search),
+                None => return sources,
             }
         }
         sources

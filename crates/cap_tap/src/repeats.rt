@@ -50,16 +50,15 @@ impl Repeats {
             return None;
         }
         let oldest = record.stamp.saturating_sub(RETRY_TIME);
-        let mut first = None;
-        for sending in self.sendings.iter() {
+        for sending in self.sendings.iter().rev() {
             if oldest <= sending.stamp
                 && sending.header == link.header
                 && sending.octets.as_slice() == record.octets.as_slice()
             {
-                first = Some(sending.first);
+                return Some(sending.first);
             }
         }
-        first
+        None
     }
 
     /// Forgets the sendings of before a stamp, and the first ones if there are too many.

@@ -30,7 +30,7 @@ struct SourceRun {
 
 /// What was known of a packet's source when the packet was heard.
 #[derive(Clone, Copy)]
-pub struct KnownSince {
+pub(crate) struct KnownSince {
     /// No record of the run was sent before this stamp, and none of its source less than a reach
     /// before it. `None` if it isn't known.
     pub(crate) oldest: Option<u64>,

@@ -2,6 +2,7 @@
 
 use crate::forwarded::{ForwardedPacket, ForwardedPackets, FoundEarlier};
 use crate::heard::HeardPackets;
+use crate::heard_numbers::HeardFrom;
 use crate::kept_times::{disorder, oldest, oldest_near, oldest_of_once};
 use crate::near_relays::NearRelays;
 use crate::owed::{CaptureTimes, FoundOwed, HeardFrame, Kept, reach, sent_from_to};
@@ -35,9 +36,17 @@ pub struct MetRecord {
     pub role: Role,
     /// The step to its sequence number, if there is one.
     pub step: Option<StepFrom>,
-    /// What was known of its source, if the station may have received it and it is a packet for an
-    /// area.
-    pub since: Option<KnownSince>,
+    /// The packet, if it is one for an area that the station may have received.
+    pub heard: Option<MetPacket>,
+}
+
+/// A packet for an area that the station may have received.
+#[derive(Clone, Copy)]
+pub struct MetPacket {
+    /// What was known of its source when it was met.
+    pub(crate) since: KnownSince,
+    /// Its place among all that were heard.
+    pub(crate) place: u64,
 }
 
 impl MetRecord {
@@ -46,14 +55,14 @@ impl MetRecord {
         MetRecord {
             role,
             step: None,
-            since: None,
+            heard: None,
         }
     }
 
     /// Whether it is judged.
     pub fn is_judged(&self) -> bool {
         let is_sent = matches!(self.role, Role::Own | Role::Forwarded | Role::SentUnread);
-        is_sent || self.since.is_some()
+        is_sent || self.heard.is_some()
     }
 }
 
@@ -85,45 +94,42 @@ impl Tap {
         let mut met = MetRecord::of(role);
         match (role, &frame) {
             (Role::Own, Ok(view)) => met.step = self.own.add(&self.claims, record, view)?,
-            (Role::Heard, Ok(view)) => met.since = self.add_heard(record, view, settled)?,
+            (Role::Heard, Ok(view)) => met.heard = self.add_heard(record, view, settled)?,
             (Role::Forwarded, Ok(view)) => self.add_forwarded(record, view)?,
             _ => self.add_unread(record, role, &frame)?,
         }
         Ok(met)
     }
 
-    /// Adds a frame that the station may have received. Returns what was known of its source before,
-    /// if it is a packet for an area.
+    /// Adds a frame that the station may have received. Returns the packet, if it is one for an area.
     fn add_heard(
         &mut self,
         record: &SeenRecord,
         frame: &FrameView<'_>,
         settled: u64,
-    ) -> Result<Option<KnownSince>, AllocError> {
+    ) -> Result<Option<MetPacket>, AllocError> {
         let claims = &self.claims;
-        let (back, near) = (
-            oldest(claims, record.stamp),
-            oldest_near(claims, record.stamp),
-        );
+        let back = oldest(claims, record.stamp);
+        let near = oldest_near(claims, record.stamp);
         let once = oldest_of_once(claims, record.stamp);
-        self.heard.add(record, frame, back, near)?;
-        self.forwarded.add_heard(record, frame, settled, once)?;
-        self.add_to_run(record, frame)
+        let heard = HeardFrom::of(frame);
+        let place = self.heard.add(record, frame, &heard, (back, near))?;
+        self.forwarded.add_heard(record, &heard, settled, once)?;
+        let since = self.add_to_run(record, &heard)?;
+        Ok(place.map(|place| MetPacket { since, place }))
     }
 
-    /// Adds such a frame to the run of its source. Returns what was known of it before, if it is a
-    /// packet for an area.
+    /// Adds such a frame to the run of its source. Returns what was known of the source before.
     fn add_to_run(
         &mut self,
         record: &SeenRecord,
-        frame: &FrameView<'_>,
-    ) -> Result<Option<KnownSince>, AllocError> {
-        let (source, number) = (frame.packet.vector().address(), frame.packet.number());
+        heard: &HeardFrom,
+    ) -> Result<KnownSince, AllocError> {
         let reach = reach(&self.claims);
         let (_, last) = sent_from_to(record);
         let first = record.stamp.saturating_sub(disorder(&self.claims));
-        let since = self.runs.add(source, number, (first, last), reach)?;
-        Ok(number.map(|_| since))
+        self.runs
+            .add(heard.source, heard.sequence, (first, last), reach)
     }
 
     /// Adds a packet that the station forwarded, if it is one for an area.
@@ -196,18 +202,20 @@ impl Tap {
         settled: u64,
     ) -> Result<bool, AllocError> {
         let stamp = record.stamp;
-        self.heard.repeat(first, stamp)?;
+        let frame = record.frame();
+        if may_have_number(&frame) {
+            self.heard.repeat(first, stamp)?;
+        }
         self.unread.repeat(first, stamp)?;
         self.forwarded.repeat_unread(first, stamp)?;
-        let frame = record.frame();
         match (record.role(&self.claims, &frame), &frame) {
             (Role::Heard, Ok(view)) => {
                 let once = oldest_of_once(&self.claims, stamp);
-                let source = view.packet.vector().address();
-                self.runs.repeat(source, stamp);
+                let heard = HeardFrom::of(view);
+                self.runs.repeat(heard.source, stamp);
                 self.forwarded
-                    .repeat_heard(first, stamp, source, settled, once)?;
-                Ok(view.packet.number().is_some())
+                    .repeat_heard(first, stamp, &heard, settled, once)?;
+                Ok(heard.sequence.is_some())
             }
             _ => Ok(false),
         }
@@ -231,5 +239,13 @@ impl Tap {
     /// Finds what is known of a packet for an area that the station may have received.
     pub fn find_owed(&self, times: CaptureTimes, frame: &HeardFrame<'_>) -> FoundOwed {
         Kept { tap: self, times }.find(frame)
+    }
+}
+
+/// Whether the first sending of a frame may be a packet for an area.
+fn may_have_number(frame: &Result<FrameView<'_>, FrameFault>) -> bool {
+    match frame {
+        Ok(view) => view.packet.number().is_some(),
+        Err(_) => true,
     }
 }

@@ -38,6 +38,8 @@ fn later_of(before: Option<UnreadRecord>, record: UnreadRecord) -> UnreadRecord 
 #[derive(Drop)]
 pub(crate) struct UnreadRecords {
     records: VecDeque<UnreadRecord>,
+    /// How many of them stay unread though the station processes only frames of the profile.
+    despite_profile: usize,
     /// The last of those that had to give way.
     lost: Option<UnreadRecord>,
     /// The last of those that were forgotten.
@@ -49,6 +51,7 @@ impl UnreadRecords {
     pub(crate) fn new(alloc: Global) -> UnreadRecords {
         UnreadRecords {
             records: VecDeque::new(alloc),
+            despite_profile: 0,
             lost: None,
             forgotten: None,
         }
@@ -63,12 +66,22 @@ impl UnreadRecords {
     /// Adds a sending. If there are too many, the first one gives way.
     fn push(&mut self, record: UnreadRecord) -> Result<(), AllocError> {
         if MOST <= self.records.len() {
-            if let Some(first) = self.records.pop_front() {
+            if let Some(first) = self.take_first() {
                 self.lost = Some(later_of(self.lost, first));
             }
         }
+        let despite_profile = usize::from(record.despite_profile);
+        self.despite_profile = self.despite_profile.saturating_add(despite_profile);
         self.records.push_back(record)?;
         Ok(())
+    }
+
+    /// Takes the first sending.
+    fn take_first(&mut self) -> Option<UnreadRecord> {
+        let first = self.records.pop_front()?;
+        let despite_profile = usize::from(first.despite_profile);
+        self.despite_profile = self.despite_profile.saturating_sub(despite_profile);
+        Some(first)
     }
 
     /// Forgets the sendings of before a stamp.
@@ -78,7 +91,7 @@ impl UnreadRecords {
                 Some(record) if record.stamp < oldest => {}
                 _ => return,
             }
-            if let Some(first) = self.records.pop_front() {
+            if let Some(first) = self.take_first() {
                 self.forgotten = Some(later_of(self.forgotten, first));
             }
         }
@@ -86,16 +99,20 @@ impl UnreadRecords {
 
     /// Adds another sending of a record, if it is one of these.
     pub(crate) fn repeat(&mut self, number: u64, stamp: u64) -> Result<(), AllocError> {
-        let mut found = None;
-        for record in self.records.iter() {
+        match self.last_of(number) {
+            Some(record) => self.push(UnreadRecord { stamp, ..record }),
+            None => Ok(()),
+        }
+    }
+
+    /// The last sending of a record, looked for from the end: the link sends a frame again soon.
+    fn last_of(&self, number: u64) -> Option<UnreadRecord> {
+        for record in self.records.iter().rev() {
             if record.number == number {
-                found = Some(*record);
+                return Some(*record);
             }
         }
-        if let Some(record) = found {
-            self.push(UnreadRecord { stamp, ..record })?;
-        }
-        Ok(())
+        None
     }
 
     /// What is unread from one stamp to another, if anything is.
@@ -108,27 +125,42 @@ impl UnreadRecords {
                 despite_profile: true,
             });
         }
-        let mut found: Option<UnreadIn> = None;
         if let Some(forgotten) = self.forgotten
             && from <= forgotten.stamp
         {
-            found = Some(UnreadIn {
+            return Some(UnreadIn {
                 first: forgotten.number,
                 despite_profile: true,
             });
         }
+        let first = self.first_in(from, to)?;
+        Some(UnreadIn {
+            first,
+            despite_profile: self.has_despite_profile(from, to),
+        })
+    }
+
+    /// The first record that is unread from one stamp to another.
+    fn first_in(&self, from: u64, to: u64) -> Option<u64> {
         for record in self.records.iter() {
             if from <= record.stamp && record.stamp <= to {
-                let before = found.unwrap_or(UnreadIn {
-                    first: record.number,
-                    despite_profile: false,
-                });
-                found = Some(UnreadIn {
-                    first: before.first,
-                    despite_profile: before.despite_profile || record.despite_profile,
-                });
+                return Some(record.number);
             }
         }
-        found
+        None
+    }
+
+    /// Whether a record from one stamp to another stays unread though the station processes only
+    /// frames of the profile. They are looked at only if any of all is such a one.
+    fn has_despite_profile(&self, from: u64, to: u64) -> bool {
+        if self.despite_profile == 0 {
+            return false;
+        }
+        for record in self.records.iter() {
+            if record.despite_profile && from <= record.stamp && record.stamp <= to {
+                return true;
+            }
+        }
+        false
     }
 }

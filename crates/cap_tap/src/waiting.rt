@@ -29,7 +29,7 @@ impl Waiting {
     /// When the capture has all that it is judged by. A frame that the link sends again and again
     /// doesn't put this off without an end.
     fn end(&self, claims: &Claims) -> u64 {
-        if self.met.since.is_some() {
+        if self.met.heard.is_some() {
             let (_, last) = sent_from_to(&self.record);
             let longest = self.record.stamp.saturating_add(RETRY_TIME);
             return last.min(longest).saturating_add(owed_time(claims));
@@ -79,13 +79,25 @@ impl WaitingFrames {
         Ok(())
     }
 
-    /// Notes another sending of a record.
+    /// Notes another sending of a record, which is looked for from the end: the link sends a frame
+    /// again soon.
     pub fn repeat(&mut self, number: u64, stamp: u64) -> Result<(), AllocError> {
-        for waiting in self.frames.iter_mut() {
-            if waiting.record.number == number && waiting.met.since.is_some() {
-                waiting.record.repeats.push(stamp)?;
-                self.octets = self.octets.saturating_add(STAMP);
+        for place in (0..self.frames.len()).rev() {
+            let waiting = self.frames.get(place);
+            if waiting.is_some_and(|waiting| waiting.record.number == number) {
+                return self.add_repeat(place, stamp);
             }
+        }
+        Ok(())
+    }
+
+    /// Notes another sending of the record at a place, if it may have been heard.
+    fn add_repeat(&mut self, place: usize, stamp: u64) -> Result<(), AllocError> {
+        if let Some(waiting) = self.frames.get_mut(place)
+            && waiting.met.heard.is_some()
+        {
+            waiting.record.repeats.push(stamp)?;
+            self.octets = self.octets.saturating_add(STAMP);
         }
         Ok(())
     }

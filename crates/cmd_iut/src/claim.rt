@@ -9,7 +9,7 @@ pub enum Claim {
     Sent,
     /// Each frame that it received is in the capture.
     Received,
-    /// Each frame of the capture that is for it reached it.
+    /// The station received each frame of the capture that is for it.
     Delivered,
     /// It knew of no other station when the capture began.
     Fresh,
@@ -39,7 +39,7 @@ pub(crate) const CLAIMS: [Claim; 9] = [
 ];
 
 impl Claim {
-    /// Its name, in the station file and after `--assume`.
+    /// Returns its name, in the station file and after `--assume`.
     pub fn word(self) -> &'static str {
         match self {
             Claim::Sent => "sent",
@@ -54,7 +54,7 @@ impl Claim {
         }
     }
 
-    /// The claim of this name.
+    /// Returns the claim with this name.
     pub fn named(word: &str) -> Option<Claim> {
         CLAIMS.iter().copied().find(|claim| claim.word() == word)
     }
@@ -74,7 +74,7 @@ impl Claim {
         }
     }
 
-    /// These claims with this one true.
+    /// Returns these claims with this one true.
     fn made_in(self, claims: &Claims) -> Claims {
         let mut made = *claims;
         match self {
@@ -92,17 +92,17 @@ impl Claim {
     }
 }
 
-/// Claims that are assumed: whether each is, at its place in `CLAIMS`.
+/// The claims that are assumed: for each claim of `CLAIMS`, in order, whether it is.
 #[derive(Clone, Copy, Debug, PartialEq, Eq)]
 pub struct ClaimSet([bool; 9]);
 
 impl ClaimSet {
-    /// No claim.
+    /// Returns the empty set.
     pub fn none() -> ClaimSet {
         ClaimSet([false; 9])
     }
 
-    /// The same claims and this one.
+    /// Returns the set with this claim in addition.
     pub fn with(self, claim: Claim) -> ClaimSet {
         let mut set = self;
         for (place, other) in CLAIMS.iter().enumerate() {
@@ -115,13 +115,13 @@ impl ClaimSet {
         set
     }
 
-    /// Whether a claim is one of them.
+    /// Whether the set has a claim.
     pub(crate) fn has(self, claim: Claim) -> bool {
         let place = CLAIMS.iter().position(|other| *other == claim);
         place.is_some_and(|place| self.0.get(place) == Some(&true))
     }
 
-    /// Those that these claims don't have, each true.
+    /// Returns the claims of the set that are false in these claims.
     pub(crate) fn beyond(self, claims: &Claims) -> ClaimSet {
         let mut set = ClaimSet::none();
         for claim in CLAIMS {
@@ -132,7 +132,7 @@ impl ClaimSet {
         set
     }
 
-    /// These claims with each of the set true.
+    /// Returns these claims with each claim of the set true.
     pub(crate) fn assumed_in(self, claims: &Claims) -> Claims {
         let mut all = *claims;
         for claim in CLAIMS {

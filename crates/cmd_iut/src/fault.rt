@@ -11,21 +11,21 @@ use std::io::Write;
 /// What the value of a key has to be.
 #[derive(Clone, Copy)]
 pub enum Wanted {
-    /// An address of 16 hexadecimal digits, which is no group.
+    /// An address of 16 hexadecimal digits that is not that of a group.
     Address,
-    /// A link address of 12 hexadecimal digits, which is no group.
+    /// A link address of 12 hexadecimal digits that is not that of a group.
     LinkAddress,
     /// A whole number in this range.
     Whole(i64, i64),
     /// True or false.
     Truth,
-    /// One of these words.
+    /// One of these keywords.
     Word(&'static str),
     /// The number 65535 or 65536.
     Modulus,
-    /// The number of a capture of the command, which has one.
+    /// The number of the command's capture. It has only one.
     Tap,
-    /// A value if the other of a pair has one.
+    /// A value, since the other key of the pair has one.
     Pair,
 }
 
@@ -44,18 +44,18 @@ impl fmt::Display for Wanted {
     }
 }
 
-/// Why a station file isn't read. It prints as the line on standard error.
+/// Why a station file isn't read. It prints as its line on standard error.
 #[derive(Drop)]
 pub enum StationFault<'a> {
-    /// It isn't TOML, from this line on.
+    /// It isn't TOML, by a fault in this line.
     NotToml(usize),
-    /// The key has another value than it may have.
+    /// The key has an invalid value.
     Value(TableName, &'static str, Wanted),
     /// A key of a table is unknown.
     UnknownKey(TableName, String),
     /// This is not a table, or an unknown one.
     NotTable(String),
-    /// What ends any command.
+    /// A fault that can end any command.
     Stopped(Fault<'a>),
 }
 
@@ -94,6 +94,8 @@ impl fmt::Display for Reason {
 }
 
 impl CommandFault for StationFault<'_> {
+    type Ending = Status;
+
     ghost use Rattle.cmd_iut.specs.Faults.{station_fault_status};
 
     ghost status_of = { station_fault_status };

@@ -1,11 +1,11 @@
-//! The first line: what is claimed and assumed, and with which values.
+//! The first line of a report: the claims, the assumptions and their values.
 
 use crate::claim::{CLAIMS, ClaimSet};
 use crate::station_file::{StampClock, StationFile, USUAL_CLOCK_ERROR, usual_claims};
 use its_duties::{AreaForwarding, BeaconReset, Claims, NonAreaForwarding, SequenceModulus};
 use std::fmt;
 
-/// What is claimed of a station, and what is assumed besides.
+/// The claims about a station, and what is assumed in addition.
 #[derive(Clone, Copy)]
 pub struct Premises<'a> {
     /// What the station file says.
@@ -22,7 +22,7 @@ impl Premises<'_> {
         self.assumed.assumed_in(&self.file.claims)
     }
 
-    /// Writes the claims of the file, or those that are assumed besides.
+    /// Writes the claims of the file, or those that are assumed in addition.
     fn write_claims<W: fmt::Write>(
         &self,
         is_assumed: bool,
@@ -58,7 +58,7 @@ impl Premises<'_> {
         Ok(())
     }
 
-    /// Writes the values for which nothing is proved: those that the model has not.
+    /// Writes the values that the model does not have. Nothing is proved for them.
     fn write_not_proved<W: fmt::Write>(&self, f: &mut fmt::Formatter<W>) -> fmt::Result {
         let claims = &self.file.claims;
         let mut part = "; not proved: ";
@@ -87,7 +87,7 @@ impl fmt::Display for Premises<'_> {
     }
 }
 
-/// The value of a key, as it is printed.
+/// The value of a key, as the first line prints it.
 #[derive(Clone, Copy)]
 enum Shown {
     Word(&'static str),
@@ -107,7 +107,7 @@ impl fmt::Display for Shown {
     }
 }
 
-/// What the value of a key is without the file.
+/// The default of a key.
 #[derive(Clone, Copy)]
 enum Usual {
     Word(&'static str),
@@ -138,7 +138,7 @@ impl KeyValue {
         }
     }
 
-    /// A number that the model has as its default alone.
+    /// A number for which the model has only the default.
     fn constant(key: &'static str, number: u32, default: u32) -> KeyValue {
         KeyValue {
             model: Some(Shown::Number(u64::from(default))),
@@ -166,7 +166,7 @@ impl KeyValue {
         }
     }
 
-    /// A word that has a default.
+    /// A keyword that has a default.
     fn word(key: &'static str, word: &'static str, default: &'static str) -> KeyValue {
         KeyValue {
             key,
@@ -196,7 +196,7 @@ impl KeyValue {
     }
 }
 
-/// The values of all keys of claims and of the capture, with these claims.
+/// Returns the values of all keys of claims and of the capture, with these claims.
 fn values_of(file: &StationFile, claims: &Claims) -> [KeyValue; 28] {
     let usual = usual_claims(claims.address);
     let [area, elsewhere, remember, life, capacity, profile, interval] = forwarding_values(
@@ -238,7 +238,7 @@ fn values_of(file: &StationFile, claims: &Claims) -> [KeyValue; 28] {
     ]
 }
 
-/// The values of what a station forwards, beside the defaults.
+/// Returns the values of the keys of forwarding, with their defaults.
 fn forwarding_values(claims: &Claims, usual: &Claims) -> [KeyValue; 7] {
     let area = match claims.area {
         AreaForwarding::Simple => "simple",
@@ -265,7 +265,7 @@ fn forwarding_values(claims: &Claims, usual: &Claims) -> [KeyValue; 7] {
     ]
 }
 
-/// The values of what a station sends by itself, beside the defaults.
+/// Returns the values of the keys of what a station sends by itself, with their defaults.
 fn sending_values(claims: &Claims, usual: &Claims) -> [KeyValue; 6] {
     let reset = match claims.reset {
         Some(BeaconReset::Any) => Shown::Word("any"),
@@ -295,7 +295,7 @@ fn sending_values(claims: &Claims, usual: &Claims) -> [KeyValue; 6] {
     ]
 }
 
-/// The claims of a station.
+/// Returns the claims of a station.
 fn claim_values(claims: &Claims) -> [KeyValue; 4] {
     [
         KeyValue::claim("steady", claims.steady),
@@ -305,7 +305,7 @@ fn claim_values(claims: &Claims) -> [KeyValue; 4] {
     ]
 }
 
-/// The values of a capture, beside the defaults.
+/// Returns the values of the keys of a capture, with their defaults.
 fn capture_values(claims: &Claims, usual: &Claims) -> [KeyValue; 6] {
     [
         KeyValue::claim("sent", claims.sent),
@@ -317,7 +317,7 @@ fn capture_values(claims: &Claims, usual: &Claims) -> [KeyValue; 6] {
     ]
 }
 
-/// The values of its stamps, and which of its records are the station's.
+/// Returns the values of the keys of its stamps, and of which records are the station's.
 fn clock_values(file: &StationFile, claims: &Claims) -> [KeyValue; 5] {
     let clock = match file.clock {
         StampClock::None => "none",

@@ -1,10 +1,10 @@
-//! What is claimed of a station under test and of a capture: the station file of `verdict`, and the
-//! claims that are assumed besides.
+//! The claims about a station under test and about a capture: the station file of `verdict`, and
+//! the claims that are assumed in addition.
 //!
 //! # What is proved
 //!
-//! A file that is refused ends the command with status 1, and only a file that can't be read, or
-//! memory that runs out, with another (`station_fault_status`).
+//! A file that is refused ends the command with status 1. A file that can't be read, or memory that
+//! runs out, ends it with another status (`station_fault_status`).
 //!
 //! # Only tested
 //!

@@ -9,7 +9,7 @@ use std::alloc::{AllocError, Global};
 use std::str;
 use toml::{Table, Value};
 
-/// What the stamps of a capture are.
+/// The clock of the stamps of a capture.
 #[derive(Clone, Copy)]
 pub(crate) enum StampClock {
     /// Any clock.
@@ -23,9 +23,9 @@ pub(crate) enum StampClock {
 pub struct StationFile {
     /// What is claimed.
     pub claims: Claims,
-    /// What the stamps are. No duty that is judged asks for it.
+    /// The clock of the stamps. No duty that is judged needs it.
     pub(crate) clock: StampClock,
-    /// How far they may be from it, in milliseconds.
+    /// How far the stamps may be from that clock, in milliseconds.
     pub(crate) clock_error: u32,
 }
 
@@ -38,7 +38,7 @@ const MOST_LIFETIME: u32 = 6_300_000;
 
 const MOST_WAIT: u32 = 60_000;
 
-/// How far stamps may be from their clock without a value, in milliseconds.
+/// How far stamps may be from their clock by default, in milliseconds.
 pub(crate) const USUAL_CLOCK_ERROR: u32 = 50;
 
 const MOST_UNTIL: i64 = 9_223_372_036_854;
@@ -51,7 +51,7 @@ struct Keys<'a> {
 }
 
 impl<'a> Keys<'a> {
-    /// The table of this name. `NotTable` if a value stands for it.
+    /// Returns the table with this name, if there is one. `NotTable` if it is another value.
     fn of<'f>(
         alloc: Global,
         document: &'a Table,
@@ -67,7 +67,7 @@ impl<'a> Keys<'a> {
         Ok(Keys { name, table })
     }
 
-    /// The value of a key.
+    /// Returns the value of a key.
     fn get(&self, key: &'static str) -> Option<&'a Value> {
         match self.table {
             Some(table) => table.get(key),
@@ -75,12 +75,12 @@ impl<'a> Keys<'a> {
         }
     }
 
-    /// The fault of a key's value.
+    /// Returns the fault of a key's value.
     fn wrong<'f>(&self, key: &'static str, wanted: Wanted) -> StationFault<'f> {
         StationFault::Value(self.name, key, wanted)
     }
 
-    /// A whole number in a range, if there is one.
+    /// Reads a whole number in a range, if the key has a value.
     fn integer<'f>(
         &self,
         key: &'static str,
@@ -96,7 +96,7 @@ impl<'a> Keys<'a> {
         }
     }
 
-    /// The same from 0 or 1 on, as one of 32 bits.
+    /// Reads a 32-bit number from 0 or 1 on, if the key has a value.
     fn number<'f>(
         &self,
         key: &'static str,
@@ -112,7 +112,7 @@ impl<'a> Keys<'a> {
         }
     }
 
-    /// The same, or a default.
+    /// Reads a 32-bit number from 0 or 1 on, or returns a default.
     fn number_or<'f>(
         &self,
         key: &'static str,
@@ -123,7 +123,7 @@ impl<'a> Keys<'a> {
         Ok(self.number(key, least, most)?.unwrap_or(default))
     }
 
-    /// A number from 0 to a greatest one, or a default.
+    /// Reads a number from 0 to a greatest one, or returns a default.
     fn short_or<'f>(
         &self,
         key: &'static str,
@@ -136,7 +136,7 @@ impl<'a> Keys<'a> {
         }
     }
 
-    /// Whether something holds, if that is said.
+    /// Reads a truth value, if the key has one.
     fn truth_if_any<'f>(&self, key: &'static str) -> Result<Option<bool>, StationFault<'f>> {
         let Some(value) = self.get(key) else {
             return Ok(None);
@@ -147,12 +147,12 @@ impl<'a> Keys<'a> {
         }
     }
 
-    /// Whether a claim is made.
+    /// Reads whether a claim is made.
     fn truth<'f>(&self, key: &'static str) -> Result<bool, StationFault<'f>> {
         Ok(self.truth_if_any(key)?.unwrap_or(false))
     }
 
-    /// Whether the value of a key is the first of two words. `None` if it has no value.
+    /// Reads whether the value of a key is the first of two keywords. `None` if it has no value.
     fn is_first<'f>(
         &self,
         key: &'static str,
@@ -170,7 +170,7 @@ impl<'a> Keys<'a> {
         }
     }
 
-    /// The octets of the hexadecimal digits of a key, if it has a value.
+    /// Reads the hexadecimal digits of a key as octets, if it has a value.
     fn digits<'f, const N: usize>(
         &self,
         key: &'static str,
@@ -188,9 +188,8 @@ impl<'a> Keys<'a> {
 }
 
 impl StationFile {
-    /// Reads a station file. The first fault is given: that of the document, of the keys of each
-    /// table in the order of the documentation, of unknown tables and keys in the order of the
-    /// file.
+    /// Reads a station file. Returns the first fault in this order: the document, the keys of each
+    /// table in the order of the documentation, unknown tables and keys in the order of the file.
     pub fn read<'f>(alloc: Global, text: &[u8]) -> Result<StationFile, StationFault<'f>> {
         let document = document_of(alloc, text)?;
         let file = StationFile::of(alloc, &document)?;
@@ -198,7 +197,7 @@ impl StationFile {
         Ok(file)
     }
 
-    /// What the known keys of a document say.
+    /// Reads the known keys of a document.
     fn of<'f>(alloc: Global, document: &Table) -> Result<StationFile, StationFault<'f>> {
         let station = Keys::of(alloc, document, TableName::Station)?;
         let mut claims = station_claims(&station)?;
@@ -210,7 +209,7 @@ impl StationFile {
         StationFile::with_capture(&capture, claims)
     }
 
-    /// These claims, with what the table of the capture says.
+    /// Returns these claims, with what the table of the capture says.
     fn with_capture<'f>(keys: &Keys<'_>, claims: Claims) -> Result<StationFile, StationFault<'f>> {
         let mut claims = claims;
         read_capture(keys, &mut claims)?;
@@ -225,7 +224,7 @@ impl StationFile {
     }
 }
 
-/// The table of a text.
+/// Parses a text as a TOML table.
 fn document_of<'f>(alloc: Global, text: &[u8]) -> Result<Table, StationFault<'f>> {
     if let Err(error) = str::from_utf8(text) {
         return Err(StationFault::NotToml(line_at(text, error.valid_up_to())));
@@ -240,20 +239,19 @@ fn document_of<'f>(alloc: Global, text: &[u8]) -> Result<Table, StationFault<'f>
     }
 }
 
-/// The line of an octet of a text, from 1.
+/// Returns the line of an octet of a text, from 1.
 fn line_at(text: &[u8], place: usize) -> usize {
     let before = text.get(..place).unwrap_or(text);
     let breaks = before.iter().filter(|octet| **octet == b'\n').count();
     breaks.saturating_add(1)
 }
 
-/// The fault of a value that is no known table.
+/// Returns the fault of a value that is not a known table.
 fn not_table<'f>(alloc: Global, name: &str) -> Result<StationFault<'f>, AllocError> {
     Ok(StationFault::NotTable(String::from_str(alloc, name)?))
 }
 
-/// The claims of a station with this address, of which nothing else is claimed: each key has its
-/// default.
+/// Returns the claims of a station with this address. Each other key has its default.
 pub(crate) fn usual_claims(address: GnAddress) -> Claims {
     Claims {
         address,
@@ -291,7 +289,7 @@ pub(crate) fn usual_claims(address: GnAddress) -> Claims {
     }
 }
 
-/// What the table of the station says.
+/// Reads the table of the station.
 fn station_claims<'f>(keys: &Keys<'_>) -> Result<Claims, StationFault<'f>> {
     let mut claims = usual_claims(address_of(keys)?);
     if let Some(mac) = mac_of(keys)? {
@@ -305,7 +303,7 @@ fn station_claims<'f>(keys: &Keys<'_>) -> Result<Claims, StationFault<'f>> {
     Ok(claims)
 }
 
-/// The station's address.
+/// Reads the station's address.
 fn address_of<'f>(keys: &Keys<'_>) -> Result<GnAddress, StationFault<'f>> {
     let address = match keys.digits::<8>("address", Wanted::Address)? {
         Some(octets) => GnAddress::from_u64(u64::from_be_bytes(octets)).ok(),
@@ -317,7 +315,7 @@ fn address_of<'f>(keys: &Keys<'_>) -> Result<GnAddress, StationFault<'f>> {
     }
 }
 
-/// Its link address, if there is one.
+/// Reads its link address, if there is one.
 fn mac_of<'f>(keys: &Keys<'_>) -> Result<Option<Mac>, StationFault<'f>> {
     let Some(octets) = keys.digits::<6>("mac", Wanted::LinkAddress)? else {
         return Ok(None);
@@ -329,7 +327,7 @@ fn mac_of<'f>(keys: &Keys<'_>) -> Result<Option<Mac>, StationFault<'f>> {
     Ok(Some(mac))
 }
 
-/// Its place, if the file has one: both coordinates.
+/// Reads its position, if the file has both coordinates.
 fn place_of<'f>(keys: &Keys<'_>) -> Result<Option<Place>, StationFault<'f>> {
     let lat = keys.integer("lat", -900_000_000, 900_000_000)?;
     if lat.is_none() && keys.get("lon").is_some() {
@@ -345,7 +343,7 @@ fn place_of<'f>(keys: &Keys<'_>) -> Result<Option<Place>, StationFault<'f>> {
     place_at(keys, lat, lon)
 }
 
-/// The place of two coordinates.
+/// Returns the position with two coordinates.
 fn place_at<'f>(keys: &Keys<'_>, lat: i64, lon: i64) -> Result<Option<Place>, StationFault<'f>> {
     let (Ok(lat), Ok(lon)) = (i32::try_from(lat), i32::try_from(lon)) else {
         return Err(keys.wrong("lon", Wanted::Pair));
@@ -356,7 +354,7 @@ fn place_at<'f>(keys: &Keys<'_>, lat: i64, lon: i64) -> Result<Option<Place>, St
     }
 }
 
-/// What the table of claims says of forwarding.
+/// Reads what the table of claims says about forwarding.
 fn read_forwarding<'f>(keys: &Keys<'_>, claims: &mut Claims) -> Result<(), StationFault<'f>> {
     claims.area = area_of(keys)?;
     claims.elsewhere = elsewhere_of(keys)?;
@@ -367,7 +365,7 @@ fn read_forwarding<'f>(keys: &Keys<'_>, claims: &mut Claims) -> Result<(), Stati
     Ok(())
 }
 
-/// How the station forwards inside of an area.
+/// Reads how the station forwards inside an area.
 fn area_of<'f>(keys: &Keys<'_>) -> Result<AreaForwarding, StationFault<'f>> {
     match keys.is_first("area", "simple", "other", "simple, other")? {
         Some(true) => Ok(AreaForwarding::Simple),
@@ -375,7 +373,7 @@ fn area_of<'f>(keys: &Keys<'_>) -> Result<AreaForwarding, StationFault<'f>> {
     }
 }
 
-/// How it forwards outside of an area.
+/// Reads how it forwards outside an area.
 fn elsewhere_of<'f>(keys: &Keys<'_>) -> Result<NonAreaForwarding, StationFault<'f>> {
     match keys.is_first("elsewhere", "greedy", "other", "greedy, other")? {
         Some(true) => Ok(NonAreaForwarding::Greedy),
@@ -383,7 +381,7 @@ fn elsewhere_of<'f>(keys: &Keys<'_>) -> Result<NonAreaForwarding, StationFault<'
     }
 }
 
-/// What the table of claims says of what the station sends by itself.
+/// Reads what the table of claims says about what the station sends by itself.
 fn read_sending<'f>(keys: &Keys<'_>, claims: &mut Claims) -> Result<(), StationFault<'f>> {
     claims.interval = keys.number_or("interval", 0, MOST_LIFE, claims.interval)?;
     claims.jitter = keys.number_or("jitter", 0, MOST_LIFE, claims.jitter)?;
@@ -393,7 +391,7 @@ fn read_sending<'f>(keys: &Keys<'_>, claims: &mut Claims) -> Result<(), StationF
     Ok(())
 }
 
-/// What the table of claims says of what the station does at all times.
+/// Reads what the table of claims says about the station's behaviour at all times.
 fn read_conduct<'f>(keys: &Keys<'_>, claims: &mut Claims) -> Result<(), StationFault<'f>> {
     claims.gapless = keys.truth("gapless")?;
     claims.rate = keys.number_or("rate", 1, 1_000_000, claims.rate)?;
@@ -404,7 +402,7 @@ fn read_conduct<'f>(keys: &Keys<'_>, claims: &mut Claims) -> Result<(), StationF
     Ok(())
 }
 
-/// Which packets put its beacon off, if the file says it.
+/// Reads which packets restart its beacon interval, if the file says it.
 fn reset_of<'f>(keys: &Keys<'_>) -> Result<Option<BeaconReset>, StationFault<'f>> {
     match keys.is_first("reset", "any", "shb", "any, shb")? {
         Some(true) => Ok(Some(BeaconReset::Any)),
@@ -413,7 +411,7 @@ fn reset_of<'f>(keys: &Keys<'_>) -> Result<Option<BeaconReset>, StationFault<'f>
     }
 }
 
-/// The modulus of sequence numbers, if there is one.
+/// Reads the modulus of sequence numbers, if there is one.
 fn modulus_of<'f>(keys: &Keys<'_>) -> Result<Option<SequenceModulus>, StationFault<'f>> {
     let Some(value) = keys.get("modulus") else {
         return Ok(None);
@@ -425,7 +423,7 @@ fn modulus_of<'f>(keys: &Keys<'_>) -> Result<Option<SequenceModulus>, StationFau
     }
 }
 
-/// What the table of the capture says, up to its clock.
+/// Reads the table of the capture, up to its clock.
 fn read_capture<'f>(keys: &Keys<'_>, claims: &mut Claims) -> Result<(), StationFault<'f>> {
     claims.sent = keys.truth("sent")?;
     claims.received = keys.truth("received")?;
@@ -444,7 +442,7 @@ fn clock_of<'f>(keys: &Keys<'_>) -> Result<StampClock, StationFault<'f>> {
     }
 }
 
-/// What the table of the capture says after its clock.
+/// Reads the table of the capture, after its clock.
 fn read_records<'f>(keys: &Keys<'_>, claims: &mut Claims) -> Result<(), StationFault<'f>> {
     claims.until = match keys.integer("until", 0, MOST_UNTIL)? {
         Some(until) => u64::try_from(until).ok(),
@@ -457,8 +455,8 @@ fn read_records<'f>(keys: &Keys<'_>, claims: &mut Claims) -> Result<(), StationF
     Ok(())
 }
 
-/// Refuses a document with an unknown table or key: with the first, in the order of the lines that
-/// begin with it.
+/// Refuses a document with an unknown table or key. Returns the fault of the first, in the order of
+/// lines.
 fn refuse_unknown<'f>(
     alloc: Global,
     text: &[u8],
@@ -479,7 +477,7 @@ fn refuse_unknown<'f>(
     Ok(())
 }
 
-/// The first unknown key of a table, by its octets.
+/// Returns the first unknown key of a table, in the order of octets.
 fn unknown_key(document: &Table, name: TableName) -> Option<&str> {
     let table = document.get(name.word())?.as_table()?;
     for key in table.keys() {
@@ -490,7 +488,7 @@ fn unknown_key(document: &Table, name: TableName) -> Option<&str> {
     None
 }
 
-/// The first line of a file that begins with an unknown table or key of the document.
+/// Returns the first line of a file that begins with an unknown table or key of the document.
 fn unknown_in_lines<'f>(
     alloc: Global,
     text: &[u8],
@@ -515,7 +513,7 @@ fn unknown_in_lines<'f>(
     Ok(None)
 }
 
-/// The unknown key or table that a line begins with, which follows the head of this table.
+/// Returns the unknown key or table at the beginning of a line in this table.
 fn unknown_in_line<'f>(
     alloc: Global,
     line: &str,
@@ -540,7 +538,7 @@ fn unknown_in_line<'f>(
     Ok(None)
 }
 
-/// The word that a line begins with.
+/// Returns the word at the beginning of a line.
 fn bare_word(line: &str) -> &str {
     let is_end = |c: char| !(c.is_ascii_alphanumeric() || c == '_' || c == '-');
     let line = line.trim_start();

@@ -69,7 +69,7 @@ const CAPTURE_KEYS: [&str; 11] = [
 ];
 
 impl TableName {
-    /// Its word.
+    /// Returns its name.
     pub(crate) fn word(self) -> &'static str {
         match self {
             TableName::Station => "station",
@@ -78,7 +78,7 @@ impl TableName {
         }
     }
 
-    /// The table of this word.
+    /// Returns the table with this name.
     pub(crate) fn named(word: &str) -> Option<TableName> {
         TABLES.iter().copied().find(|table| table.word() == word)
     }

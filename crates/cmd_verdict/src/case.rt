@@ -7,7 +7,7 @@ use crate::text::Text;
 use its_duties::{Duty, Verdict};
 use std::fmt;
 
-/// The word of a verdict (ISO/IEC 9646).
+/// The result of a verdict (ISO/IEC 9646).
 #[derive(Clone, Copy)]
 pub(crate) enum Outcome {
     Pass,
@@ -16,7 +16,7 @@ pub(crate) enum Outcome {
 }
 
 impl Outcome {
-    /// Its word.
+    /// Returns its keyword.
     pub(crate) fn word(self) -> &'static str {
         match self {
             Outcome::Pass => "pass",
@@ -25,7 +25,7 @@ impl Outcome {
         }
     }
 
-    /// That of a verdict.
+    /// Returns the result of a verdict.
     pub(crate) fn of(verdict: Verdict) -> Outcome
         ensures { result ≡ outcome_of verdict }
     {
@@ -59,7 +59,7 @@ pub(crate) struct Needs {
 }
 
 impl Needs {
-    /// Their words, in the order of the station file's keys.
+    /// Returns their names, in the order of the station file's keys.
     pub(crate) fn words(self) -> [Option<&'static str>; 11] {
         [
             self.mobile.then_some("mobile"),
@@ -108,7 +108,7 @@ pub(crate) struct Case {
 }
 
 impl Case {
-    /// A verdict that no claim changes.
+    /// Returns a verdict that no claim changes.
     pub(crate) fn of(duty: Duty, verdict: Verdict, text: Text) -> Case
         ensures duty { result.duty ≡ duty }
         ensures outcome { result.outcome ≡ outcome_of verdict }

@@ -1,7 +1,6 @@
 //! The command `verdict`.
 
-ghost use Rattle.std.specs.Prelude.{◌≡◌, IfOk};
-ghost use Rattle.cmd_reporting.specs.Statuses.{IsCommandStatus};
+ghost use Rattle.std.specs.Prelude.{◌≡◌};
 ghost use Rattle.cmd_verdict.specs.Outcomes.{status_of_result};
 
 use crate::case::Outcome;
@@ -38,7 +37,7 @@ pub struct VerdictOptions<'a> {
     pub duties: DutySet,
     /// Which verdicts are printed.
     pub printing: Printing,
-    /// The times in milliseconds from which on and up to which they are.
+    /// The first and the last time of verdicts that are printed, in milliseconds.
     pub since: u64,
     /// The last such time.
     pub until: u64,
@@ -105,7 +104,6 @@ fn judge_file<'a, R: Files + AllocGlobal, I: Read + Drop, W: Write, E: Write>(
 ) -> Result<Status, Fault<'a>>
 where
     R::File: Read + Drop,
-    ensures { IfOk result IsCommandStatus }
 {
     let alloc = rt.alloc();
     let reader = open(rt, what.capture, input)?;
@@ -127,7 +125,7 @@ where
         first: Instant::of_nanos(0),
         counts: VerdictCounts::new(),
     };
-    let judged = judge_capture(alloc, what, &premises.claims(), capture, &mut reporter)?;
+    let judged = judge_whole_capture(alloc, what, &premises.claims(), capture, &mut reporter)?;
     let counts = reporter.counts;
     print_total(what, io.format, &counts, judged, &mut io.out)?;
     Ok(end_with(what, io.format, &counts, judged.ended, &mut io.err))
@@ -158,7 +156,7 @@ struct Judged {
 }
 
 /// Judges a capture.
-fn judge_capture<'a, S: Source + Drop, W: Write>(
+fn judge_whole_capture<'a, S: Source + Drop, W: Write>(
     alloc: Global,
     what: &VerdictOptions<'a>,
     claims: &Claims,
@@ -175,14 +173,14 @@ fn judge_capture<'a, S: Source + Drop, W: Write>(
     })
 }
 
-/// Why a capture isn't read on, and after how many records.
+/// Why reading a capture stopped, and after how many records.
 #[derive(Clone, Copy)]
 struct Ended {
     records: u64,
     why: EndedBy,
 }
 
-/// Why a capture isn't read on.
+/// Why reading a capture stopped.
 #[derive(Clone, Copy)]
 enum EndedBy {
     /// Its octets are at fault.
@@ -309,9 +307,7 @@ fn end_with<E: Write>(
     counts: &VerdictCounts,
     ended: Option<Ended>,
     err: &mut E,
-) -> Status
-    ensures { IsCommandStatus result }
-{
+) -> Status {
     if let Some(ended) = ended {
         let reason = format.explain.then_some(EndReason(ended.why));
         let _ = writeln!(err, "{ended}{}", Explanation(reason));
@@ -323,7 +319,6 @@ fn end_with<E: Write>(
 /// The status of a run with this result.
 fn status_of(outcome: Outcome, strict: bool) -> Status
     ensures value { result ≡ status_of_result outcome strict }
-    ensures status { IsCommandStatus result }
 {
     match outcome {
         Outcome::Fail => Status::Refused,

@@ -1,4 +1,4 @@
-//! How many verdicts there are, by duty and result: a table, and an object in JSON.
+//! Counts verdicts by duty and result, and prints the counts as a table and as an object in JSON.
 
 use crate::case::Outcome;
 use crate::duties::{DutySet, JUDGED, place_of, rule_of};
@@ -15,7 +15,7 @@ struct DutyCounts {
 }
 
 impl DutyCounts {
-    /// Adds one with this result.
+    /// Adds a verdict with this result.
     fn with(self, outcome: Outcome) -> DutyCounts {
         match outcome {
             Outcome::Pass => DutyCounts {
@@ -33,14 +33,14 @@ impl DutyCounts {
         }
     }
 
-    /// All of them.
+    /// Returns how many verdicts there are.
     fn all(self) -> u64 {
         self.pass
             .saturating_add(self.fail)
             .saturating_add(self.inconclusive)
     }
 
-    /// Whether they have a pass, and nothing else.
+    /// Whether all are passes, and there is one.
     fn passes(self) -> bool {
         self.pass > 0 && self.fail == 0 && self.inconclusive == 0
     }
@@ -62,14 +62,14 @@ pub(crate) struct VerdictCounts {
 }
 
 impl VerdictCounts {
-    /// No verdicts yet.
+    /// Returns the counts before the first verdict.
     pub(crate) fn new() -> VerdictCounts {
         VerdictCounts {
             counts: [DutyCounts::default(); 15],
         }
     }
 
-    /// Adds one on a duty, with this result.
+    /// Adds a verdict on a duty, with this result.
     pub(crate) fn with(self, duty: Duty, outcome: Outcome) -> VerdictCounts {
         let mut counts = self.counts;
         if let Some(place) = place_of(duty)
@@ -106,8 +106,8 @@ impl VerdictCounts {
         all
     }
 
-    /// The result of all: a fail if one is, a pass if each duty that has a verdict has a pass and
-    /// nothing else, and there is one. Otherwise inconclusive.
+    /// Returns the result of all verdicts: a fail if there is a fail, a pass if there are verdicts
+    /// and all are passes. Otherwise inconclusive.
     pub(crate) fn result(&self) -> Outcome {
         if self.with_result(Outcome::Fail) > 0 {
             return Outcome::Fail;
@@ -151,7 +151,7 @@ impl VerdictCounts {
         writeln!(out, "{}: {count} of {} verdicts", result.word(), self.all())
     }
 
-    /// Whether a duty is chosen and has no verdict.
+    /// Whether a duty is selected and has no verdict.
     fn is_unexercised(&self, duty: Duty, duties: &DutySet) -> bool {
         duties.has(duty) && self.of(duty).all() == 0
     }
@@ -165,7 +165,7 @@ const RULE: &str = "rule";
 struct Widths(usize, usize, usize, usize);
 
 impl Widths {
-    /// Those of the heads, or of the widest rule and numbers.
+    /// Returns the widths of the heads, or those of the widest rule and numbers.
     fn of(counts: &VerdictCounts) -> Widths {
         let mut widths = Widths(24, 4, 4, 12);
         for duty in JUDGED {
@@ -183,7 +183,7 @@ impl Widths {
     }
 }
 
-/// How many digits a number has.
+/// Returns how many digits a number has.
 fn digits_of(number: u64) -> usize {
     let mut digits: usize = 1;
     let mut left = number / 10;

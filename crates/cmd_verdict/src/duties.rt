@@ -21,7 +21,7 @@ pub(crate) const JUDGED: [Duty; 15] = [
     Duty::Forward,
 ];
 
-/// The rule of a duty, as the table of counts shows it.
+/// Returns the rule of a duty, as the table of counts shows it.
 pub(crate) fn rule_of(duty: Duty) -> &'static str {
     match duty {
         Duty::Form => "form",
@@ -46,19 +46,19 @@ pub(crate) fn rule_of(duty: Duty) -> &'static str {
 #[derive(Clone, Copy, Debug, PartialEq, Eq)]
 pub struct UnknownDuty;
 
-/// The duties that are chosen.
+/// The duties that are selected.
 #[derive(Clone, Copy, Debug, PartialEq, Eq)]
 pub struct DutySet {
     chosen: [bool; 15],
 }
 
 impl DutySet {
-    /// All that are judged.
+    /// Returns all duties that are judged.
     pub fn all() -> DutySet {
         DutySet { chosen: [true; 15] }
     }
 
-    /// Those of a list as `D13,D15`.
+    /// Reads the duties of a list, for example `D13,D15`.
     pub fn listed(list: &str) -> Result<DutySet, UnknownDuty> {
         let mut chosen = [false; 15];
         for name in list.split(',') {
@@ -72,7 +72,7 @@ impl DutySet {
         Ok(DutySet { chosen })
     }
 
-    /// Whether a duty is one of them.
+    /// Whether a duty is selected.
     pub(crate) fn has(&self, duty: Duty) -> bool {
         match place_of(duty) {
             Some(place) => self.chosen.get(place).copied().unwrap_or(false),
@@ -81,12 +81,12 @@ impl DutySet {
     }
 }
 
-/// The place of a duty among those that are judged.
+/// Returns the index of a duty among those that are judged.
 pub(crate) fn place_of(duty: Duty) -> Option<usize> {
     JUDGED.iter().position(|judged| *judged == duty)
 }
 
-/// The number of a duty's name, as 13 of `D13`.
+/// Reads the number in a duty's name, for example 13 in `D13`.
 fn number_in(name: &str) -> Option<u8> {
     let digits = name.strip_prefix("D")?;
     if digits.starts_with("0") || digits.starts_with("+") {

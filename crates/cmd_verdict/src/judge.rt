@@ -100,9 +100,9 @@ impl Judge {
             self.begin = Some(stamp);
             sink.begin(stamp);
         }
-        self.judge_due(stamp, sink)?;
+        self.judge_due_records(stamp, sink)?;
         self.keep(record)?;
-        self.judge_overflow(sink)
+        self.judge_surplus(sink)
     }
 
     /// Keeps what later records are judged by, and the record if it is judged itself.
@@ -145,7 +145,7 @@ impl Judge {
     }
 
     /// Judges the first records that wait, if too many do.
-    fn judge_overflow<'f, S: CaseSink>(&mut self, sink: &mut S) -> Result<(), Fault<'f>> {
+    fn judge_surplus<'f, S: CaseSink>(&mut self, sink: &mut S) -> Result<(), Fault<'f>> {
         for _ in 0..self.waiting.count() {
             if !self.waiting.is_over() {
                 return Ok(());
@@ -159,7 +159,11 @@ impl Judge {
     }
 
     /// Judges the records that the capture has all for, up to the stamp of the next record.
-    fn judge_due<'f, S: CaseSink>(&mut self, stamp: u64, sink: &mut S) -> Result<(), Fault<'f>> {
+    fn judge_due_records<'f, S: CaseSink>(
+        &mut self,
+        stamp: u64,
+        sink: &mut S,
+    ) -> Result<(), Fault<'f>> {
         for _ in 0..self.waiting.count() {
             match self.waiting.take_due(&self.tap.claims, stamp) {
                 Some(waiting) => self.judge(&waiting, sink)?,
@@ -172,7 +176,7 @@ impl Judge {
     /// Judges a record that the station sent, or a packet for an area that it may have received.
     fn judge<'f, S: CaseSink>(&mut self, waiting: &Waiting, sink: &mut S) -> Result<(), Fault<'f>> {
         let record = &waiting.record;
-        self.put_verdicts(waiting, sink)?;
+        self.report_verdicts(waiting, sink)?;
         let doubt = doubt_between(&self.tap.claims);
         self.tap
             .own
@@ -181,7 +185,7 @@ impl Judge {
     }
 
     /// Passes on the verdicts on a record.
-    fn put_verdicts<'f, S: CaseSink>(
+    fn report_verdicts<'f, S: CaseSink>(
         &self,
         waiting: &Waiting,
         sink: &mut S,
@@ -191,11 +195,11 @@ impl Judge {
         match (waiting.met.role, &record.frame()) {
             (Role::Own, Ok(frame)) => {
                 let cases = own_cases(tap, waiting, frame);
-                put_all(record, cases.as_slice(), sink)
+                report_cases(record, cases.as_slice(), sink)
             }
             (Role::Forwarded, Ok(frame)) => {
                 let cases = forwarded_cases(tap, record, frame, times.begin)?;
-                put_all(record, cases.as_slice(), sink)
+                report_cases(record, cases.as_slice(), sink)
             }
             (Role::Heard, Ok(frame)) => match owed_case_of(tap, waiting, frame, times) {
                 Some(case) => sink.put(record, case),
@@ -219,7 +223,7 @@ impl Judge {
 }
 
 /// Passes on the verdicts on a record, in their order.
-fn put_all<'f, S: CaseSink>(
+fn report_cases<'f, S: CaseSink>(
     record: &SeenRecord,
     cases: &[Option<Case>],
     sink: &mut S,

@@ -2,11 +2,8 @@
 
 use crate::case::{Case, Needs, is_fail};
 use crate::text::Text;
-use cap_tap::{FoundAgain, FoundEarlier, FoundNone, PacketId};
+use cap_tap::{FoundAgain, FoundEarlier, FoundNone, LARGEST_TABLE, PacketId};
 use its_duties::{AreaForwarding, Claims, Duty, Verdict, judge_once};
-
-/// The room of a table that is as large as a claim can make it.
-const LARGEST: u32 = 4096;
 
 /// The verdict on a packet that was forwarded, by what was found of earlier frames of it.
 pub(crate) fn once_case(claims: &Claims, packet: PacketId, found: &FoundEarlier) -> Case {
@@ -64,7 +61,7 @@ fn again_doubt(claims: &Claims, found: &FoundAgain) -> Text {
 fn again_needs(claims: &Claims, found: &FoundAgain) -> Needs {
     let mut all = *claims;
     all.area = AreaForwarding::Simple;
-    all.capacity = Some(claims.capacity.unwrap_or(LARGEST));
+    all.capacity = Some(claims.capacity.unwrap_or(LARGEST_TABLE));
     all.steady = true;
     all.fresh = true;
     all.unbuffered = true;

@@ -2,14 +2,13 @@
 
 use crate::case::{Case, Needs, is_fail};
 use crate::text::Text;
-use cap_tap::{CaptureTimes, Caused, FoundOwed, HeardFrame, PacketId, Tap, UnreadIn, Waiting};
+use cap_tap::{
+    CaptureTimes, Caused, FoundOwed, HeardFrame, LARGEST_TABLE, PacketId, Tap, UnreadIn, Waiting,
+};
 use its_duties::{
     AreaForwarding, Claims, Doubt, Duty, NotOwed, OwedSearch, Verdict, judge_forward,
 };
 use its_linkframe::FrameView;
-
-/// The room of a table that is as large as a claim can make it.
-const LARGEST: u32 = 4096;
 
 /// The verdict on a packet for an area that was heard, by what is kept. `None` if it need not be
 /// forwarded.
@@ -22,7 +21,7 @@ pub(crate) fn owed_case_of(
     let heard = HeardFrame {
         record: &waiting.record,
         packet: PacketId::of(frame)?,
-        since: waiting.met.since?,
+        met: waiting.met.heard?,
     };
     let found = tap.find_owed(times, &heard);
     owed_case(&tap.claims, frame, &found)
@@ -77,7 +76,7 @@ fn doubt_text(doubt: Doubt, found: &FoundOwed) -> Text {
 fn owed_needs(claims: &Claims, frame: &FrameView<'_>, found: &FoundOwed) -> Needs {
     let mut all = *claims;
     all.area = AreaForwarding::Simple;
-    all.capacity = Some(claims.capacity.unwrap_or(LARGEST));
+    all.capacity = Some(claims.capacity.unwrap_or(LARGEST_TABLE));
     all.sent = true;
     all.received = true;
     all.delivered = true;

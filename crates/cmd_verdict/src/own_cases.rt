@@ -1,4 +1,4 @@
-//! The verdicts on a packet of the station's own.
+//! The verdicts on an own packet of the station.
 
 use crate::area_cases::area_target_case;
 use crate::case::{Case, Needs, is_fail};
@@ -26,7 +26,7 @@ pub(crate) fn own_cases(tap: &Tap, waiting: &Waiting, frame: &FrameView<'_>) -> 
     ]
 }
 
-/// The verdict on the sequence number of an own packet, if there is a step to it.
+/// Returns the verdict on the sequence number of an own packet, if an earlier own packet has one.
 fn numbers_case(claims: &Claims, own: &OwnPackets, waiting: &Waiting) -> Option<Case> {
     let StepFrom { step, record } = waiting.met.step?;
     let stamp = waiting.record.stamp;
@@ -47,7 +47,7 @@ fn numbers_case(claims: &Claims, own: &OwnPackets, waiting: &Waiting) -> Option<
     Some(Case::of(Duty::Numbers, verdict, text).needing(numbers_needs(claims, step)))
 }
 
-/// What a verdict on a sequence number needs.
+/// Returns the claims that would decide a verdict on a sequence number.
 fn numbers_needs(claims: &Claims, step: NumberStep) -> Needs {
     let mut steady = *claims;
     steady.steady = true;
@@ -56,7 +56,7 @@ fn numbers_needs(claims: &Claims, step: NumberStep) -> Needs {
     needs
 }
 
-/// How many numbers were not seen.
+/// Returns the text that says how many sequence numbers were not seen.
 fn not_seen(doubt: Doubt) -> Text {
     match doubt {
         Doubt::NumbersNotSeen(count) => Text::NumbersNotSeen(count),
@@ -64,11 +64,11 @@ fn not_seen(doubt: Doubt) -> Text {
     }
 }
 
-/// What was found before a beacon.
+/// What was found in the capture before a beacon.
 #[derive(Clone, Copy)]
 struct FoundGap {
     gap: BeaconGap,
-    /// The record of the packet that puts it off.
+    /// The record of the own packet that restarted the beacon interval.
     record: u64,
     /// A record that may be an own packet and isn't read.
     hidden: Option<u64>,
@@ -76,7 +76,7 @@ struct FoundGap {
     lacks: bool,
 }
 
-/// The verdict on when a beacon comes, if an own packet before it puts it off.
+/// Returns the verdict on the time of a beacon, if an own packet before it restarted the interval.
 fn beacon_case(
     claims: &Claims,
     own: &OwnPackets,
@@ -93,7 +93,7 @@ fn beacon_case(
     Some(Case::of(Duty::BeaconNotEarly, verdict, text).needing(needs))
 }
 
-/// What was found before a beacon, if an own packet puts it off.
+/// Returns what was found before a beacon, if an own packet restarted the interval.
 fn gap_before(claims: &Claims, own: &OwnPackets, waiting: &Waiting) -> Option<FoundGap> {
     let (stamp, number) = (waiting.record.stamp, waiting.record.number);
     let doubt = doubt_between(claims);
@@ -114,7 +114,7 @@ fn gap_before(claims: &Claims, own: &OwnPackets, waiting: &Waiting) -> Option<Fo
     })
 }
 
-/// What a verdict on a beacon says.
+/// Returns the text of a verdict on a beacon.
 fn beacon_text(claims: &Claims, verdict: &Verdict, found: &FoundGap) -> Text {
     let since = found.gap.since;
     let after = Text::After(since, found.record);
@@ -127,7 +127,7 @@ fn beacon_text(claims: &Claims, verdict: &Verdict, found: &FoundGap) -> Text {
     }
 }
 
-/// Why it isn't known whether a beacon is alone.
+/// Returns why it isn't known whether other own packets are in the interval before a beacon.
 fn gap_doubt(found: &FoundGap) -> Option<Text> {
     match found.hidden {
         Some(hidden) => Some(Text::NotRead(hidden)),
@@ -135,12 +135,12 @@ fn gap_doubt(found: &FoundGap) -> Option<Text> {
     }
 }
 
-/// Whether a beacon would pass if it were alone.
+/// Whether a beacon would pass if no other own packets were in the interval.
 fn passes_but_for(claims: &Claims, gap: BeaconGap) -> bool {
     judge_beacon(claims, BeaconGap { alone: true, ..gap }) == Verdict::Pass
 }
 
-/// What a verdict on a beacon needs.
+/// Returns the claims that would decide a verdict on a beacon.
 fn beacon_needs(claims: &Claims, gap: BeaconGap) -> Needs {
     let mut steady = *claims;
     steady.steady = true;

@@ -1,4 +1,4 @@
-//! Reading the records of a capture, as they are judged.
+//! Reads the records of a capture for the duties.
 
 use cap_linklayers::{LinkFault, LinkLayer, frame_start};
 use cap_pcap::RecordHeader;
@@ -6,7 +6,7 @@ use cap_records::{RecordReader, Selection, read_from};
 use cap_tap::{LinkFrame, NANOS, SeenRecord};
 use std::alloc::{AllocError, Global};
 
-/// What is read of a record: the record, or that its time is out of range.
+/// What is read from a record: the record, or that its time is out of range.
 #[derive(Drop)]
 pub(crate) enum ReadRecord {
     Seen(SeenRecord),
@@ -23,7 +23,7 @@ pub(crate) struct SeenReader {
 }
 
 impl SeenReader {
-    /// It has read no record.
+    /// Returns a reader that has read no record.
     pub(crate) fn new(alloc: Global) -> SeenReader {
         SeenReader { alloc, count: 0 }
     }
@@ -66,7 +66,7 @@ impl RecordReader for SeenReader {
     }
 }
 
-/// The time of a record in nanoseconds, if it is below 2^63.
+/// Returns the time of a record in nanoseconds, if it is below 2^63.
 fn stamp_of(head: &RecordHeader) -> Option<u64> {
     let stamp = head
         .moment

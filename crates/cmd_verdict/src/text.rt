@@ -1,4 +1,4 @@
-//! What a verdict says of its record.
+//! The texts of verdicts.
 
 use its_duties::{Duty, NotOwed};
 use its_faults::FrameFault;
@@ -6,7 +6,7 @@ use its_gnvalue::{GnAddress, Mac};
 use its_headers::Kind;
 use std::fmt;
 
-/// What a verdict says of its record. Times are in nanoseconds and print in milliseconds, rounded
+/// The text of a verdict on a record. Times are in nanoseconds and print in milliseconds, rounded
 /// down. Other records print as their number after `#`.
 #[derive(Clone, Copy)]
 pub(crate) enum Text {
@@ -26,23 +26,24 @@ pub(crate) enum Text {
     NoLinkTarget,
     MobileBit(bool),
     NoMobile,
-    /// So many hops are left, of so many.
+    /// The remaining hop limit, and the maximum.
     Hops(u8, u8),
     /// This lifetime, in milliseconds.
     Lifetime(u64),
     /// This lifetime, in milliseconds, on which the standard and the profile differ.
     LifetimeDiffers(u64),
     Number(u16),
-    /// This number comes after that one, of this record.
+    /// The first number comes after the second, which is in this record.
     NumberAfter(u16, u16, u64),
     NumbersNotSeen(u32),
-    /// So long after this record.
+    /// This long after this record.
     After(u64, u64),
-    /// A beacon comes so long after this record, and not before the interval in milliseconds.
+    /// A beacon was sent this long after this record, and not before the interval in milliseconds.
     BeaconEarly(u64, u64, u32),
     /// It is made from the packet of this record.
     OfRecord(u64),
-    /// So many hops are left, and were received so many of so many, in this record.
+    /// The remaining hop limit, and the remaining and maximum hop limits that were received in this
+    /// record.
     WrongHops(u8, u8, u8, u64),
     /// This octet isn't that of the packet of this record.
     Changed(usize, u64),
@@ -51,44 +52,44 @@ pub(crate) enum Text {
     OfKind(Kind),
     /// A packet of this kind and source was forwarded.
     Forwarded(Kind, GnAddress),
-    /// It is late: so long after this record.
+    /// It is late: this long after this record.
     Late(u64, u64),
     NotHeard,
     /// No earlier frame of the packet was forwarded.
     FirstTime,
-    /// The packet of this source and number was forwarded in this record, with so many other numbers
-    /// between.
+    /// The packet of this source and number was forwarded in this record, with this many other
+    /// numbers between.
     ForwardedAgain(GnAddress, u16, u64, u32),
-    /// The packet was forwarded in this record, with so many other numbers between.
+    /// The packet was forwarded in this record, with this many other numbers between.
     Again(u64, u32),
     /// The packet was forwarded in this record.
     ForwardedAs(u64),
     /// It was forwarded in this record, by a copy.
     ForwardedByCopy(u64),
-    /// It was not forwarded within so many milliseconds.
+    /// It was not forwarded within this many milliseconds.
     NotForwarded(u32),
     /// It isn't owed for this reason, in which this record counts.
     NotOwed(NotOwed, u64),
     /// This record isn't read.
     NotRead(u64),
-    /// Too many packets were heard to keep them all.
+    /// Too many packets were received to keep them all.
     TooMany,
-    /// A geoanycast was forwarded outside of its area.
+    /// A geoanycast was forwarded outside its area.
     OutsideItsArea,
-    /// A geoanycast was forwarded inside of its area.
+    /// A geoanycast was forwarded inside its area.
     AnycastInside,
-    /// Inside of its area a packet goes to all.
+    /// Inside its area a packet is sent to all.
     InsideToAll,
-    /// Inside of its area a packet goes to this link address.
+    /// Inside its area a packet is sent to this link address.
     InsideTo(Mac),
-    /// Outside of the area it isn't judged to whom a packet goes.
+    /// Outside the area the link target of a packet isn't judged.
     OutsideArea,
     PlaceUnsure,
     /// The packet was forwarded late, so it isn't known when the station decided on it.
     DecidedLate,
 }
 
-/// A fault as its code, without the layer of a packet's one: `G9 at 10`.
+/// A fault as its code. That of a packet has no code of the layer before it: `G9 at 10`.
 #[derive(Clone, Copy)]
 pub(crate) struct FormCode(pub(crate) FrameFault);
 
@@ -144,7 +145,7 @@ impl fmt::Display for Text {
 }
 
 impl Text {
-    /// Writes what it says of the form.
+    /// Writes a text about the form.
     fn write_form<W: fmt::Write>(&self, f: &mut fmt::Formatter<W>) -> fmt::Result {
         match *self {
             Text::Packet => f.write_str("a packet of the profile"),
@@ -155,7 +156,7 @@ impl Text {
         }
     }
 
-    /// Writes what it says of the headers.
+    /// Writes a text about the headers.
     fn write_header<W: fmt::Write>(&self, f: &mut fmt::Formatter<W>) -> fmt::Result {
         match *self {
             Text::LinkAddresses => f.write_str("link addresses"),
@@ -174,7 +175,7 @@ impl Text {
         }
     }
 
-    /// Writes what it says of numbers and beacons.
+    /// Writes a text about numbers and beacons.
     fn write_sending<W: fmt::Write>(&self, f: &mut fmt::Formatter<W>) -> fmt::Result {
         match *self {
             Text::Number(number) => write!(f, "number {number}"),
@@ -194,7 +195,7 @@ impl Text {
         }
     }
 
-    /// Writes what it says of a packet that was forwarded.
+    /// Writes a text about a packet that was forwarded.
     fn write_forwarding<W: fmt::Write>(&self, f: &mut fmt::Formatter<W>) -> fmt::Result {
         match *self {
             Text::OfRecord(record) => write!(f, "of #{record}, one hop fewer"),
@@ -229,7 +230,7 @@ impl Text {
         }
     }
 
-    /// Writes what it says of a packet that was heard.
+    /// Writes a text about a packet that was received.
     fn write_owed<W: fmt::Write>(&self, f: &mut fmt::Formatter<W>) -> fmt::Result {
         match *self {
             Text::ForwardedAs(record) => write!(f, "forwarded as #{record}"),
@@ -250,7 +251,7 @@ impl Text {
         }
     }
 
-    /// Writes what it says of a packet by where its station is.
+    /// Writes a text about a packet that depends on the position of the station.
     fn write_place<W: fmt::Write>(&self, f: &mut fmt::Formatter<W>) -> fmt::Result {
         match *self {
             Text::OutsideItsArea => f.write_str("outside its area"),
@@ -263,7 +264,7 @@ impl Text {
         }
     }
 
-    /// The fault that it names, if the duty of form does.
+    /// Returns the fault that it names, if it is about the form.
     pub(crate) fn code(&self) -> Option<FrameFault> {
         match *self {
             Text::Fault(fault) | Text::OutsideProfile(fault) | Text::NotReadFault(fault) => {
@@ -273,7 +274,7 @@ impl Text {
         }
     }
 
-    /// How long after another record, in milliseconds, if the duty of time says it.
+    /// Returns how long after another record it is, in milliseconds, if it is about time.
     pub(crate) fn millis_after(&self) -> Option<u64> {
         match *self {
             Text::After(since, _) | Text::Late(since, _) => Some(millis(since)),
@@ -281,7 +282,7 @@ impl Text {
         }
     }
 
-    /// The other record that it names, if it does.
+    /// Returns the other record that it names, if it names one.
     pub(crate) fn other_record(&self) -> Option<u64> {
         match *self {
             Text::NumberAfter(_, _, record)
@@ -327,10 +328,10 @@ fn millis(nanos: u64) -> u64 {
     nanos / 1_000_000
 }
 
-/// The standard that the clauses are of.
+/// The standard of the clauses.
 const STANDARD: &str = "EN 302 636-4-1";
 
-/// The clause of a duty, if the text of a fail names one.
+/// Returns the clause of a duty, if the text of a fail names one.
 pub(crate) fn clause_of(duty: Duty) -> Option<&'static str> {
     match duty {
         Duty::Form | Duty::Mobile | Duty::Hops | Duty::Lifetime => Some("9"),
@@ -345,7 +346,7 @@ pub(crate) fn clause_of(duty: Duty) -> Option<&'static str> {
     }
 }
 
-/// The clause of a duty as a text names it: in two of them with the standard.
+/// The clause of a duty as a text names it. Two texts have the standard too.
 #[derive(Clone, Copy)]
 pub(crate) struct Clause(pub(crate) Duty);
 

@@ -8,7 +8,7 @@ use Rattle.its_faults.specs.declared.packet.Fault.{Fault}
 use Rattle.its_model.specs.Packet.{Pdu, Transmission}
 use Rattle.its_headers.specs.Encoding.{IsBytes, Encodes, encoding}
 use Rattle.its_headers.specs.FirstFault.{FirstFault}
-use Rattle.its_headers.proofs.Numbers.{IsBytes-drop}
+use Rattle.its_formats.proofs.Numbers.{IsBytes-drop}
 use Rattle.its_headers.proofs.Encodings.{encoding_read, one_encoding}
 use Rattle.its_headers.proofs.PacketFaults.{no_first_fault}
 use Rattle.its_linkframe.specs.Frames.{EncodesFrame, link_header, frame_octets}

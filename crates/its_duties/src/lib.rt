@@ -56,7 +56,6 @@ mod own;
 mod places;
 mod relays;
 mod role;
-mod sines;
 mod spans;
 mod verdict;
 

@@ -13,8 +13,7 @@ ghost use Rattle.its_duties.specs.Places.{area_position, position_in};
 
 use crate::claims::Claims;
 use crate::interval::Interval;
-use crate::sines::{cosine, longitude_scale, sine};
-use its_geometry::{Area, Shape};
+use its_geometry::{Area, Shape, cosine, longitude_scale, sine};
 use its_gnvalue::Place;
 
 /// Where a station is, seen from an area.

@@ -5,24 +5,24 @@ ghost use Rattle.std.specs.Prelude.{◌≡◌};
 use std::error::Error;
 use std::fmt;
 
-/// What E1 says of a message.
+/// The sentence of E1.
 pub const UNREAD_MESSAGE: &str = "a secured message of a form that isn't read";
 
-/// What E2 says of a message.
+/// The sentence of E2.
 pub const SHORT_MESSAGE: &str = "a truncated secured message";
 
 /// Why the message of a secured packet can't be read. Octets are counted from the first one of the
 /// packet. It prints as a sentence.
 #[derive(Clone, Copy, Debug, PartialEq, Eq)]
 pub enum MessageFault {
-    /// E1: this octet isn't one that is read.
+    /// E1: this octet has a value that is not supported.
     Octet(usize),
     /// E2: the packet ends here, before the part of the message that is read.
     Short(usize),
 }
 
 impl MessageFault {
-    /// What lines show, for example `E1 at 5`.
+    /// Returns what lines show, for example `E1 at 5`.
     pub fn code(self) -> MessageCode
         ensures { result ≡ record { 0 = self } }
     {

@@ -1,26 +1,27 @@
 //! A message: unsecured data, or signed data with its header info.
 
-ghost use Rattle.std.specs.Prelude.{◌≡◌, ◌≤◌, IfOk};
-ghost use Rattle.cap_records.specs.Messages.{data_start as data_begins, info_at as info_read};
-ghost use Rattle.cap_records.specs.Messages.{message_in, psid_at as psid_read, signed_in};
-ghost use Rattle.cap_records.specs.Messages.{time_at as time_read, unsecured_in, LiesIn};
+ghost use Rattle.std.specs.Prelude.{◌≡◌, ◌≤◌, IfOk, length};
+ghost use Rattle.its_formats.specs.Format.{Gives, value_of};
+ghost use Rattle.cap_records.specs.Messages.{info_format, message_in, psid_format, signed_format};
+ghost use Rattle.cap_records.specs.Messages.{signed_head, time_format, unsecured_format, walk};
+ghost use Rattle.cap_records.specs.Messages.{LiesIn};
 
-use crate::messages::cursor::{number_at, octets_at, take_below, take_octet, unread};
+use crate::messages::cursor::{check_below, check_octet, data_at, number_at, unread};
 use crate::messages::fault::MessageFault;
 use std::marker::Model;
 
-/// The protocol version that is read.
+/// The supported protocol version.
 const VERSION: u8 = 3;
 
-/// What a message holds: unsecured data, or signed data.
+/// The content types of a message: unsecured data and signed data.
 const UNSECURED: u8 = 0x80;
 
 const SIGNED: u8 = 0x81;
 
-/// The first octet that is no hash algorithm.
+/// The least octet that is not a hash algorithm.
 const NO_ALGORITHM: u8 = 0x80;
 
-/// What a signed payload has: data, and no hash of other data.
+/// A signed payload has data, and no hash of other data.
 const DATA_ALONE: u8 = 0x40;
 
 /// What the header info of signed data says.
@@ -32,7 +33,7 @@ pub struct HeaderInfo {
     pub generated: Option<u64>,
 }
 
-/// What is read of a message.
+/// What is read from a message.
 #[derive(Debug, Drop)]
 pub struct Message<'a> {
     start: usize,
@@ -49,21 +50,21 @@ impl<'a> Model for Message<'a> {
 }
 
 impl<'a> Message<'a> {
-    /// Where the plain part begins in the message.
+    /// Returns where the plain part begins in the message.
     pub fn start(&self) -> usize
         ensures { result ≡ self.now.start }
     {
         self.start
     }
 
-    /// The plain part: a slice of the message. Nothing says that its signature is right.
+    /// Returns the plain part, a slice of the message. Its signature is not verified.
     pub fn plain(&self) -> &'a [u8]
         ensures { result.now ≡ self.now.plain }
     {
         self.plain
     }
 
-    /// The header info of signed data. Unsecured data has none.
+    /// Returns the header info of signed data. Unsecured data has none.
     pub fn info(&self) -> Option<HeaderInfo>
         ensures { result ≡ self.now.info }
     {
@@ -71,80 +72,80 @@ impl<'a> Message<'a> {
     }
 }
 
-/// What the message of a secured packet says, or its first fault: E1 at the first octet that isn't
-/// one that is read, E2 at the packet's length if the packet ends before the header info does. What
-/// follows the header info isn't read: further header info, signer and signature.
-#[tactic(auto, unfolding(crate::specs::Messages::message_in))]
+/// Reads the message of a secured packet, or returns its first fault: E1 at the first octet whose
+/// value is not supported, E2 at the packet's length if the packet ends before the header info
+/// does. What follows is not read: further header info, signer and signature.
+#[tactic(auto, unfolding(crate::specs::Messages::message_in), using(its_formats::proofs::Walks::walk_after))]
 pub fn read_message(message: &[u8]) -> Result<Message<'_>, MessageFault>
     ensures reading { result ≡ message_in message.now }
     ensures place { IfOk result (LiesIn message.now) }
 {
-    let at = take_octet(message, 0, VERSION)?;
-    let content = number_at(message, at, 1)?;
+    check_octet(message, 0, VERSION)?;
+    let content = number_at(message, 1, 1)?;
     if content == u64::from(UNSECURED) {
         read_unsecured(message)
     } else if content == u64::from(SIGNED) {
         read_signed(message)
     } else {
-        Err(unread(at))
+        Err(unread(1))
     }
 }
 
-/// Unsecured data.
-#[tactic(auto, unfolding(crate::specs::Messages::unsecured_in))]
+/// Reads unsecured data.
+#[tactic(auto, unfolding(crate::specs::Messages::unsecured_format), using(its_formats::proofs::Walks::walk_after))]
 fn read_unsecured(message: &[u8]) -> Result<Message<'_>, MessageFault>
-    ensures reading { result ≡ unsecured_in message.now }
+    ensures reading { result ≡ value_of (walk unsecured_format 2 message.now) }
     ensures place { IfOk result (LiesIn message.now) }
 {
-    let (start, end) = octets_at(message, 2)?;
+    let (size, plain) = data_at(message, 2)?;
     Ok(Message {
-        start,
-        plain: &message[start..end],
+        start: 2 + size,
+        plain,
         info: None,
     })
 }
 
-/// Signed data.
-#[tactic(auto, unfolding(crate::specs::Messages::signed_in))]
+/// Reads signed data.
+#[tactic(auto, unfolding(crate::specs::Messages::signed_format), using(its_formats::proofs::Walks::walk_after))]
 fn read_signed(message: &[u8]) -> Result<Message<'_>, MessageFault>
-    ensures reading { result ≡ signed_in message.now }
+    ensures reading { result ≡ value_of (walk signed_format 2 message.now) }
     ensures place { IfOk result (LiesIn message.now) }
 {
-    let at = data_start(message)?;
-    let (start, end) = octets_at(message, at)?;
-    let info = info_at(message, end)?;
+    check_signed_head(message)?;
+    let (size, plain) = data_at(message, 6)?;
+    let info = info_at(message, 6 + size + plain.len())?;
     Ok(Message {
-        start,
-        plain: &message[start..end],
+        start: 6 + size,
+        plain,
         info: Some(info),
     })
 }
 
-/// Where the data of signed data begins.
-#[tactic(auto, unfolding(crate::specs::Messages::data_start))]
-fn data_start(message: &[u8]) -> Result<usize, MessageFault>
-    ensures reading { result ≡ data_begins message.now }
-    ensures behind { IfOk result (λ at. at ≡ 6) }
+/// Checks the octets before the data of signed data.
+#[tactic(auto, unfolding(crate::specs::Messages::signed_head), using(its_formats::proofs::Walks::walk_after))]
+fn check_signed_head(message: &[u8]) -> Result<(), MessageFault>
+    ensures reading { Gives (λ _. (tt, 6)) result (walk signed_head 2 message.now) }
+    ensures here { IfOk result (λ _. 6 ≤ length message.now) }
 {
-    let at = take_below(message, 2, NO_ALGORITHM)?;
-    let at = take_octet(message, at, DATA_ALONE)?;
-    let at = take_octet(message, at, VERSION)?;
-    take_octet(message, at, UNSECURED)
+    check_below(message, 2, NO_ALGORITHM)?;
+    check_octet(message, 3, DATA_ALONE)?;
+    check_octet(message, 4, VERSION)?;
+    check_octet(message, 5, UNSECURED)
 }
 
-/// The header info at a place.
-#[tactic(auto, unfolding(crate::specs::Messages::info_at))]
+/// Reads the header info at a position.
+#[tactic(auto, unfolding(crate::specs::Messages::info_format), using(its_formats::proofs::Walks::walk_after))]
 fn info_at(message: &[u8], at: usize) -> Result<HeaderInfo, MessageFault>
-    ensures { result ≡ info_read at message.now }
+    ensures { result ≡ value_of (walk info_format at message.now) }
 {
     let flags = number_at(message, at, 1)?;
     psid_at(message, at + 1, flags / 64 % 2 == 1)
 }
 
-/// The PSID at a place, and the generation time after it if it is there.
-#[tactic(auto, unfolding(crate::specs::Messages::psid_at))]
+/// Reads the PSID at a position, and the generation time after it if it is there.
+#[tactic(auto, unfolding(crate::specs::Messages::psid_format), using(its_formats::proofs::Walks::walk_after))]
 fn psid_at(message: &[u8], at: usize, is_timed: bool) -> Result<HeaderInfo, MessageFault>
-    ensures { result ≡ psid_read is_timed at message.now }
+    ensures { result ≡ value_of (walk (psid_format is_timed) at message.now) }
 {
     let count = number_at(message, at, 1)?;
     if count == 0 || count > 4 {
@@ -156,10 +157,10 @@ fn psid_at(message: &[u8], at: usize, is_timed: bool) -> Result<HeaderInfo, Mess
     Ok(HeaderInfo { psid, generated })
 }
 
-/// The generation time at a place, if it is there.
-#[tactic(auto, unfolding(crate::specs::Messages::time_at))]
+/// Reads the generation time at a position, if it is there.
+#[tactic(auto, unfolding(crate::specs::Messages::time_format))]
 fn time_at(message: &[u8], at: usize, is_there: bool) -> Result<Option<u64>, MessageFault>
-    ensures { result ≡ time_read is_there at message.now }
+    ensures { result ≡ value_of (walk (time_format is_there) at message.now) }
 {
     if !is_there {
         return Ok(None);
