@@ -30,7 +30,7 @@
 #include <sys/uio.h>
 #include <unistd.h>
 
-/* The C library's own, by names that it shows beside the standard ones. */
+/* The C library's own functions, by names that it has besides the standard ones. */
 void *__libc_malloc(size_t size);
 void *__libc_calloc(size_t count, size_t size);
 void *__libc_realloc(void *piece, size_t size);

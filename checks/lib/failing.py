@@ -102,7 +102,7 @@ class Bench:
                 stdout=printed if out is None else out,
                 stderr=subprocess.PIPE,
                 timeout=LONGEST,
-                # A closed pipe and a full file are told by a write, and not by a signal.
+                # A closed pipe and a full file make a write fail, and send no signal.
                 restore_signals=False,
             )
             printed.seek(0)

@@ -1,4 +1,4 @@
-//! An argument that can't be taken, and the word that may have been meant.
+//! An invalid argument, and the keyword that may be meant.
 
 use cmd_captures::{FIELDS, Field};
 use its_headers::{KINDS, Kind};
@@ -6,18 +6,18 @@ use its_words::keys::nearest;
 use std::alloc::{AllocError, Global};
 use std::fmt;
 
-/// Why an argument isn't taken.
+/// Why an argument is refused.
 #[derive(Clone, Copy, Debug, PartialEq, Eq)]
 pub enum BadArgument<'a> {
-    /// An option, its value, and what that has to be and isn't.
+    /// An option, its invalid value, and what the value has to be.
     Value(&'a str, &'a str, &'a str),
     /// An allocation failed.
     OutOfMemory,
 }
 
 impl BadArgument<'_> {
-    /// The word that may be meant by the first of a list that is none: the first of those that are
-    /// the fewest changes of a letter away, at most two.
+    /// Returns the keyword that may be meant by the first unknown word of a list: the first keyword
+    /// that differs from it in the fewest letters, at most two.
     pub fn tip(&self, alloc: Global) -> Result<Option<&'static str>, AllocError> {
         match self {
             BadArgument::Value("kind", list, _) => {
@@ -62,8 +62,8 @@ impl From<AllocError> for BadArgument<'_> {
     }
 }
 
-/// Whether a kind may be meant by this word: of a word as short as most kinds only one letter may be
-/// another one.
+/// Whether a kind may be meant by this word. In a word of at most three letters, as most kinds are,
+/// only one letter may differ.
 fn is_near(word: &str, kind: &str) -> bool {
     if word.len() > 3 || word.len() != kind.len() {
         return true;

@@ -1,4 +1,5 @@
-//! What the options of a command choose: records of a capture, ports, how times are printed.
+//! Reads the options of a command that select records of a capture, name ports, and say how times
+//! are printed.
 
 ghost use Rattle.std.specs.Prelude.{◌≡◌, ℕ, List, Ok, MatchResult, IfOk, IfErr, IfSome, None};
 ghost use Rattle.std.specs.Prelude.{codes, map};
@@ -39,12 +40,12 @@ const OTHER_KINDS: [StandardKind; 4] = [
     StandardKind::LsReply,
 ];
 
-/// The one of these kinds that has this word.
+/// Returns the one of these kinds with this keyword.
 fn kind_named(kinds: &[StandardKind], word: &str) -> Option<StandardKind> {
     kinds.iter().copied().find(|kind| kind.word() == word)
 }
 
-/// Adds a kind to those that are chosen.
+/// Adds a kind to those that are selected.
 fn add_kind(kinds: &mut Kinds, kind: StandardKind) {
     match kind {
         StandardKind::Beacon => kinds.beacon = true,
@@ -92,7 +93,7 @@ impl FromStr for AllKindList {
     }
 }
 
-/// The kinds that a list names, separated by commas: of the profile, or of all.
+/// Returns the kinds that a list names, separated by commas: those of the profile, or all.
 pub(crate) fn kinds_in(words: &str, all_kinds: bool) -> Option<Kinds> {
     if all_kinds {
         return words.parse::<AllKindList>().ok().map(|list| list.0);
@@ -138,8 +139,7 @@ impl FromStr for MacDigits {
     }
 }
 
-/// The octets of the digits of a link address, between each two of which a colon or a hyphen may
-/// stand.
+/// Returns the octets of the digits of a link address. A colon or a hyphen may separate each two.
 fn decode(text: &[u8]) -> Result<[u8; 6], ()>
     ensures { MatchResult result
         (λ octets. decode_sized (bare_digits text.now) 6 ≡ Ok octets)
@@ -170,7 +170,7 @@ fn has_marks(text: &[u8], mark: u8) -> bool
         && text[14] == mark
 }
 
-/// A moment: a number of milliseconds, or date and time of UTC.
+/// A time: a number of milliseconds, or date and time in UTC.
 #[derive(Clone, Copy)]
 struct MomentText(u64);
 
@@ -190,7 +190,7 @@ impl FromStr for MomentText {
     }
 }
 
-/// What an option has to be.
+/// What the value of an option has to be.
 const MOMENT: &str =
     "a whole number of milliseconds, or a UTC time such as 2023-11-14T22:13:20.123Z";
 
@@ -201,7 +201,7 @@ pub(crate) const MAC: &str =
 
 pub(crate) const PORT: &str = "a whole number in 0..=65535";
 
-/// The value of an option, if it is given.
+/// Reads the value of an option, if it is given.
 pub(crate) fn value_of<'a, T: FromStr>(
     matches: &ArgMatches<'a>,
     option: &'a str,
@@ -222,18 +222,19 @@ where
     }
 }
 
-/// Which records of a file of this format a command is over: those of all ports, or of the one that
-/// `--port` names. The fault is that of the first option that has a bad value, `--port` being the
-/// last.
+/// Reads which records of a file of this format a command selects: those for all ports, or for the
+/// one that `--port` names. Returns the fault of the first option with an invalid value. `--port`
+/// is the last.
 ///
-/// - `selection`: the format is the given one; `--count`, `--source` and `--from-mac` (with colons
-///   or hyphens, or without) are what their texts spell; `--since` and `--until` are the number
-///   that their text is, if it is a whole number; all records where they aren't given; `--refused`
-///   selects refused ones; other protocols are skipped if and only if `--not-geonetworking` is
-///   `skip`; `--all-kinds` chooses frames of all kinds. `--to-mac`, `--hops`, `--class`, `--number`,
-///   `--area`, `--any` and `--not` are the conditions that their texts list.
-/// - `port`: the port is the number that `--port` spells, of 16 bits; none where it isn't given, or
-///   is for another use.
+/// - `selection`: the format is the given one. `--count`, `--source` and `--from-mac` (with colons
+///   or hyphens, or without) are what their texts spell. `--since` and `--until` are the number
+///   that their text is, if it is a whole number. Without these options all records are selected.
+///   `--refused` selects rejected records. Other protocols are skipped if and only if
+///   `--not-geonetworking` is `skip`. `--all-kinds` selects frames of all kinds. `--to-mac`,
+///   `--hops`, `--class`, `--number`, `--area`, `--any` and `--not` are the conditions that their
+///   texts list.
+/// - `port`: the port is the 16-bit number that `--port` spells. `None` if it isn't given, or has
+///   another use.
 pub fn selection_of<'a>(
     matches: &ArgMatches<'a>,
     format: Option<Format>,
@@ -252,7 +253,8 @@ pub fn selection_of<'a>(
     })
 }
 
-/// The same, of all ports, for a command whose `--port` says something else.
+/// Reads the selection as `selection_of` does, for all ports. It is for a command whose `--port`
+/// has another use.
 pub fn selection_to_any_port<'a>(
     matches: &ArgMatches<'a>,
     format: Option<Format>,
@@ -269,8 +271,8 @@ pub fn selection_to_any_port<'a>(
     })
 }
 
-/// The ports that a station opens at its start, by `--port`: at most 64, each given once. The fault
-/// is that of the first that is none or one too many.
+/// Reads the ports that a station opens at its start, by `--port`: at most 64, each given once.
+/// Returns the fault of the first that is not a port, is given twice, or is the 65th.
 pub fn ports_of<'a>(matches: &ArgMatches<'a>) -> Result<PortList, BadArgument<'a>>
     ensures { IfOk result (λ ports.
         ArePorts (texts_in matches.now (codes "port")) (listed ports)) }
@@ -278,7 +280,7 @@ pub fn ports_of<'a>(matches: &ArgMatches<'a>) -> Result<PortList, BadArgument<'a
     ports_in(matches.get_strs("port").unwrap_or(&[]))
 }
 
-/// The ports of which these are the numbers.
+/// Reads the ports with these numbers.
 fn ports_in<'a>(words: &[&'a str]) -> Result<PortList, BadArgument<'a>>
     ensures { IfOk result (λ ports. ArePorts (map (λ word. word.now) words.now) (listed ports)) }
 {
@@ -295,7 +297,7 @@ fn ports_in<'a>(words: &[&'a str]) -> Result<PortList, BadArgument<'a>>
     Ok(ports)
 }
 
-/// How many an option allows at most: 1 and more, or `None` where it isn't given.
+/// Reads a count, 1 or more. `None` if the option isn't given.
 pub fn count_of<'a>(
     matches: &ArgMatches<'a>,
     option: &'a str,
@@ -308,7 +310,7 @@ pub fn count_of<'a>(
     Ok(count.map(NonZeroU64::get))
 }
 
-/// Which records are chosen, to whatever port their frames are.
+/// Reads which records are selected, for any port.
 fn choice_of<'a>(matches: &ArgMatches<'a>) -> Result<Choice, BadArgument<'a>>
     ensures choice { IfOk result (IsChoice matches.now) }
     ensures port { IfOk result (λ choice. choice.port ≡ None) }
@@ -337,7 +339,7 @@ fn choice_of<'a>(matches: &ArgMatches<'a>) -> Result<Choice, BadArgument<'a>>
     })
 }
 
-/// The kinds that are chosen, if `--kind` is given: of the profile, or of all.
+/// Reads the kinds that are selected, if `--kind` is given: those of the profile, or all.
 fn kinds_of<'a>(
     matches: &ArgMatches<'a>,
     all_kinds: bool,
@@ -352,7 +354,7 @@ fn kinds_of<'a>(
     Ok(list.map(|list| list.0))
 }
 
-/// From which moment on and up to which, by `--since` and `--until`.
+/// Reads the first and the last time, by `--since` and `--until`.
 pub fn times_of<'a>(matches: &ArgMatches<'a>) -> Result<(u64, u64), BadArgument<'a>>
     ensures since { IfOk result (λ times.
         IsGivenOr IsMoment 0 (value_in matches.now (codes "since")) times.0) }
@@ -364,7 +366,7 @@ pub fn times_of<'a>(matches: &ArgMatches<'a>) -> Result<(u64, u64), BadArgument<
     Ok((since, until))
 }
 
-/// The moment that an option says, or another one if it isn't given.
+/// Reads the time of an option, or returns the other one if it isn't given.
 fn moment_of<'a>(
     matches: &ArgMatches<'a>,
     option: &'a str,
@@ -378,8 +380,7 @@ fn moment_of<'a>(
     }
 }
 
-/// Whether records are skipped that are of another protocol, by the word of
-/// `--not-geonetworking`.
+/// Whether records of other protocols are skipped, by the keyword of `--not-geonetworking`.
 fn skips_others(matches: &ArgMatches<'_>) -> bool
     ensures { result ≡ is_skipping (value_in matches.now (codes "not-geonetworking")) }
 {
@@ -389,7 +390,7 @@ fn skips_others(matches: &ArgMatches<'_>) -> bool
     }
 }
 
-/// How times are printed: by the word of `--time`, or as milliseconds.
+/// Reads how times are printed: by the keyword of `--time`, or as milliseconds.
 pub fn time_of(matches: &ArgMatches<'_>) -> Time
     ensures { result ≡ time_named (value_in matches.now (codes "time")) }
 {
@@ -402,9 +403,9 @@ pub fn time_of(matches: &ArgMatches<'_>) -> Time
     }
 }
 
-/// The keys whose values are shown, if `--fields` lists them, separated by commas. Refused if one is
-/// unknown, or is a key of secured frames and `--signed` isn't given. `OutOfMemory` if an allocation
-/// failed.
+/// Reads the keys whose values are shown, if `--fields` lists them, separated by commas. Refused if
+/// a key is unknown, or is one of secured frames and `--signed` isn't given. `OutOfMemory` if an
+/// allocation failed.
 ///
 /// - `named`: the keys are those that `--fields` lists: their names, with a comma between each two,
 ///   are its text; none if it isn't given.
@@ -431,7 +432,8 @@ pub fn fields_of<'a>(
     Ok(Some(fields))
 }
 
-/// The keys of these names, separated by commas, in their order. `None` if one is unknown.
+/// Returns the keys with these names, separated by commas, in their order. `None` if one is
+/// unknown.
 fn fields_in(alloc: Global, names: &str) -> Result<Option<Vec<Field>>, AllocError>
     ensures { IfOk result (λ fields. IfSome fields (λ fields. AreNamed names.now fields.items)) }
 {

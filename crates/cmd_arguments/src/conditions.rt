@@ -1,4 +1,4 @@
-//! Conditions on records: by an option each, or listed by `--any` and `--not`.
+//! Reads conditions on records: one per option, or listed by `--any` and `--not`.
 
 use crate::bad_argument::BadArgument;
 use crate::choosing::{AddressDigits, MAC, MacDigits, PORT, kinds_in};
@@ -33,8 +33,8 @@ pub(crate) struct AskedConditions {
 }
 
 impl AskedConditions {
-    /// Those of these options. Kinds outside the profile are named only with `all_kinds`. The fault
-    /// is that of the first option that has a bad value.
+    /// Reads the conditions of these options. Kinds outside the profile can be named only with
+    /// `all_kinds`. Returns the fault of the first option with an invalid value.
     pub(crate) fn of<'a>(
         matches: &ArgMatches<'a>,
         all_kinds: bool,
@@ -56,7 +56,7 @@ impl AskedConditions {
     }
 }
 
-/// The conditions that an option lists, separated by commas.
+/// Reads the conditions that an option lists, separated by commas.
 fn list_of<'a>(
     matches: &ArgMatches<'a>,
     option: &'static str,
@@ -74,12 +74,12 @@ fn list_of<'a>(
     Ok(list)
 }
 
-/// Adds a condition that was read, if it was and there is room for it.
+/// Adds a condition, if it was read and the list has free space.
 fn add(list: &mut Conditions, read: Option<Condition>) -> Option<()> {
     list.add(read?)
 }
 
-/// The condition that a word of a list is: `refused`, or the name of an option, an equals sign and
+/// Reads a word of a list as a condition: `refused`, or the name of an option, an equals sign and
 /// its value.
 fn condition_in(word: &str, all_kinds: bool) -> Option<Condition> {
     if word == "refused" {
@@ -89,7 +89,7 @@ fn condition_in(word: &str, all_kinds: bool) -> Option<Condition> {
     condition_named(name, value, all_kinds)
 }
 
-/// The condition that the option of this name has with this value.
+/// Reads the condition of the option with this name and this value.
 fn condition_named(name: &str, value: &str, all_kinds: bool) -> Option<Condition> {
     match name {
         "kind" => Some(Condition::Kind(kinds_in(value, all_kinds)?)),
@@ -114,7 +114,7 @@ fn condition_named(name: &str, value: &str, all_kinds: bool) -> Option<Condition
     }
 }
 
-/// A number, or two with a hyphen between them, of which the second isn't lower.
+/// Reads a number, or two with a hyphen between them. The second may not be lower.
 fn range_in(text: &str) -> Option<(u16, u16)> {
     let (first, last) = text.split_once('-').unwrap_or((text, text));
     let (least, most) = (first.parse::<u16>().ok()?, last.parse::<u16>().ok()?);
@@ -125,14 +125,14 @@ fn range_in(text: &str) -> Option<(u16, u16)> {
     }
 }
 
-/// The octet of two hexadecimal digits.
+/// Reads two hexadecimal digits as an octet.
 fn octet_in(text: &str) -> Option<u8> {
     let mut octet = [0; 1];
     hex::decode_to_slice(text, &mut octet).ok()?;
     Some(octet[0])
 }
 
-/// A latitude and a longitude with a colon between them, in tenths of a microdegree.
+/// Reads a latitude and a longitude with a colon between them, in tenths of a microdegree.
 fn place_in(text: &str) -> Option<Place> {
     let (lat, lon) = text.split_once(':')?;
     Place::new(lat.parse().ok()?, lon.parse().ok()?).ok()

@@ -1,4 +1,4 @@
-//! How packets are followed over captures, by the options of `follow`.
+//! Reads how packets are followed over captures, by the options of `follow`.
 
 use crate::bad_argument::BadArgument;
 use crate::choosing::{selection_of, time_of};
@@ -11,11 +11,11 @@ use std::alloc::{AllocError, Global};
 /// What the window has to be.
 const WINDOW: &str = "a whole number of milliseconds in 1..=60000";
 
-/// How long a packet is followed if nothing says it, in milliseconds.
+/// The default time for which a packet is followed, in milliseconds.
 const USUAL: u16 = 10_000;
 
-/// How packets are followed, over the captures of this format that are given. The fault is that of
-/// the first option that has a bad value, `--window` being the last. `OutOfMemory` if an allocation
+/// Reads how packets are followed, over the given captures of this format. Returns the fault of the
+/// first option with an invalid value. `--window` is the last. `OutOfMemory` if an allocation
 /// failed.
 pub fn following_of<'a>(
     alloc: Global,
@@ -36,7 +36,7 @@ pub fn following_of<'a>(
     })
 }
 
-/// The captures, in their order.
+/// Returns the captures, in their order.
 fn files_of<'a>(alloc: Global, matches: &ArgMatches<'a>) -> Result<Vec<&'a str>, AllocError> {
     let mut files = Vec::new(alloc);
     for file in matches.get_strs("CAPTURE").unwrap_or(&[]) {
@@ -45,7 +45,7 @@ fn files_of<'a>(alloc: Global, matches: &ArgMatches<'a>) -> Result<Vec<&'a str>,
     Ok(files)
 }
 
-/// By what frames are copies of one packet, by `--by`.
+/// Reads how frames are found to be copies of one packet, by `--by`.
 fn by_of(matches: &ArgMatches<'_>) -> FollowBy {
     match matches.get_str("by") {
         Some("payload") => FollowBy::Payload,
@@ -53,7 +53,7 @@ fn by_of(matches: &ArgMatches<'_>) -> FollowBy {
     }
 }
 
-/// How rows and tables are printed, by `--json` and `--csv`.
+/// Reads how rows and tables are printed, by `--json` and `--csv`.
 fn form_of(matches: &ArgMatches<'_>) -> FollowForm {
     if matches.get_flag("json") {
         FollowForm::Json

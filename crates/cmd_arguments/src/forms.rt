@@ -10,13 +10,13 @@ enum Argument {
     Required(&'static str, &'static str),
     /// Required, by position. It may begin with a minus sign, for a number below 0.
     Signed(&'static str, &'static str),
-    /// Required, by position, unless the option of this name is given. Both together are refused.
+    /// Required, by position, unless the option with this name is given. Both together are refused.
     Unless(&'static str, &'static str, &'static str),
     /// Required, by position, from one to this number of times.
     Many(&'static str, usize, &'static str),
     /// An option without a value.
     Flag(&'static str, &'static str),
-    /// An option without a value. Together with the option of this name it is refused.
+    /// An option without a value. Together with the option with this name it is refused.
     FlagUnless(&'static str, &'static str, &'static str),
     /// An option without a value, with a letter.
     LetterFlag(char, &'static str, &'static str),
@@ -241,10 +241,10 @@ const OUTPUT: Argument = Argument::LetterValue(
     "File to write, the same as OUT",
 );
 
-/// The options that select frames by the ends of their packet.
+/// The options that select frames by the kind and source of their packet, and by link addresses.
 static ENDS: [Argument; 4] = [KIND, SOURCE, FROM_MAC, TO_MAC];
 
-/// The options that select frames by what is in them, and records by their time.
+/// The options that select frames by their content, and records by their time.
 static CONTENTS: [Argument; 8] = [HOPS, CLASS, NUMBER, AREA, ANY, NOT, SINCE, UNTIL];
 
 // A function for each list: a table that repeats them takes the check long.
@@ -257,10 +257,10 @@ fn contents() -> &'static [Argument] {
     &CONTENTS
 }
 
-/// What the options of a command select.
+/// What the selecting options of a command select.
 #[derive(Clone, Copy)]
 enum Selecting {
-    /// It has no such options.
+    /// The command has no such options.
     Nothing,
     /// Records.
     Records,
@@ -295,7 +295,7 @@ pub fn add_commands<'a>(alloc: Global, program: Command<'a>) -> Result<Command<'
     add_forms(alloc, program, stations())
 }
 
-/// The command of this name by itself, whose errors show its own usage, if there is one.
+/// Returns the command with this name by itself, whose errors show its own usage, if there is one.
 pub fn command_named<'a>(
     alloc: Global,
     program: &str,
@@ -308,7 +308,7 @@ pub fn command_named<'a>(
     Ok(Some(form.command(alloc)?.bin_name(called.as_str())?))
 }
 
-/// The form of the command of this name, if there is one.
+/// Returns the form of the command with this name, if there is one.
 fn form_named(name: &str) -> Option<&'static Form> {
     for forms in [readers(), makers(), runners(), stations()] {
         for form in forms {
@@ -607,7 +607,7 @@ Example:
     },
 ];
 
-/// The commands that are or judge one station.
+/// The commands that run or judge one station.
 static STATIONS: [Form; 3] = [
     Form {
         name: "replay",
@@ -662,7 +662,7 @@ Example:
     },
     Form {
         name: "verdict",
-        about: "Judge by a capture whether a station obeys the standard",
+        about: "Find rules of the standard that a station breaks",
         arguments: &[
             Argument::Required(
                 "IUT",

@@ -1,10 +1,10 @@
-//! The arguments of the program: its commands with their arguments, as help shows them, and the
-//! values that these give.
+//! The arguments of the program: its commands with their arguments, as help shows them, and how
+//! their values are read.
 //!
 //! # What is proved
 //!
-//! `value_in` is the text of an option's first value, `texts_in` those of all of its uses. Nothing
-//! is said of a text that clap refused before.
+//! `value_in` is the text of an option's first value, `texts_in` has those of all its uses. Nothing
+//! is said about a text that clap refused before.
 //!
 //! # Only tested
 //!

@@ -6,8 +6,7 @@ ghost use Rattle.cmd_arguments.specs.Arguments.{AreMatched, argument_of};
 use clap::ArgMatches;
 use its_words::keys::Fields;
 
-/// An argument, and the whole number that it spells, if it spells one that fits 64 bits with a
-/// sign.
+/// An argument, and the whole number that it spells, if that fits 64 bits with a sign.
 #[derive(Clone, Copy, Debug, PartialEq, Eq)]
 struct SpelledNumber<'a> {
     text: &'a str,
@@ -25,7 +24,7 @@ impl<'a> SpelledNumber<'a> {
     }
 }
 
-/// The arguments of a station, of which those behind the place may be missing.
+/// The arguments of a station. Those after the position may be missing.
 #[derive(Clone, Copy, Debug, PartialEq, Eq)]
 pub struct StationArguments<'a> {
     address: SpelledNumber<'a>,
@@ -36,7 +35,7 @@ pub struct StationArguments<'a> {
 }
 
 impl<'a> StationArguments<'a> {
-    /// Those that were matched: the first three are required, so there is an answer.
+    /// Returns the arguments that were matched. The first three are required, so there is a result.
     pub fn of(matches: &ArgMatches<'a>) -> Option<StationArguments<'a>>
         ensures { IfSome result (AreMatched matches.now) }
     {
@@ -49,7 +48,7 @@ impl<'a> StationArguments<'a> {
         })
     }
 
-    /// The argument under the name that a scenario has for it.
+    /// Returns the argument with the name that a scenario has for it.
     fn value(&self, name: &str) -> Option<SpelledNumber<'a>>
         ensures { result ≡ argument_of self.now name.now }
     {

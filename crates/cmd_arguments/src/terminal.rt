@@ -1,5 +1,4 @@
-//! What the program does otherwise where someone looks: column heads, colours, explanations, and how
-//! far a command is.
+//! What the program adds on a terminal: column heads, colours, explanations, and progress.
 
 mod console;
 mod meter;

@@ -1,8 +1,5 @@
 //! The command `check`.
 
-ghost use Rattle.std.specs.Prelude.{IfOk};
-ghost use Rattle.cmd_reporting.specs.Statuses.{IsCommandStatus};
-
 use crate::output::Output;
 use crate::refused_lines::{Count, RefusedRecord};
 use cap_records::{
@@ -12,7 +9,7 @@ use cmd_reporting::{Fault, Io, Status, open};
 use std::io::{Read, Write};
 use std::rt::Files;
 
-/// A line for each refused record.
+/// Prints a line for each rejected record.
 #[derive(Drop)]
 struct RefusedRecords {
     output: Output,
@@ -34,12 +31,12 @@ impl RecordVisitor for RefusedRecords {
     }
 }
 
-/// Prints a line for each refused record of the file that is chosen, and how many records were
-/// chosen, how many of them are refused, and if all kinds are chosen, how many are outside the
-/// profile. `input` is standard input.
+/// Prints one line per selected record of the file that is rejected. Then prints how many records
+/// were selected, how many of them were rejected and, if all kinds are selected, how many are
+/// outside the profile. `input` is standard input.
 ///
-/// `Refused` if such a record or the file was refused, `Failed` if the file could not be read or
-/// standard output not written, or memory ran out.
+/// `Refused` if a selected record or the file was rejected. `Failed` if the file could not be read,
+/// standard output could not be written, or memory ran out.
 pub fn check_file<R: Files + AllocGlobal, I: Read + Drop, W: Write, E: Write>(
     rt: &R,
     file: &str,
@@ -49,13 +46,12 @@ pub fn check_file<R: Files + AllocGlobal, I: Read + Drop, W: Write, E: Write>(
 ) -> Status
 where
     R::File: Read + Drop,
-    ensures { IsCommandStatus result }
 {
     let ended = check_records(rt, file, input, selection, io);
     io.status_of(ended)
 }
 
-/// Checks the records of the file. The fault is what ends the command before it is done.
+/// Checks the records of the file. Returns the fault that ends the command before it is done.
 fn check_records<'a, R: Files + AllocGlobal, I: Read + Drop, W: Write, E>(
     rt: &R,
     file: &'a str,
@@ -65,7 +61,6 @@ fn check_records<'a, R: Files + AllocGlobal, I: Read + Drop, W: Write, E>(
 ) -> Result<Status, Fault<'a>>
 where
     R::File: Read + Drop,
-    ensures { IfOk result IsCommandStatus }
 {
     let alloc = rt.alloc();
     let reader = open(rt, file, input)?;

@@ -1,12 +1,12 @@
 //! The command `convert`.
 
-ghost use Rattle.std.specs.Prelude.{◌≡◌, ℕ, List, IfErr, IfOk, None, true};
+ghost use Rattle.std.specs.Prelude.{◌≡◌, ◌≢◌, ℕ, List, IfErr, IfOk, None, true};
 ghost use Rattle.cap_pcap.specs.Sources.{Gives};
 ghost use Rattle.cmd_captures.specs.Conversions.{IsCopied, Writes};
 ghost use Rattle.cmd_captures.specs.Conversions.{is_left_out, told_status, said_by};
 ghost use Rattle.cmd_reporting.specs.FileNames.{format_of_output};
 ghost use Rattle.cmd_reporting.specs.FileNames.{is_standard as names_standard};
-ghost use Rattle.cmd_reporting.specs.Statuses.{IsCommandStatus, IsStopped};
+ghost use Rattle.cmd_reporting.specs.Statuses.{IsStopped};
 
 use crate::prompt::Prompt;
 use crate::refused_lines::UnreadRecord;
@@ -18,15 +18,16 @@ use cap_records::{
     FileFault, Pulled, RecordFault, RecordReader, Records, RefusedCapture, Selection,
 };
 use cmd_reporting::{
-    Fault, Io, LeftOut, OutputFormat, Status, Target, WriterFault, create_output, is_standard,
-    keep_apart, open,
+    ExitStatus, Fault, Io, LeftOut, OutputFormat, Status, Target, WriterFault, create_output,
+    is_standard, keep_apart, open,
 };
 use its_linkframe::{Counted, Source};
 use std::alloc::{AllocError, Global};
 use std::io::{Read, Write};
 use std::rt::Files;
 
-/// The most records that are left out without a line of their number: each has its own line.
+/// Up to this many records that are left out, there is no line with their number, since each has
+/// its own line.
 const MOST_COUNTED: u64 = 20;
 
 /// What is converted, and to what.
@@ -36,15 +37,14 @@ pub struct Conversion<'a> {
     pub file: &'a str,
     /// The file that is written. `-` is standard output.
     pub target: Target<'a>,
-    /// Whether frames are written in place of the records that they stand in. To a capture they are
-    /// in any case.
+    /// Whether frames are written instead of their whole records. In a capture they always are.
     pub frames_only: bool,
 }
 
 /// Writes the selected records of the file to the conversion's target, one by one, in order. The
-/// target is created once the file is open. `input` is standard input. Frames are not checked. A
-/// record that has no place in the target is left out and reported on standard error. So is the
-/// fault that ends the file, and what was read before it is written.
+/// target is created after the file was opened. `input` is standard input. Frames are not checked.
+/// A record that doesn't fit the target is left out and reported on standard error. A fault that
+/// ends the file is reported too, and what was read before it is written.
 ///
 /// `BadArguments`, before anything is opened, if nothing says the target's format, and before the
 /// target is created if it is the file itself. `Refused` if a record was left out or the file has a
@@ -55,14 +55,14 @@ pub fn convert_file<R: Files + AllocGlobal, I: Read + Drop, W: Write, E: Write>(
     selection: &Selection,
     input: I,
     io: &mut Io<W, E>,
-) -> Status
+) -> ExitStatus
 where
     R::File: Read + Write + Drop,
     ensures format { format_of_output conversion.entry.target.to conversion.entry.target.name.now
-        ≡ None → result ≡ Status.BadArguments }
+        ≡ None → result ≡ ExitStatus.BadArguments }
     ensures standard { names_standard conversion.entry.target.name.now ≡ true
         → ¬ (format_of_output conversion.entry.target.to conversion.entry.target.name.now ≡ None)
-        → IsCommandStatus result }
+        → result ≢ ExitStatus.BadArguments }
 {
     let to = match conversion.target.format() {
         Ok(to) => to,
@@ -85,8 +85,8 @@ struct Converting<'a> {
     format: OutputFormat,
 }
 
-/// Opens the file, and only then creates the target. What is written to standard output goes out at
-/// once if records come from standard input.
+/// Opens the file, and only then creates the target. If records are read from standard input, each
+/// write to standard output is flushed.
 fn convert_to<'a, R: Files + AllocGlobal, I: Read + Drop, W: Write, E: Write>(
     rt: &R,
     converting: Converting<'a>,
@@ -96,7 +96,6 @@ fn convert_to<'a, R: Files + AllocGlobal, I: Read + Drop, W: Write, E: Write>(
 ) -> Result<Status, WriterFault<'a, Fault<'a>>>
 where
     R::File: Read + Write + Drop,
-    ensures done { IfOk result IsCommandStatus }
     ensures standard { names_standard converting.entry.conversion.target.name.now ≡ true
         → IfErr result IsStopped }
 {
@@ -115,7 +114,7 @@ where
     )?)
 }
 
-/// Writes the selected records of the file that the reader gives.
+/// Writes the selected records of the reader's file.
 fn convert_records<'a, R: Read + Drop, W: Write + Drop, E: Write>(
     alloc: Global,
     converting: Converting<'a>,
@@ -123,9 +122,7 @@ fn convert_records<'a, R: Read + Drop, W: Write + Drop, E: Write>(
     reader: R,
     writer: W,
     err: &mut E,
-) -> Result<Status, Fault<'a>>
-    ensures { IfOk result IsCommandStatus }
-{
+) -> Result<Status, Fault<'a>> {
     let conversion = converting.conversion;
     let mut written = Written::new(writer, converting.to, conversion.frames_only);
     let mut reporter = Reporter {
@@ -153,8 +150,8 @@ fn convert_records<'a, R: Read + Drop, W: Write + Drop, E: Write>(
     Ok(status)
 }
 
-/// Writes the selected records of the source, one by one, until it ends. A record that has no place
-/// in the file is reported and left out.
+/// Writes the selected records of the source, one by one, until it ends. A record that doesn't fit
+/// the file is reported and left out.
 fn copy<'a, S: Source + Drop, W: Write + Drop, E: Write>(
     alloc: Global,
     reporter: &mut Reporter<'a>,
@@ -163,8 +160,7 @@ fn copy<'a, S: Source + Drop, W: Write + Drop, E: Write>(
     written: &mut Written<W>,
     err: &mut E,
 ) -> Result<Status, Fault<'a>>
-    ensures command { IfOk result IsCommandStatus }
-    ensures copied { IfOk result (IsCopied Gives said_by selection.now.choice
+    ensures { IfOk result (IsCopied Gives said_by selection.now.choice
         selection.now.count selection.now.signed source written.old written.new) }
 {
     let reader = WholeRecords {
@@ -193,7 +189,7 @@ fn copy<'a, S: Source + Drop, W: Write + Drop, E: Write>(
     }
 }
 
-/// The exit status.
+/// Returns the exit status.
 fn status_of(refused: bool) -> Status
     ensures { result ≡ told_status refused }
 {
@@ -204,7 +200,7 @@ fn status_of(refused: bool) -> Status
     }
 }
 
-/// Reads no more of a record than whether it is selected. Its octets stay as they are.
+/// Only finds whether a record is selected. Its octets stay as they are.
 #[derive(Drop)]
 struct WholeRecords {
     /// The buffer that a frame is read in.
@@ -232,19 +228,19 @@ impl RecordReader for WholeRecords {
     }
 }
 
-/// What became of a selected record.
+/// The outcome of a selected record.
 #[derive(Clone, Copy)]
 enum Copied {
-    /// It is written.
+    /// The record was written.
     Written,
-    /// It has no place in the file.
+    /// The record doesn't fit the file.
     LeftOut(SinkFault),
     /// Its secured frame can't be read, so the inner frame isn't written.
     Unread(RecordFault),
 }
 
 impl Copied {
-    /// Whether nothing is written of it.
+    /// Whether the record was left out.
     fn is_left_out(self) -> bool
         ensures { result ≡ is_left_out self }
     {
@@ -256,7 +252,7 @@ impl Copied {
     }
 }
 
-/// Writes a selected record. `signed` says that of a secured frame the inner frame is written.
+/// Writes a selected record. With `signed`, the inner frame of a secured frame is written.
 /// `CannotWrite` if the file that is written failed.
 fn copy_record<'a, W: Write + Drop>(
     target: &'a str,
@@ -280,14 +276,14 @@ fn copy_record<'a, W: Write + Drop>(
     }
 }
 
-/// What reports on standard error what is wrong with the files.
+/// Reports on standard error what is wrong with the files.
 #[derive(Drop)]
 struct Reporter<'a> {
     /// The name of the file that is read.
     file: &'a str,
     /// The name of the one that is written.
     target: &'a str,
-    /// The format that the first was said to have.
+    /// The given format of the file that is read.
     read_as: Option<Format>,
     /// How lines are printed.
     format: OutputFormat,
@@ -296,7 +292,7 @@ struct Reporter<'a> {
 }
 
 impl<'a> Reporter<'a> {
-    /// Reports that the record of this number is left out, if it is.
+    /// Reports that the record with this number is left out, if it is.
     fn report<E: Write>(&mut self, copied: Copied, number: u64, err: &mut E) {
         match copied {
             Copied::Written => return,
@@ -319,7 +315,7 @@ impl<'a> Reporter<'a> {
         }
     }
 
-    /// Reports the fault of the file after this number of records, or why it was not read on.
+    /// Reports the fault of the file after this number of records, or why reading stopped.
     fn end_file<E: Write>(
         &self,
         fault: SourceFault,

@@ -9,19 +9,19 @@ use its_linkframe::PACKET;
 /// A key of the object of a record.
 #[derive(Clone, Copy, Debug, PartialEq, Eq)]
 pub enum Field {
-    /// The record's moment.
+    /// The record's time.
     Moment,
-    /// The link address that the frame comes from.
+    /// The link address of the frame's sender.
     From,
-    /// The one that it goes to.
+    /// The link address that it is sent to.
     To,
-    /// The packet's kind.
+    /// The kind of the packet.
     Kind,
     /// Its source.
     Address,
     /// The time of the source's position.
     Tst,
-    /// The latitude of that.
+    /// The latitude of that position.
     Lat,
     /// Its longitude.
     Lon,
@@ -37,11 +37,11 @@ pub enum Field {
     Tc,
     /// Whether the source is mobile.
     Mobile,
-    /// The hops left.
+    /// The remaining hop limit (RHL).
     Hops,
-    /// The hops that there were at most.
+    /// The maximum hop limit (MHL).
     MaxHops,
-    /// The packet's number.
+    /// The packet's sequence number.
     Number,
     /// The area's shape.
     Shape,
@@ -57,11 +57,11 @@ pub enum Field {
     Angle,
     /// The destination port.
     Port,
-    /// What stands behind it.
+    /// The destination port info (BTP-B).
     Info,
-    /// The octets for the port.
+    /// The payload for the port.
     Payload,
-    /// Why the record is refused, as a code.
+    /// Why the record is rejected, as a code.
     Refused,
     /// The number of the record in its file, from 0.
     Record,
@@ -75,7 +75,7 @@ pub enum Field {
     Rssi,
     /// The rate, in Mbit/s.
     Rate,
-    /// Whether the record was cut and is read as far as it goes.
+    /// Whether the record was cut and is read up to the cut.
     Cut,
     /// The media-dependent data of a single-hop broadcast.
     Media,
@@ -95,7 +95,7 @@ pub enum Field {
     Destination,
     /// The time of that station's position.
     Dtst,
-    /// The latitude of that.
+    /// The latitude of that position.
     Dlat,
     /// Its longitude.
     Dlon,
@@ -107,7 +107,7 @@ pub enum Field {
     SourcePort,
 }
 
-/// All keys, in the order in which the object of a record has them; then that of a refusal, those
+/// All keys: first those of the object of a record, in its order, then that of a rejection, those
 /// that an object has only if they are asked for, and those of packets outside the profile.
 pub const FIELDS: [Field; 48] = [
     Field::Moment,
@@ -160,7 +160,7 @@ pub const FIELDS: [Field; 48] = [
     Field::SourcePort,
 ];
 
-/// How many of these the object of a frame has, which come first.
+/// How many of these keys the object of a frame has. They come first.
 pub(crate) const FRAME_FIELDS: usize = 26;
 
 impl Field {
@@ -247,9 +247,9 @@ impl Field {
         )
     }
 
-    /// How many octets a frame of this kind has at least whose value of this key is there: the
-    /// octets up to its end (EN 302 636-4-1 clause 9), of a payload up to its beginning. A key that
-    /// isn't of frames needs none.
+    /// Returns how many octets of a frame of this kind have to be there to have the value of this
+    /// key: the octets up to its end (EN 302 636-4-1 clause 9), or up to the beginning of a
+    /// payload. A key that isn't one of frames needs none.
     pub(crate) fn octets_needed(self, kind: Kind) -> usize {
         let (vector, payload) = match kind {
             Kind::Beacon | Kind::Shb => (PACKET + 12, PACKET + 40),
@@ -274,7 +274,7 @@ impl Field {
         }
     }
 
-    /// The key of this name; `None` where none has it.
+    /// Returns the key with this name, if there is one.
     pub fn named(name: &str) -> Option<Field>
         ensures { IfSome result (λ field. name.now ≡ field_word field) }
     {

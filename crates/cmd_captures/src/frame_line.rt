@@ -15,8 +15,8 @@ use std::alloc::AllocError;
 /// The EtherType of GeoNetworking.
 const ETHER_TYPE: [u8; 2] = [0x89, 0x47];
 
-/// What is printed of a frame that was read at a moment, in this order: as keys in JSON, and as
-/// words in text.
+/// What is printed of a frame that was captured at a time, in this order: as keys in JSON, and as
+/// text.
 #[derive(Clone, Copy, Serialize)]
 pub(crate) struct FrameLine<'a> {
     #[serde(skip_serializing_if = "Moment::is_fraction")]
@@ -30,12 +30,12 @@ pub(crate) struct FrameLine<'a> {
     /// The octets of the packet.
     #[serde(skip)]
     packet: &'a [u8],
-    /// How far the octets of the frame go, if it was cut.
+    /// Where the frame was cut, if it was.
     #[serde(skip)]
     cut: Option<Cut>,
 }
 
-/// Whether a packet has no media-dependent data but zeros, which objects leave out.
+/// Whether a packet has no media-dependent data, or only zeros, which objects leave out.
 pub(crate) fn are_zeros(media: &Option<Digits<4>>) -> bool {
     match media {
         Some(media) => media.0 == [0; 4],
@@ -51,7 +51,7 @@ pub(crate) fn add_media(media: Option<Digits<4>>, text: &mut Text) -> Result<(),
     }
 }
 
-/// How far the octets of a frame go that was cut.
+/// Where a frame was cut.
 #[derive(Clone, Copy)]
 pub(crate) struct Cut {
     /// The kind of its packet.
@@ -67,7 +67,7 @@ impl Cut {
     }
 }
 
-/// Whether the value of this key is there, in a frame that was cut here, if it was.
+/// Whether the value of this key is there, in a frame that may have been cut.
 fn has(cut: Option<Cut>, field: Field) -> bool {
     match cut {
         Some(cut) => cut.has(field),
@@ -76,7 +76,7 @@ fn has(cut: Option<Cut>, field: Field) -> bool {
 }
 
 impl<'a> FrameLine<'a> {
-    /// What is printed of the frame of a record.
+    /// Returns what is printed of the frame of a record.
     pub(crate) fn of(moment: Moment, frame: &FrameView<'a>, place: &RecordPlace) -> FrameLine<'a> {
         let cut = place.known.map(|known| Cut {
             kind: frame.packet.kind(),
@@ -101,12 +101,12 @@ impl<'a> FrameLine<'a> {
         self.keys.message.is_some() && has(self.cut, Field::Payload)
     }
 
-    /// Whether it has no media-dependent data but zeros.
+    /// Whether it has no media-dependent data, or only zeros.
     pub(crate) fn has_zero_media(&self) -> bool {
         are_zeros(&self.media)
     }
 
-    /// Adds its words to a text, with a line feed after them.
+    /// Adds its line to a text, with a line feed.
     pub(crate) fn add_to(&self, text: &mut Text) -> Result<(), AllocError> {
         text.moment(self.moment)?;
         add_headers(&self.keys, self.cut, text)?;
@@ -121,13 +121,13 @@ impl<'a> FrameLine<'a> {
         text.word(if self.cut.is_some() { " cut\n" } else { "\n" })
     }
 
-    /// Its moment.
+    /// Returns its time.
     pub(crate) fn moment(&self) -> Moment {
         self.moment
     }
 
-    /// Adds the value of a key to a text, as JSON has it without quotation marks; nothing if it has
-    /// no such key, or if that was cut off.
+    /// Adds the value of a key to a text, as JSON has it without quotation marks. Adds nothing if
+    /// the frame has no such key, or if it was cut off.
     pub(crate) fn add_value_to(&self, field: Field, text: &mut Text) -> Result<(), AllocError> {
         if !has(self.cut, field) {
             return Ok(());
@@ -145,7 +145,7 @@ impl<'a> FrameLine<'a> {
         }
     }
 
-    /// Adds the octets of the frame to a text: those that are there.
+    /// Adds the octets of the frame that are there to a text.
     fn add_octets_to(&self, text: &mut Text) -> Result<(), AllocError> {
         text.digits("", &self.keys.to.0)?;
         text.digits("", &self.keys.from.0)?;
@@ -158,8 +158,7 @@ impl<'a> FrameLine<'a> {
     }
 }
 
-/// Adds the words of the headers to a text, from the link addresses to the area: those whose octets
-/// are there.
+/// Adds the text of the headers whose octets are there, from the link addresses to the area.
 pub(crate) fn add_headers(
     keys: &FrameKeys<'_>,
     cut: Option<Cut>,
@@ -181,7 +180,7 @@ pub(crate) fn add_headers(
     Ok(())
 }
 
-/// Adds where the source was, how fast and in what direction it moved, and when.
+/// Adds the source's position vector: position, speed, heading and time.
 fn add_vector(keys: &FrameKeys<'_>, cut: Option<Cut>, text: &mut Text) -> Result<(), AllocError> {
     if has(cut, Field::Tst) {
         text.number(" tst ", keys.tst)?;
@@ -202,8 +201,8 @@ fn add_vector(keys: &FrameKeys<'_>, cut: Option<Cut>, text: &mut Text) -> Result
     Ok(())
 }
 
-/// Adds the value of a key of the frame to a text, as JSON has it without quotation marks; nothing
-/// if it has no such key.
+/// Adds the value of a key of the frame to a text, as JSON has it without quotation marks. Adds
+/// nothing if the frame has no such key.
 pub(crate) fn add_key_value(
     keys: &FrameKeys<'_>,
     field: Field,
@@ -240,7 +239,8 @@ fn add_part_value(keys: &FrameKeys<'_>, field: Field, text: &mut Text) -> Result
     Ok(())
 }
 
-/// What is there of a message whose frame was cut, if it was: the payload ends where the frame does.
+/// Returns the part of a message that is there, in a frame that may have been cut. The payload ends
+/// where the frame does.
 fn message_within<'a>(message: MessageKeys<'a>, cut: Option<Cut>) -> MessageKeys<'a> {
     let Some(cut) = cut else {
         return message;
@@ -255,7 +255,7 @@ fn message_within<'a>(message: MessageKeys<'a>, cut: Option<Cut>) -> MessageKeys
     }
 }
 
-/// Adds what the headers before that say of every packet.
+/// Adds what the Basic Header and the Common Header say, which each packet has.
 fn add_header(keys: &FrameKeys<'_>, text: &mut Text) -> Result<(), AllocError> {
     text.digits(" lt ", &[keys.lt])?;
     text.digits(" tc ", &[keys.tc])?;
@@ -264,7 +264,7 @@ fn add_header(keys: &FrameKeys<'_>, text: &mut Text) -> Result<(), AllocError> {
     text.number("/", keys.max_hops)
 }
 
-/// Adds where a packet for an area goes.
+/// Adds the area of a packet for an area.
 fn add_area(target: &TargetKeys, text: &mut Text) -> Result<(), AllocError> {
     text.word(" ")?;
     text.word(target.shape)?;
@@ -275,7 +275,7 @@ fn add_area(target: &TargetKeys, text: &mut Text) -> Result<(), AllocError> {
     text.number(" ", target.angle)
 }
 
-/// Adds one value of these.
+/// Adds the value of a key of the area.
 fn add_target_value(target: &TargetKeys, field: Field, text: &mut Text) -> Result<(), AllocError> {
     match field {
         Field::Number => text.number("", target.number),
@@ -305,7 +305,7 @@ pub(crate) fn add_payload(payload: Octets<'_>, text: &mut Text) -> Result<(), Al
     }
 }
 
-/// Adds one value of these.
+/// Adds the value of a key of the message.
 fn add_message_value(
     message: &MessageKeys<'_>,
     field: Field,
@@ -319,7 +319,7 @@ fn add_message_value(
     }
 }
 
-/// A truth value in JSON.
+/// Returns a truth value in JSON.
 fn truth_word(is: bool) -> &'static str {
     if is { "true" } else { "false" }
 }

@@ -1,19 +1,19 @@
-//! The command `import`: lines of a moment and hexadecimal digits become a capture.
+//! The command `import`: makes a capture from lines with a time and hexadecimal digits.
 
-ghost use Rattle.std.specs.Prelude.{◌≡◌, ◌+◌, ◌%◌, ◌==◌, ℕ, IfErr, IfOk, All, IsErr, IsTrue, ◌⊎◌};
+ghost use Rattle.std.specs.Prelude.{◌≡◌, ◌≢◌, ◌+◌, ◌%◌, ◌==◌, ℕ, IfErr, IfOk, All, IsErr, IsTrue, ◌⊎◌};
 ghost use Rattle.std.specs.Prelude.{length, true, vec_len};
 ghost use Rattle.std.specs.Char.{IsAsciiHexdigit};
 ghost use Rattle.its_linkframe.specs.Captures.{IsFrameLength};
 ghost use Rattle.cmd_captures.specs.Lines.{HasFrame};
 ghost use Rattle.cmd_reporting.specs.FileNames.{is_standard as names_standard};
-ghost use Rattle.cmd_reporting.specs.Statuses.{IsCommandStatus, IsStopped};
+ghost use Rattle.cmd_reporting.specs.Statuses.{IsStopped};
 
 use crate::timed_frame::{Step, TimedFrame};
 use cap_linklayers::LinkLayer;
 use cap_pcap::{AnySink, Format, RecordSink};
 use cmd_reporting::{
-    CommandFault, Fault, Io, OutputFormat, Status, Target, WriterFault, create_output, keep_apart,
-    open,
+    CommandFault, ExitStatus, Fault, Io, OutputFormat, Status, Target, WriterFault, create_output,
+    keep_apart, open,
 };
 use cmd_text::lines::{Line, Passed, are_digits};
 use its_linkframe::{Counted, LONGEST_FRAME};
@@ -24,36 +24,36 @@ use std::rt::Files;
 use std::str;
 use thiserror::Error;
 
-/// The most digits of a moment.
+/// The most digits of a time.
 const LONGEST_MOMENT: usize = 20;
 
-/// The most digits after its point: nanoseconds.
+/// The most digits after the point of a time: nanoseconds.
 const LONGEST_FRACTION: usize = 6;
 
-/// The most octets of a line that is a record: a moment, a point and its digits, a space, and the
+/// The most octets of a line that is a record: a time, a point and its digits, a space, and the
 /// digits of a frame.
 const LONGEST_LINE: usize = LONGEST_MOMENT + 1 + LONGEST_FRACTION + 1 + 2 * LONGEST_FRAME;
 
-/// Why a line is no record, in the order in which it is checked.
+/// Why a line is not a record, in the order of the checks.
 #[derive(Clone, Copy, Debug, PartialEq, Eq, Error)]
 pub enum LineFault {
-    /// No decimal moment of 1 to 20 digits that fits 64 bits stands before a space, or it goes on
-    /// with something else than a point and 1 to 6 digits.
+    /// The line doesn't begin with a decimal number of 1 to 20 digits that fits 64 bits, with an
+    /// optional point and 1 to 6 digits, and a space after it.
     #[error("moment")]
     Moment,
-    /// What follows the space is no even number of hexadecimal digits.
+    /// What follows the space is not an even number of hexadecimal digits.
     #[error("hex")]
     Hex,
-    /// The digits are those of no octet, or of more than 1468.
+    /// The digits are those of 0 octets, or of more than 1468.
     #[error("length")]
     Length,
-    /// The file has no place for the moment.
+    /// The file can't hold the time.
     #[error("no place")]
     NoPlace,
 }
 
 impl LineFault {
-    /// What was wrong, as a sentence.
+    /// Returns what is wrong, as a sentence.
     pub(crate) fn sentence(self) -> &'static str {
         match self {
             LineFault::Moment => {
@@ -76,7 +76,7 @@ enum LineError {
 }
 
 impl LineError {
-    /// The fault of the line of this number, from 1.
+    /// Returns the fault of the line with this number, from 1.
     fn at_line<'a>(self, number: u64) -> LinesFault<'a> {
         match self {
             LineError::Refused(fault) => LinesFault::Line(number, fault),
@@ -85,23 +85,25 @@ impl LineError {
     }
 }
 
-/// Why lines were not read to their end. Its text is the line on standard error.
+/// Why lines were not read to their end. It prints as its line on standard error.
 #[derive(Debug, Drop, Error)]
 pub enum LinesFault<'a> {
-    /// A line, counted from 1, is no record.
+    /// A line, counted from 1, is not a record.
     #[error("geostation: line {0}: {1}")]
     Line(u64, LineFault),
-    /// What ends any command.
+    /// A fault that can end any command.
     #[error("{0}")]
     Stopped(Fault<'a>),
 }
 
 impl CommandFault for LinesFault<'_> {
+    type Ending = Status;
+
     ghost use Rattle.cmd_captures.specs.Lines.{lines_fault_status};
 
     ghost status_of = { lines_fault_status };
 
-    /// `Refused` for a bad line, else `Failed`.
+    /// Returns `Refused` for a bad line, and otherwise `Failed`.
     fn status(&self) -> Status {
         match self {
             LinesFault::Line(..) => Status::Refused,
@@ -109,7 +111,7 @@ impl CommandFault for LinesFault<'_> {
         }
     }
 
-    /// That of a bad line goes on with its sentence.
+    /// Adds the sentence of a bad line.
     fn report<E: Write>(&self, format: OutputFormat, err: &mut E) {
         match self {
             LinesFault::Line(_, fault) => {
@@ -149,7 +151,7 @@ impl<T: Drop> From<AllocFailed<T>> for LinesFault<'_> {
     }
 }
 
-/// Reads a moment: milliseconds, and the nanoseconds below them that a point and 1 to 6 digits say.
+/// Reads a time: milliseconds, and the nanoseconds below them, from a point and 1 to 6 digits.
 fn read_time(text: &[u8]) -> Option<(u64, u32)> {
     let Some(point) = text.iter().position(|octet| *octet == b'.') else {
         return Some((read_moment(text)?, 0));
@@ -158,7 +160,7 @@ fn read_time(text: &[u8]) -> Option<(u64, u32)> {
     Some((read_moment(whole)?, read_nanos(&rest[1..])?))
 }
 
-/// The nanoseconds that 1 to 6 decimals of a millisecond say.
+/// Reads 1 to 6 decimals of a millisecond as nanoseconds.
 fn read_nanos(decimals: &[u8]) -> Option<u32> {
     if decimals.is_empty() || decimals.len() > LONGEST_FRACTION {
         return None;
@@ -175,7 +177,7 @@ fn read_nanos(decimals: &[u8]) -> Option<u32> {
     Some(nanos)
 }
 
-/// Reads 1 to 20 decimal digits that fit 64 bits: a sign is no digit.
+/// Reads 1 to 20 decimal digits that fit 64 bits. A sign is not a digit.
 fn read_moment(digits: &[u8]) -> Option<u64> {
     if digits.len() > LONGEST_MOMENT || !digits.iter().all(|digit| digit.is_ascii_digit()) {
         return None;
@@ -183,7 +185,7 @@ fn read_moment(digits: &[u8]) -> Option<u64> {
     str::from_utf8(digits).ok()?.parse::<u64>().ok()
 }
 
-/// The octets of the digits, 1 to 1468 of them.
+/// Reads the octets of the digits, 1 to 1468 of them.
 fn parse_frame(alloc: Global, digits: &[u8]) -> Result<Vec<u8>, LineError>
     ensures { IfOk result (λ frame. IsFrameLength (vec_len frame)) }
 {
@@ -201,8 +203,8 @@ fn parse_frame(alloc: Global, digits: &[u8]) -> Result<Vec<u8>, LineError>
     }
 }
 
-/// The fault of the digits of a line that is longer than each record's: `digits`, and what goes on
-/// past them.
+/// Returns the fault of the digits of a line that is too long for a record: `digits`, and the rest
+/// of the line after them.
 fn fault_of_long(digits: &[u8], passed: Passed) -> LineFault
     ensures hex { (result ≡ LineFault.Hex) ⊎ (result ≡ LineFault.Length) }
     ensures odd { (n : ℕ) → passed.odd ≡ (n % 2 == 1) → (length digits.now + n) % 2 ≡ 1
@@ -220,7 +222,7 @@ fn fault_of_long(digits: &[u8], passed: Passed) -> LineFault
     }
 }
 
-/// Reads the line of this number: a moment, one space, and the digits of 1 to 1468 octets.
+/// Reads the line with this number: a time, one space, and the digits of 1 to 1468 octets.
 fn read_line(alloc: Global, number: u64, line: &Line) -> Result<TimedFrame, LineError>
     ensures frame { IfOk result HasFrame }
     ensures long { IsTrue line.now.passed.any → IsErr result }
@@ -246,9 +248,9 @@ fn read_line(alloc: Global, number: u64, line: &Line) -> Result<TimedFrame, Line
     })
 }
 
-/// Makes the capture `target` of the lines in the file: geostation's own if nothing says another
-/// format, whatever its name. All lines are read before it is created; a target `-` is standard
-/// output. `input` is standard input.
+/// Makes the capture `target` from the lines in the file. Its format is geostation's own, unless
+/// another one is given. Its name doesn't matter. All lines are read before it is created. A target
+/// `-` is standard output. `input` is standard input.
 ///
 /// `BadArguments` if the target is the file itself, before a line is read. `Refused` for a bad line,
 /// `Failed` if a file could not be read, created or written, or memory ran out.
@@ -258,10 +260,10 @@ pub fn import_file<R: Files + AllocGlobal, I: Read + Drop, W: Write, E: Write>(
     input: I,
     target: Target<'_>,
     io: &mut Io<W, E>,
-) -> Status
+) -> ExitStatus
 where
     R::File: Read + Write + Drop,
-    ensures { names_standard target.entry.name.now ≡ true → IsCommandStatus result }
+    ensures { names_standard target.entry.name.now ≡ true → result ≢ ExitStatus.BadArguments }
 {
     let ended = import_to(rt, file, input, target, &mut io.out);
     io.status_of(ended)
@@ -289,8 +291,8 @@ where
     Ok(write_frames(target.name, format, frames.as_slice(), writer)?)
 }
 
-/// Whether a file of this format has a place for the times of all frames. The fault is that of the
-/// first line for whose time it has none.
+/// Checks that a file of this format can hold the times of all frames. Returns the fault of the
+/// first line whose time it can't hold.
 fn has_places<'a>(frames: &[TimedFrame], format: Format) -> Result<(), LinesFault<'a>> {
     let step = Step::of(frames);
     for timed in frames {
@@ -301,10 +303,10 @@ fn has_places<'a>(frames: &[TimedFrame], format: Format) -> Result<(), LinesFaul
     Ok(())
 }
 
-/// Reads all lines that the reader gives. `file` is their name. Empty lines are passed over. A line
-/// is checked as a whole, and no more of it is kept than the 2964 octets of the longest record.
+/// Reads all lines of the reader. `file` is their name. Empty lines are skipped. A line is checked
+/// as a whole, but at most the 2964 octets of the longest record are kept.
 ///
-/// The fault is that of the first line that is bad, or that a read failed or memory ran out.
+/// Returns the fault of the first bad line, or that a read failed or memory ran out.
 pub fn read_lines<'a, R: BufRead + Drop>(
     alloc: Global,
     file: &'a str,
@@ -324,7 +326,7 @@ pub fn read_lines<'a, R: BufRead + Drop>(
     Ok(records)
 }
 
-/// Adds the record of the line of this number, unless that is empty.
+/// Adds the record of the line with this number, unless the line is empty.
 fn add_record<'a>(
     alloc: Global,
     number: u64,
@@ -343,11 +345,11 @@ fn add_record<'a>(
     }
 }
 
-/// Writes the frames as a file of this format, and flushes it. `file` is the name of what the writer
-/// makes, `-` that of standard output. In pcapng they are of one interface without a name.
+/// Writes the frames as a file of this format, and flushes it. `file` is the name of the file, or
+/// `-` for standard output. In pcapng they have one interface without a name.
 ///
-/// `CannotWrite` where a write or the flush failed or a time has no place in the file, `NoOutput`
-/// where that is standard output.
+/// `CannotWrite` if a write or the flush failed, or the file can't hold a time. `NoOutput` instead
+/// if the file is standard output.
 pub fn write_frames<'a, W: Write + Drop>(
     file: &'a str,
     format: Format,
@@ -362,7 +364,7 @@ pub fn write_frames<'a, W: Write + Drop>(
     }
 }
 
-/// Writes the frames, one after the other: `None` where one was not written.
+/// Writes the frames, one after the other. `None` if one was not written.
 fn put_frames<W: Write + Drop>(format: Format, frames: &[TimedFrame], out: W) -> Option<()> {
     let step = Step::of(frames);
     let mut sink = AnySink::new(Counted::new(out), format);

@@ -5,12 +5,11 @@
 //!
 //! - A walk over a capture ends with `Done` if and only if neither the capture nor a record is
 //!   noted as refused (`Walked::status`).
-//! - `convert` writes, of each record that is chosen and has a place in OUT, its record or the one
-//!   of its frame, at its time and of its interface, in order, and nothing else (`copy`, clause
-//!   `copied`: `IsCopied`). A record that is left out adds nothing. The status is `Refused` if and
-//!   only if a record was left out or the file has a fault. If a write failed, nothing is said of
-//!   the file. With `--signed`, the frame inside a secured one is written (`IsFrameText`), or
-//!   nothing if its message can't be read (`IsUnreadIn`).
+//! - `convert` writes each selected record that OUT can hold, or the record of its frame, with its
+//!   time and interface, in order, and nothing else (`copy`: `IsCopied`). A record that is left out
+//!   adds nothing. The status is `Refused` if and only if a record was left out or the file has a
+//!   fault. If a write failed, nothing is said of the file. With `--signed`, the frame inside a
+//!   secured one is written (`IsFrameText`), or nothing if its message can't be read (`IsUnreadIn`).
 //! - `import` keeps the first 2964 octets of a line. A line with more is no record (`read_line`),
 //!   and has bad digits if and only if one of its characters is not a digit or their number is odd
 //!   (`fault_of_long`).

@@ -1,4 +1,4 @@
-//! What a file that is written has no place for.
+//! What is lost because the format of the written file can't hold it.
 
 use cap_pcap::{FineTime, Format, Unit};
 use std::io::Write;
@@ -7,13 +7,13 @@ use std::io::Write;
 #[derive(Clone, Copy, Debug, PartialEq, Eq)]
 pub(crate) struct Losses {
     times: u64,
-    /// What the file counts times in.
+    /// The unit of the file's times.
     step: &'static str,
     interfaces: u64,
 }
 
 impl Losses {
-    /// Nothing yet.
+    /// Returns the counts before the first record.
     pub(crate) fn begin() -> Losses {
         Losses {
             times: 0,
@@ -29,7 +29,7 @@ impl Losses {
         }
     }
 
-    /// Counts a time that is written, if the file has no place for all of it.
+    /// Counts a time that is written, if a part of it is lost.
     pub(crate) fn add_time(&mut self, format: Format, unit: Unit, fine: &FineTime) {
         if is_cut(format, unit, fine) {
             self.times = self.times.saturating_add(1);
@@ -50,7 +50,7 @@ impl Losses {
     }
 }
 
-/// Whether a part of this time has no place in a file of this format and unit. pcapng keeps ticks.
+/// Whether a part of this time is lost in a file of this format and unit. pcapng keeps ticks.
 fn is_cut(format: Format, unit: Unit, fine: &FineTime) -> bool {
     match (format, unit) {
         (Format::Capture, _) => fine.finer || fine.nanos > 0,
@@ -60,7 +60,7 @@ fn is_cut(format: Format, unit: Unit, fine: &FineTime) -> bool {
     }
 }
 
-/// What a file counts times in.
+/// Returns the unit of a file's times.
 fn step_of(format: Format, unit: Unit) -> &'static str {
     match (format, unit) {
         (Format::Pcap, Unit::Micro) => "microseconds",

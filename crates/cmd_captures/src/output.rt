@@ -1,4 +1,4 @@
-//! Lines of a command, as words or as objects in JSON.
+//! The lines of a command, as text or as objects in JSON.
 
 use crate::frame_line::FrameLine;
 use crate::outside_line::OutsideLine;
@@ -14,23 +14,23 @@ use std::fmt::Display;
 use std::io;
 use std::io::Write;
 
-/// The line in the making, in a buffer that serves the next line too.
+/// The line that is being made, in a buffer that is used again for the next line.
 #[derive(Drop)]
 enum Buffer {
     Words(Text),
     Object(JsonLine),
 }
 
-/// Where the lines of a command over a capture are made.
+/// Makes the lines of a command over a capture.
 #[derive(Drop)]
 pub(crate) struct Output {
     buffer: Buffer,
-    /// Whether a refusal goes on with its sentence.
+    /// Whether a refusal is followed by its sentence.
     pub(crate) explain: bool,
 }
 
 impl Output {
-    /// No line yet, and room for one.
+    /// Returns an output before the first line. It allocates a buffer for one line.
     pub(crate) fn new(alloc: Global, lines: OutputFormat) -> Result<Output, AllocError> {
         let buffer = if lines.json {
             Buffer::Object(JsonLine::new(alloc)?)
@@ -57,7 +57,7 @@ impl Output {
         Ok(())
     }
 
-    /// Writes the line of a record that is refused. The errors are those of `line`.
+    /// Writes the line of a record that is rejected. The errors are those of `line`.
     pub(crate) fn refused<'f, W: Write>(
         &mut self,
         refused: &RefusedAt,
@@ -70,8 +70,8 @@ impl Output {
         Ok(())
     }
 
-    /// Writes the line of a frame, whose words are put together in the buffer, in a third of the time that
-    /// `write!` takes.
+    /// Writes the line of a frame. It is made in the buffer, which takes a third of the time of
+    /// `write!`.
     pub(crate) fn frame<'f, W: Write>(
         &mut self,
         frame: &FrameLine<'_>,
@@ -121,7 +121,7 @@ impl Output {
     }
 }
 
-/// Writes an object that begins with a moment. A moment with a fraction isn't among its keys: its
+/// Writes an object that begins with a time. A time with a fraction isn't among its keys. Its
 /// digits are written before them, as a number that keeps its zeros.
 fn write_object<W: Write>(line: &[u8], moment: Moment, out: &mut W) -> io::Result<()> {
     if !moment.is_fraction() {

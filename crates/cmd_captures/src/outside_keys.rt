@@ -11,13 +11,13 @@ use its_words::json_lines::{Digits, Octets};
 use serde::Serialize;
 use std::alloc::AllocError;
 
-/// The octets of a header of BTP.
+/// The size of a BTP header, in octets.
 const BTP_HEADER: usize = 4;
 
-/// What only some packets have, in this order.
+/// The keys that only some packets have, in this order.
 #[derive(Clone, Copy, Serialize)]
 pub(crate) struct OutsideKeys<'a> {
-    /// The sequence number of a packet that is for no area. One for an area has it with the area.
+    /// The sequence number of a packet that is not for an area. One for an area has it with the area.
     #[serde(skip_serializing_if = "Option::is_none")]
     number: Option<u16>,
     #[serde(flatten)]
@@ -31,7 +31,7 @@ pub(crate) struct OutsideKeys<'a> {
     content: Option<ContentKeys<'a>>,
 }
 
-/// The station that a packet is for, and where it is.
+/// The station that a packet is for, and its position.
 #[derive(Clone, Copy, Serialize)]
 struct DestinationKeys {
     destination: Digits<8>,
@@ -40,7 +40,7 @@ struct DestinationKeys {
     dlon: i32,
 }
 
-/// What a packet carries: the header of BTP, if there is one, and the payload after it.
+/// What a packet carries: the BTP header, if there is one, and the payload after it.
 #[derive(Clone, Copy, Serialize)]
 struct ContentKeys<'a> {
     /// The source port (BTP-A).
@@ -56,7 +56,7 @@ struct ContentKeys<'a> {
 }
 
 impl<'a> OutsideKeys<'a> {
-    /// What is printed of the packet of this frame.
+    /// Returns what is printed of the packet of this frame.
     pub(crate) fn of(frame: &OutsideFrame<'a>) -> OutsideKeys<'a> {
         let extended = &frame.fields.extended;
         let next = frame.fields.common.next;
@@ -79,7 +79,7 @@ impl<'a> OutsideKeys<'a> {
         self.content.is_some()
     }
 
-    /// Adds its words to a text.
+    /// Adds it to a text.
     pub(crate) fn add_to(&self, text: &mut Text) -> Result<(), AllocError> {
         if let Some(number) = self.number {
             text.number(" number ", number)?;
@@ -96,7 +96,7 @@ impl<'a> OutsideKeys<'a> {
         }
     }
 
-    /// Adds the value of a key to a text; nothing if the packet has none.
+    /// Adds the value of a key to a text. Adds nothing if the packet has none.
     pub(crate) fn add_value_to(&self, field: Field, text: &mut Text) -> Result<(), AllocError> {
         match field {
             Field::Next => text.word(self.next),
@@ -148,7 +148,7 @@ impl DestinationKeys {
 }
 
 impl<'a> ContentKeys<'a> {
-    /// What a packet with this next header carries in this payload.
+    /// Returns what a packet with this next header carries in this payload.
     fn of(next: NextHeader, payload: &'a [u8]) -> ContentKeys<'a> {
         match (btp_header(next, payload), payload.get(BTP_HEADER..)) {
             (Some(BtpHeader::A(port, source)), Some(rest)) => ContentKeys {
@@ -172,7 +172,7 @@ impl<'a> ContentKeys<'a> {
         }
     }
 
-    /// Adds its words to a text: the ports, or without them the next header.
+    /// Adds the ports to a text, or without them the next header.
     fn add_to(&self, next: &str, text: &mut Text) -> Result<(), AllocError> {
         match (self.source_port, self.port, self.info) {
             (Some(source), Some(port), _) => {
@@ -210,7 +210,7 @@ fn add_number(number: Option<u16>, text: &mut Text) -> Result<(), AllocError> {
     }
 }
 
-/// The sequence number of a packet that is for no area.
+/// The sequence number of a packet that is not for an area.
 fn lone_sequence(extended: &ExtendedFields) -> Option<Sequence> {
     match extended {
         ExtendedFields::Guc(sequence, _)
@@ -221,7 +221,7 @@ fn lone_sequence(extended: &ExtendedFields) -> Option<Sequence> {
     }
 }
 
-/// Where the station is that a packet is for.
+/// Returns the position vector of the station that a packet is for.
 fn destination_of(extended: &ExtendedFields) -> Option<ShortVector> {
     match extended {
         ExtendedFields::Guc(_, destination) | ExtendedFields::LsReply(_, destination) => {
@@ -231,7 +231,7 @@ fn destination_of(extended: &ExtendedFields) -> Option<ShortVector> {
     }
 }
 
-/// The address of the station that a packet seeks.
+/// Returns the address of the station that a packet seeks.
 fn sought_by(extended: &ExtendedFields) -> Option<Digits<8>> {
     match extended {
         ExtendedFields::LsRequest(_, sought) => Some(Digits(sought.to_be_bytes())),
@@ -247,7 +247,7 @@ fn has_content(extended: &ExtendedFields) -> bool {
     )
 }
 
-/// The word for what follows the headers of GeoNetworking.
+/// Returns the keyword for what follows the GeoNetworking headers.
 fn next_word(next: NextHeader) -> &'static str {
     match next {
         NextHeader::Unspecified => "any",

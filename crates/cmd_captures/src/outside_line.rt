@@ -30,8 +30,8 @@ impl fmt::Display for OutsideReason {
     }
 }
 
-/// What is printed of a packet outside the profile that was read at a moment, in this order: as
-/// keys in JSON, and as words in text.
+/// What is printed of a packet outside the profile that was captured at a time, in this order: as
+/// keys in JSON, and as text.
 #[derive(Clone, Copy, Serialize)]
 pub(crate) struct OutsideLine<'a> {
     #[serde(skip_serializing_if = "Moment::is_fraction")]
@@ -52,7 +52,7 @@ pub(crate) struct OutsideLine<'a> {
 }
 
 impl<'a> OutsideLine<'a> {
-    /// What is printed of the frame of a record.
+    /// Returns what is printed of the frame of a record.
     pub(crate) fn of(
         moment: Moment,
         frame: &OutsideFrame<'a>,
@@ -70,7 +70,7 @@ impl<'a> OutsideLine<'a> {
         }
     }
 
-    /// Its moment.
+    /// Returns its time.
     pub(crate) fn moment(&self) -> Moment {
         self.moment
     }
@@ -80,8 +80,8 @@ impl<'a> OutsideLine<'a> {
         self.rest.has_payload()
     }
 
-    /// Adds its words to a text, and the sentence of its code if it is to be explained, with a line
-    /// feed after them.
+    /// Adds its line to a text, with the sentence of its code if codes are explained, and a line
+    /// feed.
     pub(crate) fn add_to(&self, explain: bool, text: &mut Text) -> Result<(), AllocError> {
         text.moment(self.moment)?;
         write!(text, " outside {}", self.outside.0).map_err(|_| AllocError)?;
@@ -94,8 +94,8 @@ impl<'a> OutsideLine<'a> {
         writeln!(text, "{}", Explanation(reason)).map_err(|_| AllocError)
     }
 
-    /// Adds the value of a key to a text, as JSON has it without quotation marks; nothing if it has
-    /// no such key.
+    /// Adds the value of a key to a text, as JSON has it without quotation marks. Adds nothing if
+    /// the packet has no such key.
     pub(crate) fn add_value_to(&self, field: Field, text: &mut Text) -> Result<(), AllocError> {
         match field {
             Field::Outside => write!(text, "{}", self.outside.0).map_err(|_| AllocError),
@@ -113,7 +113,7 @@ impl<'a> OutsideLine<'a> {
     }
 }
 
-/// What each packet has, and the area of one for an area.
+/// Returns the keys that each packet has, and the area of a packet for an area.
 fn keys_of<'a>(frame: &OutsideFrame<'a>) -> FrameKeys<'a> {
     let fields = &frame.fields;
     let source = &fields.source;
@@ -138,7 +138,7 @@ fn keys_of<'a>(frame: &OutsideFrame<'a>) -> FrameKeys<'a> {
     }
 }
 
-/// The media-dependent data of a single-hop broadcast.
+/// Returns the media-dependent data of a single-hop broadcast.
 fn media_of(extended: &ExtendedFields) -> Option<Digits<4>> {
     match extended {
         ExtendedFields::Shb(media) => Some(Digits(media.to_be_bytes())),
@@ -146,7 +146,7 @@ fn media_of(extended: &ExtendedFields) -> Option<Digits<4>> {
     }
 }
 
-/// The sequence number and the area, if the packet is for an area.
+/// Returns the sequence number and the area, if the packet is for an area.
 fn target_of(extended: &ExtendedFields) -> Option<TargetKeys> {
     match extended {
         ExtendedFields::Gac(sequence, area) | ExtendedFields::Gbc(sequence, area) => {

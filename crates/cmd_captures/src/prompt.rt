@@ -1,9 +1,9 @@
-//! Output that keeps up with its input.
+//! Output that is flushed as fast as its input arrives.
 
 use std::io;
 use std::io::Write;
 
-/// A writer that passes on each write at once, if its reader waits for it.
+/// A writer that flushes after each write, if its reader waits for it.
 #[derive(Drop)]
 pub(crate) struct Prompt<W: Write + Drop> {
     out: W,
@@ -11,7 +11,7 @@ pub(crate) struct Prompt<W: Write + Drop> {
 }
 
 impl<W: Write + Drop> Prompt<W> {
-    /// Returns a writer before this one.
+    /// Returns a writer that passes on to this one.
     pub(crate) fn new(out: W, is_awaited: bool) -> Prompt<W> {
         Prompt { out, is_awaited }
     }

@@ -1,4 +1,4 @@
-//! The lines of refused records, and of their count. Each prints as its line of words, and is an
+//! The lines of rejected records, and of their count. Each prints as a line of text, and is an
 //! object in JSON with the same values.
 
 use cap_records::{RecordCode, RecordFault};
@@ -8,7 +8,7 @@ use its_words::json_lines::Printed;
 use serde::Serialize;
 use std::fmt;
 
-/// The line of `show` for a record that is refused.
+/// The line of `show` for a record that is rejected.
 #[derive(Clone, Copy, Serialize)]
 pub(crate) struct RefusedAt {
     #[serde(skip_serializing_if = "Moment::is_fraction")]
@@ -31,7 +31,7 @@ impl RefusedAt {
 }
 
 impl RefusedAt {
-    /// The record's moment.
+    /// Returns the record's time.
     pub(crate) fn moment(&self) -> Moment {
         self.moment
     }
@@ -44,7 +44,7 @@ impl fmt::Display for RefusedAt {
     }
 }
 
-/// The line of `check` for a record that is refused.
+/// The line of `check` for a record that is rejected.
 #[derive(Clone, Copy, Serialize)]
 pub(crate) struct RefusedRecord {
     record: u64,
@@ -102,7 +102,7 @@ impl fmt::Display for UnreadRecord {
     }
 }
 
-/// What `check` counted.
+/// The counts of `check`.
 #[derive(Clone, Copy, Serialize)]
 pub(crate) struct Count {
     records: u64,
@@ -112,8 +112,8 @@ pub(crate) struct Count {
 }
 
 impl Count {
-    /// So many records were chosen, so many of them are refused, and so many are outside the
-    /// profile, if all kinds are chosen.
+    /// Returns the line with how many records were selected, how many of them were rejected and, if
+    /// all kinds are selected, how many are outside the profile.
     pub(crate) fn new(records: u64, refused: u64, outside: Option<u64>) -> Count {
         Count {
             records,

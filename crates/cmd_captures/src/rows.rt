@@ -1,5 +1,5 @@
-//! The records of a capture as values of the keys that are asked for: rows of CSV (RFC 4180), or
-//! objects in JSON.
+//! Prints the records of a capture as values of the keys that are asked for: rows of CSV (RFC
+//! 4180), or objects in JSON.
 
 use crate::field::Field;
 use crate::frame_line::FrameLine;
@@ -13,7 +13,7 @@ use std::fmt::Write as _;
 use std::io;
 use std::io::Write;
 
-/// What is known of a record.
+/// What is known about a record.
 #[derive(Clone, Copy)]
 struct Row<'a> {
     place: RecordPlace,
@@ -28,12 +28,12 @@ enum RecordLine<'a> {
     Frame(FrameLine<'a>),
     /// Its packet is outside the profile.
     Outside(OutsideLine<'a>),
-    /// It is refused.
+    /// It is rejected.
     Refused(RecordFault),
 }
 
 impl<'a> RecordLine<'a> {
-    /// The values of this record at this moment.
+    /// Returns the values of this record at this time.
     fn of(
         moment: Moment,
         seen: &Result<SeenFrame<'a>, RecordFault>,
@@ -52,7 +52,8 @@ impl<'a> RecordLine<'a> {
 }
 
 impl Row<'_> {
-    /// Adds the value of a key to a text, without quotation marks; nothing if the record has none.
+    /// Adds the value of a key to a text, without quotation marks. Adds nothing if the record has
+    /// no value.
     fn add_value_to(&self, field: Field, text: &mut Text) -> Result<(), AllocError> {
         match (field, &self.line) {
             (Field::Moment, _) => text.moment(self.moment),
@@ -71,7 +72,8 @@ impl Row<'_> {
         }
     }
 
-    /// The same of a key of the link layer.
+    /// Adds the value of a key of the link layer to a text. Adds nothing if the record has no
+    /// value.
     fn add_fact_to(&self, field: Field, text: &mut Text) -> Result<(), AllocError> {
         let link = self.place.link;
         match field {
@@ -91,7 +93,7 @@ impl Row<'_> {
         }
     }
 
-    /// Whether its frame has no media-dependent data but zeros.
+    /// Whether its frame has no media-dependent data, or only zeros.
     fn has_zero_media(&self) -> bool {
         match &self.line {
             RecordLine::Frame(frame) => frame.has_zero_media(),
@@ -143,7 +145,7 @@ pub(crate) struct Rows {
 }
 
 impl Rows {
-    /// No row yet, of the values of these keys. An object has each key once.
+    /// Returns rows of the values of these keys, before the first row. An object has each key once.
     pub(crate) fn new(
         alloc: Global,
         keys: &[Field],
@@ -175,7 +177,7 @@ impl Rows {
         writeln!(out)
     }
 
-    /// Prints the values of a record at a moment.
+    /// Prints the values of a record at a time.
     pub(crate) fn print<'f, W: Write>(
         &mut self,
         place: RecordPlace,
@@ -208,7 +210,7 @@ impl Rows {
         self.text.word("\n")
     }
 
-    /// Adds the object of a record to the text: of the keys that it has.
+    /// Adds the object of a record to the text, with the keys that the record has.
     fn add_object(&mut self, row: &Row<'_>) -> Result<(), AllocError> {
         let mut part = FIRST;
         for field in self.fields.iter() {
@@ -221,13 +223,14 @@ impl Rows {
     }
 }
 
-/// What comes before the first key of an object, and before another one.
+/// The text before the first key of an object, and before each further key.
 const FIRST: &str = "{\"";
 
 const NEXT: &str = ",\"";
 
-/// Adds a key of an object and its value to the text behind this part, if the record has it. Returns
-/// the part before the next key. The value is put together apart, in place of what is there.
+/// Adds this separator, a key of an object and its value to the text, if the record has the key.
+/// Returns the separator before the next key. The value is made in the second buffer, whose content
+/// is replaced.
 fn add_key(
     field: Field,
     row: &Row<'_>,

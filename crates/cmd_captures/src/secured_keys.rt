@@ -33,7 +33,7 @@ pub(crate) struct SecuredKeys {
 }
 
 impl SecuredKeys {
-    /// What is printed of a secured frame of which this is known.
+    /// Returns what is printed of a secured frame about which this is known.
     pub(crate) fn of(facts: &SecuredFacts) -> SecuredKeys {
         SecuredKeys {
             info: facts.info.map(|info| InfoKeys::of(&info)),
@@ -41,7 +41,7 @@ impl SecuredKeys {
         }
     }
 
-    /// Adds its words to a text.
+    /// Adds it to a text.
     pub(crate) fn add_to(&self, text: &mut Text) -> Result<(), AllocError> {
         let Some(info) = &self.info else {
             return text.word(" unsigned");
@@ -53,7 +53,7 @@ impl SecuredKeys {
         }
     }
 
-    /// Adds the value of a key to a text; nothing if the frame has none.
+    /// Adds the value of a key to a text. Adds nothing if the frame has none.
     pub(crate) fn add_value_to(&self, field: Field, text: &mut Text) -> Result<(), AllocError> {
         match (field, &self.info) {
             (Field::Secured, _) => text.word("true"),

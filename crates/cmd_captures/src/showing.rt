@@ -1,9 +1,8 @@
 //! The command `show`.
 
-ghost use Rattle.std.specs.Prelude.{◌≡◌, IfErr, IfOk};
+ghost use Rattle.std.specs.Prelude.{◌≡◌, ◌≢◌, IfErr};
 ghost use Rattle.cmd_captures.specs.Faults.{show_fault_status};
 ghost use Rattle.cmd_times.specs.declared.moment.Time.TheVariants as times;
-ghost use Rattle.cmd_reporting.specs.Statuses.{IsCommandStatus};
 
 use crate::field::{FIELDS, FRAME_FIELDS, Field};
 use crate::frame_line::FrameLine;
@@ -17,7 +16,7 @@ use cap_records::{
     each_record, open_records,
 };
 use cmd_quoting::OneLine;
-use cmd_reporting::{CommandFault, Fault, Io, OutputFormat, Status, open};
+use cmd_reporting::{CommandFault, ExitStatus, Fault, Io, OutputFormat, Status, open};
 use cmd_times::{Clock, Time};
 use its_linkframe::Source;
 use std::alloc::{AllocError, Global};
@@ -38,24 +37,26 @@ pub struct Showing {
 /// Why records were not shown.
 #[derive(Debug, Drop, Error)]
 pub(crate) enum ShowFault<'a> {
-    /// Times were to be printed in UTC, and the file has no epoch.
+    /// Times should be printed in UTC, and the file has no epoch.
     #[error("geostation: {}: no epoch", OneLine(*.0))]
     NoEpoch(&'a str),
-    /// What ends any command.
+    /// A fault that can end any command.
     #[error("{0}")]
     Stopped(Fault<'a>),
 }
 
 impl CommandFault for ShowFault<'_> {
+    type Ending = ExitStatus;
+
     ghost use Rattle.cmd_captures.specs.Faults.{show_fault_status};
 
     ghost status_of = { show_fault_status };
 
-    /// `BadArguments` where there is no epoch, else `Failed`.
-    fn status(&self) -> Status {
+    /// Returns `BadArguments` if there is no epoch, and otherwise `Failed`.
+    fn status(&self) -> ExitStatus {
         match self {
-            ShowFault::NoEpoch(_) => Status::BadArguments,
-            ShowFault::Stopped(fault) => fault.status(),
+            ShowFault::NoEpoch(_) => ExitStatus::BadArguments,
+            ShowFault::Stopped(fault) => ExitStatus::Ended(fault.status()),
         }
     }
 
@@ -117,12 +118,12 @@ impl RecordVisitor for AllRecords {
     }
 }
 
-/// Prints a line, or a row of values, for each record of the file that is chosen. `input` is
-/// standard input.
+/// Prints a line, or a row of values, for each selected record of the file. `input` is standard
+/// input.
 ///
-/// `BadArguments` if moments are to be printed in UTC and the file has no epoch, as a capture of this
-/// project. `Refused` if such a record or the file was refused, `Failed` if the file could not be
-/// read or standard output not written, or memory ran out.
+/// `BadArguments` if times should be printed in UTC and the file has no epoch, as in a capture of
+/// this project. `Refused` if a selected record or the file was rejected. `Failed` if the file
+/// could not be read, standard output could not be written, or memory ran out.
 pub fn show_file<R: Files + AllocGlobal, I: Read + Drop, W: Write, E: Write>(
     rt: &R,
     file: &str,
@@ -130,16 +131,16 @@ pub fn show_file<R: Files + AllocGlobal, I: Read + Drop, W: Write, E: Write>(
     selection: &Selection,
     showing: &Showing,
     io: &mut Io<W, E>,
-) -> Status
+) -> ExitStatus
 where
     R::File: Read + Drop,
-    ensures { ¬ (showing.now.time ≡ times.Utc) → IsCommandStatus result }
+    ensures { ¬ (showing.now.time ≡ times.Utc) → result ≢ ExitStatus.BadArguments }
 {
     let ended = show_records(rt, file, input, selection, showing, io);
     io.status_of(ended)
 }
 
-/// Shows the records of the file. The fault is what ends the command before it is done.
+/// Shows the records of the file. Returns the fault that ends the command before it is done.
 fn show_records<'a, R: Files + AllocGlobal, I: Read + Drop, W: Write, E: Write>(
     rt: &R,
     file: &'a str,
@@ -150,9 +151,8 @@ fn show_records<'a, R: Files + AllocGlobal, I: Read + Drop, W: Write, E: Write>(
 ) -> Result<Status, ShowFault<'a>>
 where
     R::File: Read + Drop,
-    ensures done { IfOk result IsCommandStatus }
     ensures stopped { ¬ (showing.now.time ≡ times.Utc) →
-        IfErr result (λ fault. IsCommandStatus (show_fault_status fault)) }
+        IfErr result (λ fault. show_fault_status fault ≢ ExitStatus.BadArguments) }
 {
     let reader = open(rt, file, input)?;
     let records = open_records(rt.alloc(), file, selection.format, reader)?;
@@ -162,7 +162,7 @@ where
     Ok(show_opened(rt.alloc(), file, records, selection, showing, io)?)
 }
 
-/// The same of a file that is open.
+/// Shows the records of a file that is open.
 fn show_opened<'a, S: Source + Drop, W: Write, E: Write>(
     alloc: Global,
     file: &'a str,
@@ -170,19 +170,17 @@ fn show_opened<'a, S: Source + Drop, W: Write, E: Write>(
     selection: &Selection,
     showing: &Showing,
     io: &mut Io<W, E>,
-) -> Result<Status, Fault<'a>>
-    ensures { IfOk result IsCommandStatus }
-{
+) -> Result<Status, Fault<'a>> {
     let clock = Clock::new(showing.time);
     let Some(fields) = &showing.fields else {
         return show_lines(alloc, file, records, selection, clock, io);
     };
-    if io.format.json {
-        let rows = Rows::new(alloc, fields.as_slice(), RowForm::Object, clock)?;
-        return show_objects(alloc, file, records, selection, rows, io);
-    }
-    let rows = Rows::new(alloc, fields.as_slice(), RowForm::Csv, clock)?;
-    rows.write_heads(&mut io.out)?;
+    let form = if io.format.json {
+        RowForm::Object
+    } else {
+        RowForm::Csv
+    };
+    let rows = Rows::new(alloc, fields.as_slice(), form, clock)?;
     show_rows(alloc, file, records, selection, rows, io)
 }
 
@@ -194,9 +192,7 @@ fn show_lines<'a, S: Source + Drop, W: Write, E>(
     selection: &Selection,
     clock: Clock,
     io: &mut Io<W, E>,
-) -> Result<Status, Fault<'a>>
-    ensures { IfOk result IsCommandStatus }
-{
+) -> Result<Status, Fault<'a>> {
     let mut visitor = AllRecords {
         output: Output::new(alloc, io.format)?,
         clock,
@@ -211,7 +207,8 @@ fn show_lines<'a, S: Source + Drop, W: Write, E>(
     Ok(walked.status())
 }
 
-/// The objects of frames that were cut: the keys of a frame that are there, and that it was cut.
+/// Returns the rows for the objects of cut frames: the keys of a frame that are there, and that it
+/// was cut.
 fn rows_of_cut(alloc: Global, clock: Clock) -> Result<Rows, AllocError> {
     let mut fields = Vec::new(alloc);
     fields.extend_from_slice(&FIELDS[..FRAME_FIELDS])?;
@@ -220,25 +217,8 @@ fn rows_of_cut(alloc: Global, clock: Clock) -> Result<Rows, AllocError> {
     Rows::new(alloc, fields.as_slice(), RowForm::CutObject, clock)
 }
 
-/// An object for each record, and one of what is wrong with the file.
-fn show_objects<'a, S: Source + Drop, W: Write, E: Write>(
-    alloc: Global,
-    file: &'a str,
-    records: CaptureFile<S>,
-    selection: &Selection,
-    rows: Rows,
-    io: &mut Io<W, E>,
-) -> Result<Status, Fault<'a>>
-    ensures { IfOk result IsCommandStatus }
-{
-    let mut visitor = rows;
-    let mut output = Output::new(alloc, io.format)?;
-    let walked = each_record(alloc, file, selection, records, &mut visitor, &mut io.out)?;
-    output.end(&walked, &mut io.out)?;
-    Ok(walked.status())
-}
-
-/// A row for each record. What is wrong with the file is reported on standard error.
+/// Prints one row per record after a row of the keys' names, or one object in JSON. A fault of the
+/// file is an object too, or is reported on standard error.
 fn show_rows<'a, S: Source + Drop, W: Write, E: Write>(
     alloc: Global,
     file: &'a str,
@@ -246,12 +226,18 @@ fn show_rows<'a, S: Source + Drop, W: Write, E: Write>(
     selection: &Selection,
     rows: Rows,
     io: &mut Io<W, E>,
-) -> Result<Status, Fault<'a>>
-    ensures { IfOk result IsCommandStatus }
-{
+) -> Result<Status, Fault<'a>> {
     let mut visitor = rows;
+    let end = if io.format.json {
+        Some(Output::new(alloc, io.format)?)
+    } else {
+        visitor.write_heads(&mut io.out)?;
+        None
+    };
     let walked = each_record(alloc, file, selection, records, &mut visitor, &mut io.out)?;
-    if let Some(fault) = walked.fault {
+    if let Some(mut output) = end {
+        output.end(&walked, &mut io.out)?;
+    } else if let Some(fault) = walked.fault {
         let refused = RefusedCapture::new(walked.read, fault, io.format.explain);
         let _ = writeln!(io.err, "geostation: {refused}");
     }

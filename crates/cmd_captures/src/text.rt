@@ -1,4 +1,4 @@
-//! A line of text, put together in a buffer that serves the next line too.
+//! A line of text, made in a buffer that is used again for the next line.
 
 use cap_records::RecordPlace;
 use cmd_times::{Clock, Instant, Moment};
@@ -7,19 +7,19 @@ use std::alloc::{AllocError, Global};
 use std::fmt;
 use std::fmt::Write;
 
-/// How many octets there is room for from the beginning. No line of a frame is longer: its payload
-/// has 1394 octets at most, in two digits each.
+/// The first size of the buffer. No line of a frame is longer: its payload has at most 1394 octets,
+/// with two digits each.
 const ROOM: usize = 4096;
 
-/// A line in the making. Its numbers are written by `itoa` and its octets by `hex`, in a third of
-/// the time that `write!` takes.
+/// A line that is being made. Its numbers are written by `itoa` and its octets by `hex`, in a third
+/// of the time of `write!`.
 #[derive(Drop)]
 pub(crate) struct Text {
     octets: Vec<u8>,
 }
 
 impl Text {
-    /// No text yet, and room for a line.
+    /// Returns an empty line, with a buffer for a whole one.
     pub(crate) fn new(alloc: Global) -> Result<Text, AllocError> {
         let octets = Vec::with_capacity(alloc, ROOM)?;
         Ok(Text { octets })
@@ -30,28 +30,28 @@ impl Text {
         self.octets.clear();
     }
 
-    /// The line so far.
+    /// Returns the line up to now.
     pub(crate) fn as_bytes(&self) -> &[u8] {
         self.octets.as_slice()
     }
 
-    /// A word, as it stands.
+    /// Adds a word.
     pub(crate) fn word(&mut self, word: &str) -> Result<(), AllocError> {
         self.octets.extend_from_slice(word.as_bytes())
     }
 
-    /// Octets of a text, as they stand.
+    /// Adds octets of a text.
     pub(crate) fn octets(&mut self, octets: &[u8]) -> Result<(), AllocError> {
         self.octets.extend_from_slice(octets)
     }
 
-    /// A number, after the word that names it.
+    /// Adds a number, after the word that names it.
     pub(crate) fn number<I: Integer>(&mut self, name: &str, number: I) -> Result<(), AllocError> {
         self.word(name)?;
         self.word(Buffer::new().format(number))
     }
 
-    /// Octets as hexadecimal digits in lower case, after the word that names them.
+    /// Adds octets as hexadecimal digits in lower case, after the word that names them.
     pub(crate) fn digits(&mut self, name: &str, octets: &[u8]) -> Result<(), AllocError> {
         self.word(name)?;
         let start = self.octets.len();
@@ -62,7 +62,7 @@ impl Text {
 }
 
 impl Text {
-    /// A time.
+    /// Adds a time.
     pub(crate) fn moment(&mut self, moment: Moment) -> Result<(), AllocError> {
         match moment {
             Moment::Raw(moment) => self.number("", moment),
@@ -71,7 +71,7 @@ impl Text {
     }
 }
 
-/// The time of the next record, as it is printed.
+/// Returns the time of the next record, as it is printed.
 pub(crate) fn next_moment(clock: &mut Clock, place: &RecordPlace) -> Moment {
     let first = Instant::new(place.first, place.first_nanos);
     clock.at(first, Instant::new(place.moment, place.nanos))

@@ -1,4 +1,4 @@
-//! A frame with its time, as a line of `import` has it, and the time as a file has it.
+//! A frame with its time, from a line of `import`, and the time as a file has it.
 
 ghost use Rattle.std.specs.Prelude.{◌≡◌, IfSome};
 ghost use Rattle.its_linkframe.specs.Captures.{IsFrameLength};
@@ -22,7 +22,7 @@ pub struct TimedFrame {
     pub frame: Vec<u8>,
 }
 
-/// What a file counts its times in.
+/// The unit of a file's times.
 #[derive(Clone, Copy, Debug, PartialEq, Eq)]
 pub(crate) enum Step {
     /// Milliseconds.
@@ -34,7 +34,7 @@ pub(crate) enum Step {
 }
 
 impl Step {
-    /// The coarsest step that cuts none of these times.
+    /// Returns the coarsest step that cuts none of these times.
     pub(crate) fn of(frames: &[TimedFrame]) -> Step {
         if frames.iter().all(|timed| timed.nanos == 0) {
             Step::Milli
@@ -45,7 +45,7 @@ impl Step {
         }
     }
 
-    /// How many steps a millisecond has.
+    /// Returns how many steps a millisecond has.
     fn per_milli(self) -> u32
         ensures { result ≡ per_milli self }
     {
@@ -56,7 +56,7 @@ impl Step {
         }
     }
 
-    /// The unit of classic pcap, which counts no milliseconds.
+    /// Returns the unit of classic pcap, which has no milliseconds.
     pub(crate) fn unit(self) -> Unit {
         match self {
             Step::Milli | Step::Micro => Unit::Micro,
@@ -64,7 +64,7 @@ impl Step {
         }
     }
 
-    /// The head of an Ethernet interface whose ticks are these steps.
+    /// Returns the head of an Ethernet interface whose ticks are these steps.
     pub(crate) fn head(self) -> InterfaceHead {
         InterfaceHead {
             resolution: match self {
@@ -78,9 +78,9 @@ impl Step {
 }
 
 impl TimedFrame {
-    /// The time as a file of this format has it, which counts in these steps. `None` if the file has
-    /// no place for it: geostation's own format for a fraction, classic pcap for a second of 2^32 or
-    /// more, pcapng for 2^64 steps or more.
+    /// Returns the time as a file of this format has it, in these steps. `None` if the file can't
+    /// hold it: a fraction in geostation's own format, a second of 2^32 or more in classic pcap,
+    /// 2^64 steps or more in pcapng.
     pub(crate) fn stamp(&self, format: Format, step: Step) -> Option<Stamp> {
         if format == Format::Capture && self.nanos > 0 {
             return None;
@@ -94,7 +94,7 @@ impl TimedFrame {
         Some(stamp)
     }
 
-    /// The time in these steps; `None` if that is 2^64 or more.
+    /// Returns the time in these steps. `None` if that is 2^64 or more.
     fn ticks(&self, step: Step) -> Option<u64> {
         let per_milli = step.per_milli();
         let below = self.nanos / (NANOS_OF_MILLI / per_milli);
@@ -102,7 +102,7 @@ impl TimedFrame {
         whole.checked_add(u64::from(below))
     }
 
-    /// What is below the second, in this unit of classic pcap.
+    /// Returns the part below a second, in this unit of classic pcap.
     fn fraction(&self, unit: Unit) -> u32 {
         let millis = (self.moment % 1000) as u32;
         let nanos = self.nanos % NANOS_OF_MILLI;

@@ -1,12 +1,12 @@
-//! Date and time of UTC as a text, as `--time utc` prints it.
+//! Reads date and time in UTC, as `--time utc` prints it.
 
 ghost use Rattle.std.specs.Prelude.{◌≤◌, length};
 
 use cmd_times::{Date, days_in_month};
 
-/// Returns the milliseconds since 1970 of a date and time of UTC (RFC 3339), for example
-/// `2023-11-14T22:13:20.123Z`. The year has 4 to 9 digits; the fraction may be missing and is cut to
-/// milliseconds. `None` if the text is no such time, or if it is before 1970.
+/// Returns the milliseconds since 1970 of a date and time in UTC (RFC 3339), for example
+/// `2023-11-14T22:13:20.123Z`. The year has 4 to 9 digits. The fraction may be missing and is cut
+/// to milliseconds. `None` if the text is not such a time, or if it is before 1970.
 pub fn utc_moment(text: &str) -> Option<u64> {
     let (days, rest) = read_date(text.as_bytes())?;
     let rest = after(rest, b'T')?;
@@ -19,7 +19,7 @@ pub fn utc_moment(text: &str) -> Option<u64> {
     seconds.checked_mul(1000)?.checked_add(millis)
 }
 
-/// The days since 1970 of the date at the front of a text, and what follows it.
+/// Reads the date at the front of a text. Returns its days since 1970, and what follows it.
 fn read_date(text: &[u8]) -> Option<(u64, &[u8])> {
     let (year, rest) = read_number(text, 4, 9)?;
     let (month, rest) = read_number(after(rest, b'-')?, 2, 2)?;
@@ -30,7 +30,7 @@ fn read_date(text: &[u8]) -> Option<(u64, &[u8])> {
     Some((Date::days_of(year, month, day)?, rest))
 }
 
-/// The seconds of the time of day at the front of a text, and what follows it.
+/// Reads the time of day at the front of a text. Returns its seconds, and what follows it.
 fn read_time(text: &[u8]) -> Option<(u64, &[u8])> {
     let (hour, rest) = read_number(text, 2, 2)?;
     let (minute, rest) = read_number(after(rest, b':')?, 2, 2)?;
@@ -41,7 +41,8 @@ fn read_time(text: &[u8]) -> Option<(u64, &[u8])> {
     Some((3600 * hour + 60 * minute + second, rest))
 }
 
-/// The milliseconds of the fraction at the front of a text, 0 if there is none, and what follows it.
+/// Reads the fraction of a second at the front of a text. Returns its milliseconds, and what
+/// follows it. Without a fraction the milliseconds are 0.
 fn read_fraction(text: &[u8]) -> Option<(u64, &[u8])> {
     let Some(digits) = after(text, b'.') else {
         return Some((0, text));
@@ -57,8 +58,8 @@ fn read_fraction(text: &[u8]) -> Option<(u64, &[u8])> {
     Some((millis, &digits[count..]))
 }
 
-/// The number at the front of a text, which has so many digits at least and at most, and what
-/// follows it.
+/// Reads the number at the front of a text, which has from `least` to `most` digits. Returns it
+/// with what follows it.
 fn read_number(text: &[u8], least: usize, most: usize) -> Option<(u64, &[u8])> {
     let count = leading_digits(text);
     if count < least || count > most {
@@ -67,7 +68,8 @@ fn read_number(text: &[u8], least: usize, most: usize) -> Option<(u64, &[u8])> {
     Some((value_of(&text[..count])?, &text[count..]))
 }
 
-/// What follows this mark at the front of a text; `None` if the text begins with another one.
+/// Returns what follows this character at the front of a text. `None` if the text doesn't begin
+/// with it.
 fn after(text: &[u8], mark: u8) -> Option<&[u8]> {
     if text.is_empty() || text[0] != mark {
         return None;
@@ -75,7 +77,7 @@ fn after(text: &[u8], mark: u8) -> Option<&[u8]> {
     Some(&text[1..])
 }
 
-/// How many digits a text begins with.
+/// Returns how many digits a text begins with.
 fn leading_digits(text: &[u8]) -> usize
     ensures { result ≤ length text.now }
 {
@@ -83,7 +85,7 @@ fn leading_digits(text: &[u8]) -> usize
     end.unwrap_or(text.len())
 }
 
-/// The number that digits say; `None` if it takes more than 64 bits.
+/// Returns the number of these digits. `None` if it needs more than 64 bits.
 fn value_of(digits: &[u8]) -> Option<u64> {
     let mut value: u64 = 0;
     for digit in digits {

@@ -31,7 +31,7 @@ pub(crate) struct Written<W: Write + Drop> {
     unit: Unit,
     /// Whether the headers are written.
     begun: bool,
-    /// What the file has no place for.
+    /// What the file can't hold.
     losses: Losses,
 }
 
@@ -51,7 +51,7 @@ impl<W: Write + Drop> Model for Written<W> {
 }
 
 impl<W: Write + Drop> Written<W> {
-    /// A file of this format of which nothing is written. A capture has frames alone.
+    /// Returns a file of this format before anything is written. A capture has only frames.
     pub(crate) fn new(writer: W, format: Format, frames_only: bool) -> Written<W> {
         let frames_only = frames_only || format == Format::Capture;
         Written {
@@ -64,9 +64,9 @@ impl<W: Write + Drop> Written<W> {
         }
     }
 
-    /// Takes an interface that begins in the file that is read. pcapng gets an interface block. Else
-    /// the link layer counts, if the file that is read says one for all its records, and the unit of
-    /// the ticks until the headers are written.
+    /// Takes an interface that begins in the file that is read. In pcapng an interface block is
+    /// written. Otherwise only the link layer counts, if the file that is read has one for all its
+    /// records, and the unit of the ticks until the headers are written.
     pub(crate) fn meet(
         &mut self,
         layer: Option<LinkLayer>,
@@ -93,7 +93,7 @@ impl<W: Write + Drop> Written<W> {
         Ok(())
     }
 
-    /// Writes the block of an interface, behind the section header where it is the first.
+    /// Writes the block of an interface. The section header comes before the first.
     fn add_interface(&mut self, info: &InterfaceInfo) -> Result<(), PutFault>
         requires { self.old.file.format ≡ formats.Pcapng }
         ensures added { OnOk result ((added : List ℕ) × HasInterface info.now self.old added
@@ -106,7 +106,7 @@ impl<W: Write + Drop> Written<W> {
         Ok(())
     }
 
-    /// Writes the section header, if it isn't.
+    /// Writes the section header, unless it was written.
     fn begin_section(&mut self) -> Result<(), PutFault>
         requires { self.old.file.format ≡ formats.Pcapng }
         ensures begun { OnOk result (HasSection self.old self.new) }
@@ -120,12 +120,11 @@ impl<W: Write + Drop> Written<W> {
         Ok(())
     }
 
-    /// Writes a record, or only its frame, which is put together among the octets. `signed` says that
-    /// of a secured frame the inner frame is written. It isn't checked.
+    /// Writes a record, or only its frame, which is put together among the octets. With `signed`,
+    /// the inner frame of a secured frame is written. It isn't checked.
     ///
-    /// Refused first by its link layer, then as one that was cut, where a frame is written by the
-    /// rules of its link layer and then as a secured one whose message can't be read (`Unread`),
-    /// then by its length and last by its moment.
+    /// Returns the first fault: its link layer; that it was cut; if a frame is written, the rules
+    /// of its link layer, and then a message that can't be read (`Unread`); its length; its time.
     pub(crate) fn put(
         &mut self,
         head: &RecordHeader,
@@ -143,7 +142,7 @@ impl<W: Write + Drop> Written<W> {
         Ok(self.write(LinkLayer::Ethernet, head, frame)?)
     }
 
-    /// Writes a record of these octets, behind the headers where it is the first.
+    /// Writes a record of these octets. The headers come before the first.
     fn write(
         &mut self,
         layer: LinkLayer,
@@ -162,7 +161,7 @@ impl<W: Write + Drop> Written<W> {
         Ok(())
     }
 
-    /// Writes the headers, if they aren't.
+    /// Writes the headers, unless they were written.
     fn begin(&mut self, layer: LinkLayer) -> Result<(), PutFault>
         ensures begun { OnOk result (IsBegun layer self.old self.new) }
         ensures fault { IfErr result IsFileFault }
@@ -176,7 +175,7 @@ impl<W: Write + Drop> Written<W> {
         Ok(())
     }
 
-    /// The format of the file.
+    /// Returns the format of the file.
     fn format(&self) -> Format
         ensures { result ≡ self.now.file.format }
     {
@@ -187,18 +186,18 @@ impl<W: Write + Drop> Written<W> {
         }
     }
 
-    /// Writes the headers, if they aren't, and returns whether they are.
+    /// Writes the headers, unless they were written. Returns whether they are now.
     pub(crate) fn end(&mut self) -> bool {
         let layer = self.layer.unwrap_or(LinkLayer::Ethernet);
         self.begin(layer).is_ok()
     }
 
-    /// What the file had no place for.
+    /// Returns what the file can't hold.
     pub(crate) fn losses(&self) -> Losses {
         self.losses
     }
 
-    /// The writer, with what it has.
+    /// Returns the writer, with what was written.
     pub(crate) fn into_writer(self) -> W {
         self.sink.into_inner().into_inner()
     }
@@ -207,7 +206,7 @@ impl<W: Write + Drop> Written<W> {
 /// Why a record isn't written.
 #[derive(Clone, Copy)]
 pub(crate) enum PutRefusal {
-    /// It has no place in the file, or the file failed.
+    /// The file can't hold it, or the file failed.
     Sink(SinkFault),
     /// Its secured frame can't be read.
     Unread(RecordFault),
@@ -259,7 +258,8 @@ impl From<RecordFault> for PutRefusal {
     }
 }
 
-/// The unit of classic pcap after an interface: nanoseconds if its ticks aren't whole microseconds.
+/// Returns the unit of classic pcap after an interface: nanoseconds if its ticks aren't whole
+/// microseconds.
 fn unit_after(unit: Unit, newest: Option<InterfaceInfo>) -> Unit
     ensures { result ≡ unit_with unit newest }
 {
@@ -276,7 +276,7 @@ fn is_fine(resolution: u8) -> bool
     (resolution > 6 && resolution < 128) || resolution > 134
 }
 
-/// The link layer of the file after a record of this one.
+/// Returns the link layer of the file after a record of this link layer.
 fn layer_with(format: Format, layer: LinkLayer, old: Option<LinkLayer>) -> Option<LinkLayer>
     ensures { result ≡ layer_after format layer old }
 {
@@ -286,7 +286,7 @@ fn layer_with(format: Format, layer: LinkLayer, old: Option<LinkLayer>) -> Optio
     }
 }
 
-/// The head of an interface as it is written: frames are of Ethernet.
+/// Returns the head of an interface as it is written. Frames have the link type of Ethernet.
 fn head_for(head: InterfaceHead, frames_only: bool) -> InterfaceHead
     ensures { result ≡ head_to frames_only head }
 {
@@ -300,7 +300,7 @@ fn head_for(head: InterfaceHead, frames_only: bool) -> InterfaceHead
     }
 }
 
-/// The octets of a name, of which there may be none.
+/// Returns the octets of a name. An absent name has none.
 fn name_of(name: &Option<InterfaceName>) -> &[u8]
     ensures { result.now ≡ name_in name.now }
 {
@@ -310,8 +310,8 @@ fn name_of(name: &Option<InterfaceName>) -> &[u8]
     }
 }
 
-/// Returns the frame that is written of a record of this link layer, after it is put together among
-/// the record's octets.
+/// Puts together the frame of a record of this link layer among the record's octets, and returns
+/// it.
 fn frame_text(layer: LinkLayer, octets: &mut Vec<u8>, signed: bool) -> Result<&[u8], PutRefusal>
     ensures frame { IfOk result (λ text. IsFrameText signed layer octets.old.items text.now) }
     ensures fault { IfErr result (IsTextFault signed layer octets.old.items) }

@@ -1,7 +1,6 @@
 //! The command `follow`.
 
-ghost use Rattle.std.specs.Prelude.{IfOk};
-ghost use Rattle.cmd_reporting.specs.Statuses.{IsCommandStatus};
+ghost use Rattle.std.specs.Prelude.{◌≡◌, if◌then◌else◌};
 
 use crate::key::FollowBy;
 use crate::names::tap_names;
@@ -53,14 +52,13 @@ pub fn follow_files<R: Files + AllocGlobal, I: Read + Drop, W: Write, E: Write>(
 ) -> Status
 where
     R::File: Read + Drop,
-    ensures { IsCommandStatus result }
 {
     let ended = follow(rt, what, input, io);
     io.status_of(ended)
 }
 
-/// Opens the captures, and follows their packets. The fault is what ends the command before it is
-/// done.
+/// Opens the captures, and follows their packets. Returns the fault that ends the command before it
+/// is done.
 fn follow<'a, R: Files + AllocGlobal, I: Read + Drop, W: Write, E: Write>(
     rt: &R,
     what: &FollowOptions<'a>,
@@ -69,7 +67,6 @@ fn follow<'a, R: Files + AllocGlobal, I: Read + Drop, W: Write, E: Write>(
 ) -> Result<Status, Fault<'a>>
 where
     R::File: Read + Drop,
-    ensures { IfOk result IsCommandStatus }
 {
     let alloc = rt.alloc();
     let mut input = Some(input);
@@ -86,9 +83,9 @@ where
 /// What is done with the packets.
 #[derive(Drop)]
 enum Output<'n> {
-    /// The rows of each are printed.
+    /// The rows of each packet are printed.
     Rows(RowPrinter<'n>),
-    /// Each is counted.
+    /// Each packet is counted.
     Summary(Summary),
 }
 
@@ -149,9 +146,7 @@ fn follow_taps<'a, 'n, S: RecordSource + Drop, W: Write, E: Write>(
     taps: Vec<Tap<'a, S>>,
     names: &'n [&'n str],
     io: &mut Io<W, E>,
-) -> Result<Status, Fault<'a>>
-    ensures { IfOk result IsCommandStatus }
-{
+) -> Result<Status, Fault<'a>> {
     let mut taps = taps;
     let mut window = Window::new(alloc, what.window);
     let mut output = Output::begin(alloc, what, names, &mut io.out)?;
@@ -162,9 +157,10 @@ fn follow_taps<'a, 'n, S: RecordSource + Drop, W: Write, E: Write>(
     Ok(status_of(is_whole))
 }
 
-/// The status of a run over taps that were all read to their ends without an error, or not.
+/// Returns the status of a run. The argument says whether all taps were read to their ends without
+/// an error.
 fn status_of(are_whole: bool) -> Status
-    ensures { IsCommandStatus result }
+    ensures { result ≡ (if are_whole then Status.Done else Status.Refused) }
 {
     if are_whole {
         Status::Done
@@ -173,7 +169,7 @@ fn status_of(are_whole: bool) -> Status
     }
 }
 
-/// Reads all packets in the order of their times, and puts each that is complete.
+/// Reads all packets in the order of their times, and prints or counts each when it is complete.
 fn follow_packets<'a, S: RecordSource + Drop, W: Write>(
     what: &FollowOptions<'a>,
     taps: &mut Vec<Tap<'a, S>>,
@@ -207,7 +203,7 @@ fn follow_packets<'a, S: RecordSource + Drop, W: Write>(
     Ok(())
 }
 
-/// The counts of the taps.
+/// Returns the counts of the taps.
 fn counts_of<S: RecordSource + Drop>(
     alloc: Global,
     taps: &Vec<Tap<'_, S>>,

@@ -27,7 +27,7 @@ pub(crate) fn rounded(micros: u64) -> u64
     }
 }
 
-/// How many delays there are of each length, in steps that are fixed.
+/// How many delays there are of each length, in fixed steps.
 #[derive(Drop)]
 pub(crate) struct Delays {
     counts: BTreeMap<u64, u64>,
@@ -67,8 +67,8 @@ impl Delays {
         Ok(())
     }
 
-    /// The delay that this percentage of them do not exceed, rounded down to three digits, but not
-    /// below the least one. `None` if there is no delay.
+    /// Returns the delay that this percentage of the delays don't exceed, rounded down to three
+    /// digits, but not below the least delay. `None` if there is no delay.
     pub(crate) fn quantile(&self, percent: u64) -> Option<u64> {
         let (least, _) = self.ends?;
         let rank = self.count.saturating_mul(percent).div_ceil(100);
@@ -115,7 +115,7 @@ impl Histogram {
         Ok(())
     }
 
-    /// Its rows, the least delay first. `AllocError` if an allocation failed.
+    /// Returns its rows, the least delay first. `AllocError` if an allocation failed.
     pub(crate) fn rows(&self) -> Result<Vec<HistogramRow>, AllocError> {
         let mut rows = Vec::new(self.alloc);
         for (millis, frames) in self.counts.iter() {

@@ -1,9 +1,9 @@
-//! By what frames are copies of one packet.
+//! How frames are found to be copies of one packet.
 
 use its_outside::StandardKind;
 use sha2::{Digest, Sha256};
 
-/// By what frames are taken as copies of one packet.
+/// How frames are found to be copies of one packet.
 #[derive(Clone, Copy, Debug, PartialEq, Eq)]
 pub enum FollowBy {
     /// By the source, the kind, the sequence number if there is one, and the time stamp of the
@@ -80,7 +80,7 @@ fn digest_of(payload: &[u8]) -> [u64; 4] {
     ]
 }
 
-/// The number that eight octets of a digest are.
+/// Returns eight octets of a digest as a number.
 fn number_at(octets: &[u8; 32], at: usize) -> u64 {
     let mut number = [0; 8];
     for (to, from) in number.iter_mut().zip(octets.iter().skip(at)) {

@@ -4,9 +4,10 @@
 //!
 //! - A record is followed if and only if it is selected (`SightingReader`: `ReadsSelected`).
 //! - At most 65,536 packets are held (`Window::add`, clause `held`).
-//! - A quantile is at most 1 % below the delay that it is of (`rounded`, clauses `least`, `near`).
+//! - A quantile is at most 1 % below the delay that it stands for (`rounded`, clauses `least`,
+//!   `near`).
 //! - Each packet counts as seen or as missing at a tap (`TapPackets::add`, clause `sum`). No tap
-//!   receives more packets of another one than that has (`Pair::add`, clause `ratio`).
+//!   counts more packets from another tap than that has (`Pair::add`, clause `ratio`).
 //!
 //! # Only tested
 //!

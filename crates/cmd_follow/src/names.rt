@@ -2,8 +2,8 @@
 
 use std::alloc::{AllocError, Global};
 
-/// Returns the names of the taps whose captures are of these files: the last part of each path, or
-/// the whole path if another capture has the same last part. `AllocError` if an allocation failed.
+/// Returns the names of the taps with these capture files: the last part of each path, or the whole
+/// path if another capture has the same last part. `AllocError` if an allocation failed.
 pub(crate) fn tap_names<'a>(alloc: Global, files: &[&'a str]) -> Result<Vec<&'a str>, AllocError> {
     let mut names = Vec::new(alloc);
     for file in files {
@@ -17,7 +17,7 @@ pub(crate) fn tap_names<'a>(alloc: Global, files: &[&'a str]) -> Result<Vec<&'a 
     Ok(names)
 }
 
-/// The last part of a path.
+/// Returns the last part of a path.
 fn last_part(path: &str) -> &str {
     match path.rsplit_once('/') {
         Some((_, last)) => last,

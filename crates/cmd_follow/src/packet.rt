@@ -21,7 +21,7 @@ pub(crate) struct FollowedPacket {
 }
 
 impl FollowedPacket {
-    /// Returns the packet of this number with one frame.
+    /// Returns the packet with this number and one frame.
     pub(crate) fn new(
         alloc: Global,
         number: u64,
@@ -44,12 +44,12 @@ impl FollowedPacket {
         self.sightings.as_slice()
     }
 
-    /// Its first frame at a tap.
+    /// Returns its first frame at a tap.
     pub(crate) fn first_at(&self, tap: usize) -> Option<&Sighting> {
         self.sightings().iter().find(|sighting| sighting.tap == tap)
     }
 
-    /// The time of its first frame.
+    /// Returns the time of its first frame.
     pub(crate) fn first_stamp(&self) -> u64 {
         match self.sightings().first() {
             Some(first) => first.stamp,
@@ -73,9 +73,10 @@ impl FollowedPacket {
         Ok(true)
     }
 
-    /// How long a station took to forward this frame, in nanoseconds: since the first frame of
-    /// another station at the same tap with one hop more. `None` if the tap has no such frame, if
-    /// nobody forwarded the packet, or if the station had sent this frame before.
+    /// Returns how long a station took to forward this frame, in nanoseconds: the time since the
+    /// first frame from another station at the same tap with a hop limit higher by 1. `None` if the
+    /// tap has no such frame, if nobody forwarded the packet, or if the station had sent this frame
+    /// before.
     pub(crate) fn forwarding_delay(&self, frame: &Sighting) -> Option<u64> {
         if !frame.is_forwarded() {
             return None;

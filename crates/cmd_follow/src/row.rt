@@ -13,10 +13,10 @@ use std::alloc::{AllocError, Global};
 use std::fmt;
 use std::io::Write;
 
-/// How what is found is printed.
+/// The format of the output.
 #[derive(Clone, Copy, Debug, PartialEq, Eq)]
 pub enum FollowForm {
-    /// As words, for a person.
+    /// As text, for a person.
     Words,
     /// As CSV (RFC 4180).
     Csv,
@@ -112,7 +112,8 @@ impl<'p> Row<'p> {
             .count()
     }
 
-    /// How long after the packet's first frame at any tap a frame came, in microseconds.
+    /// Returns how long after the packet's first frame at any tap this frame was captured, in
+    /// microseconds.
     fn delay(&self, sighting: &Sighting) -> u64 {
         sighting.stamp.saturating_sub(self.packet.first_stamp()) / 1000
     }
@@ -122,7 +123,7 @@ impl<'p> Row<'p> {
         moment_of(self.clock, sighting)
     }
 
-    /// The row as an object.
+    /// Returns the row as an object.
     fn object(self) -> RowObject<'p> {
         let fields = self.packet.fields;
         let first = self.packet.first_at(self.tap);
@@ -145,7 +146,7 @@ fn moment_of(clock: Clock, sighting: &Sighting) -> Moment {
     clock.at(Instant::of_nanos(0), Instant::of_nanos(sighting.stamp))
 }
 
-/// The row in words.
+/// The row as text.
 #[derive(Clone, Copy)]
 struct RowWords<'p>(Row<'p>);
 
@@ -188,7 +189,7 @@ impl fmt::Display for RowCells<'_> {
     }
 }
 
-/// Writes what is printed of the frames of a row, of which this is the first one.
+/// Writes what is printed of the frames of a row. This is the first one.
 fn write_frames<W: fmt::Write>(
     row: &Row<'_>,
     first: &Sighting,
@@ -201,8 +202,8 @@ fn write_frames<W: fmt::Write>(
     write_path(row, f)
 }
 
-/// Writes the path of a row: for each of its frames the link address that it comes from, the hops
-/// left, and its delay.
+/// Writes the path of a row: for each of its frames the link address of its sender, the remaining
+/// hop limit, and its delay.
 fn write_path<W: fmt::Write>(row: &Row<'_>, f: &mut fmt::Formatter<W>) -> fmt::Result {
     let mut is_first = true;
     for sighting in row.packet.sightings() {

@@ -1,4 +1,4 @@
-//! The records of a capture, as they are followed.
+//! Reads the records of a capture as packets that are followed.
 
 ghost use Rattle.std.specs.Prelude.{IfOk};
 ghost use Rattle.cap_records.specs.FoundFrames.{IsThere};
@@ -25,13 +25,13 @@ pub(crate) struct Sighting {
     pub(crate) record: u64,
     /// Its time, in nanoseconds.
     pub(crate) stamp: u64,
-    /// The link address that it comes from.
+    /// The link address of its sender.
     pub(crate) from: Mac,
-    /// The link address that it goes to.
+    /// The link address that it is sent to.
     pub(crate) to: Mac,
-    /// The hops left.
+    /// The remaining hop limit (RHL).
     pub(crate) hops: u8,
-    /// The hops that there were at most.
+    /// The maximum hop limit (MHL).
     pub(crate) max_hops: u8,
 }
 
@@ -50,7 +50,7 @@ pub(crate) struct SeenPacket {
     pub(crate) sighting: Sighting,
 }
 
-/// What is read of a record that is selected.
+/// What is read from a record that is selected.
 #[derive(Clone, Copy, Debug, PartialEq, Eq)]
 pub(crate) enum ReadRecord {
     /// A packet that is followed.
@@ -72,7 +72,7 @@ pub(crate) struct SightingReader {
 }
 
 impl SightingReader {
-    /// Returns the reader of the tap of this number, which has read no record.
+    /// Returns the reader of the tap with this number, which has read no record.
     pub(crate) fn new(by: FollowBy, tap: usize) -> SightingReader {
         SightingReader {
             frames: FrameReader::new(),
@@ -136,7 +136,7 @@ impl SightingPlace {
         }
     }
 
-    /// The packet of a frame of the profile. `None` if it is not followed.
+    /// Returns the packet of a frame of the profile. `None` if it is not followed.
     fn packet(self, stamp: u64, frame: &FrameView<'_>) -> Option<SeenPacket> {
         let packet = &frame.packet;
         let vector = packet.vector();
@@ -162,7 +162,7 @@ impl SightingPlace {
         })
     }
 
-    /// The packet of a frame outside the profile. `None` if it is not followed.
+    /// Returns the packet of a frame outside the profile. `None` if it is not followed.
     fn outside(self, stamp: u64, frame: &OutsideFrame<'_>) -> Option<SeenPacket> {
         let headers = &frame.fields;
         let fields = PacketFields {
@@ -187,7 +187,7 @@ impl SightingPlace {
     }
 }
 
-/// The sequence number of a packet outside the profile, if it has one.
+/// Returns the sequence number of a packet outside the profile, if it has one.
 fn number_of(fields: &ExtendedFields) -> Option<u16> {
     match fields {
         ExtendedFields::Beacon | ExtendedFields::Shb(_) => None,
@@ -200,7 +200,7 @@ fn number_of(fields: &ExtendedFields) -> Option<u16> {
     }
 }
 
-/// The time of a record in nanoseconds, if it is below 2^64.
+/// Returns the time of a record in nanoseconds, if it is below 2^64.
 fn stamp_of(head: &RecordHeader) -> Option<u64> {
     head.moment
         .checked_mul(NANOS)?

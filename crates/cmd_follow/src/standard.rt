@@ -4,12 +4,12 @@ use cmd_reporting::{Fault, is_standard};
 use std::io;
 use std::io::Read;
 
-/// Standard input, or nothing for a file with a name.
+/// Standard input, which at most one file takes.
 #[derive(Drop)]
 pub(crate) struct StandardInput<I>(Option<I>);
 
 impl<I: Drop> StandardInput<I> {
-    /// Takes standard input, if the file of this name is standard input. `CannotRead` if it was
+    /// Takes standard input, if the file with this name is standard input. `CannotRead` if it was
     /// taken before.
     pub(crate) fn of<'f>(
         file: &'f str,

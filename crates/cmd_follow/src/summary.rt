@@ -1,4 +1,4 @@
-//! What is counted of the packets of a run over several captures.
+//! The counts of the packets of a run over several captures.
 
 ghost use Rattle.std.specs.Prelude.{◌≡◌, ◌≤◌, ◌<◌, ◌+◌, ◌-◌, ◌^◌, false};
 
@@ -7,7 +7,7 @@ use crate::packet::FollowedPacket;
 use crate::sighting::NANOS;
 use std::alloc::{AllocError, Global};
 
-/// How many packets a tap has, of all that some tap has.
+/// How many of all packets a tap has.
 #[derive(Clone, Copy, Debug, PartialEq, Eq)]
 pub(crate) struct TapPackets {
     pub(crate) tap: usize,
@@ -32,7 +32,7 @@ impl TapPackets {
     }
 }
 
-/// What is counted of the packets of one tap at another one.
+/// The counts of one tap's packets at another tap.
 #[derive(Drop)]
 pub(crate) struct Pair {
     /// The number of the first tap.
@@ -43,8 +43,8 @@ pub(crate) struct Pair {
     pub(crate) packets: u64,
     /// How many of them the other one has as well.
     pub(crate) received: u64,
-    /// How long after the first one the other one had its first frame of each of them, in
-    /// microseconds, if it was not before.
+    /// The delays from the first frame of each packet at the first tap to that at the other, in
+    /// microseconds. A packet that the other tap had earlier has none.
     pub(crate) delays: Delays,
 }
 
@@ -96,7 +96,7 @@ impl Pair {
     }
 }
 
-/// What is counted of the packets of all taps.
+/// The counts of the packets of all taps.
 #[derive(Drop)]
 pub(crate) struct Summary {
     /// How many packets some tap has.

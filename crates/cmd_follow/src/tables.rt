@@ -53,7 +53,8 @@ const PAIR_COLUMNS: [&str; 11] = [
     "greatest",
 ];
 
-/// How many of so many, in percent with one decimal, rounded down.
+/// A part of a whole. It prints as a percentage with one decimal, rounded down, and as nothing if
+/// the whole is 0.
 #[derive(Clone, Copy)]
 struct Percentage {
     part: u64,
@@ -69,7 +70,7 @@ impl fmt::Display for Percentage {
     }
 }
 
-/// A number, or nothing.
+/// A number, or `None`, which prints as nothing.
 #[derive(Clone, Copy)]
 struct Maybe(Option<u64>);
 
@@ -83,7 +84,7 @@ impl fmt::Display for Maybe {
 }
 
 impl<'a> PairRow<'a> {
-    /// The row of a pair of taps with these names.
+    /// Returns the row of a pair of taps with these names.
     fn of(pair: &Pair, names: &[&'a str]) -> PairRow<'a> {
         let ends = pair.delays.ends();
         PairRow {
@@ -104,7 +105,7 @@ impl<'a> PairRow<'a> {
         }
     }
 
-    /// Its delays.
+    /// Returns its delays, in microseconds.
     fn micros(&self) -> [Option<u64>; 5] {
         [self.least, self.p50, self.p95, self.p99, self.greatest]
     }
@@ -137,7 +138,7 @@ impl fmt::Display for PairRow<'_> {
     }
 }
 
-/// The name of a tap.
+/// Returns the name of a tap.
 fn name_of<'a>(names: &[&'a str], tap: usize) -> &'a str {
     names.get(tap).copied().unwrap_or("")
 }
@@ -153,7 +154,7 @@ pub(crate) struct Summed<'s, 'a> {
 }
 
 impl<'a> Summed<'_, 'a> {
-    /// The rows of the taps.
+    /// Returns the rows of the taps.
     fn taps(&self, alloc: Global) -> Result<Vec<TapRow<'a>>, AllocError> {
         let mut rows = Vec::new(alloc);
         for (tap, counts) in self.summary.taps.iter().zip(self.counts) {
@@ -168,7 +169,7 @@ impl<'a> Summed<'_, 'a> {
         Ok(rows)
     }
 
-    /// The rows of the pairs.
+    /// Returns the rows of the pairs.
     fn pairs(&self, alloc: Global) -> Result<Vec<PairRow<'a>>, AllocError> {
         let mut rows = Vec::new(alloc);
         for pair in self.summary.pairs.iter() {
@@ -177,7 +178,7 @@ impl<'a> Summed<'_, 'a> {
         Ok(rows)
     }
 
-    /// Prints the summary. As CSV that is the table of pairs.
+    /// Prints the summary. As CSV it is only the table of pairs.
     pub(crate) fn print<'f, W: Write>(
         &self,
         alloc: Global,
@@ -191,7 +192,7 @@ impl<'a> Summed<'_, 'a> {
         }
     }
 
-    /// Prints three tables, an empty line between them.
+    /// Prints three tables, with empty lines between them.
     fn print_tables<'f, W: Write>(&self, alloc: Global, out: &mut W) -> Result<(), Fault<'f>> {
         let heads = ["tap", "records", "rejected", "packets", "missing"];
         let mut table = Table::new(alloc, &heads)?;

@@ -1,4 +1,4 @@
-//! Captures that are read side by side.
+//! Captures that are read in parallel, in the order of times.
 
 use crate::key::FollowBy;
 use crate::sighting::{ReadRecord, SeenPacket, SightingReader};
@@ -17,31 +17,31 @@ pub(crate) struct TapCounts {
     pub(crate) rejected: u64,
 }
 
-/// Why a capture is not read on, and after how many records.
+/// Why reading a capture stopped, and after how many records.
 #[derive(Clone, Copy, Debug, PartialEq, Eq)]
 pub(crate) struct EndedCapture {
     pub(crate) records: u64,
     pub(crate) fault: FileFault,
 }
 
-/// A capture that is one of several, and what was read of it last.
+/// One of several captures, and what was last read from it.
 #[derive(Drop)]
 pub(crate) struct Tap<'a, S: RecordSource + Drop> {
     /// The name of its file.
     file: &'a str,
-    /// The format that its file was said to have.
+    /// The given format of its file.
     format: Option<Format>,
     /// Its records. `None` if no record follows.
     records: Option<Records<S, SightingReader>>,
     /// The next packet, if it was read.
     next: Option<SeenPacket>,
     pub(crate) counts: TapCounts,
-    /// Why it is not read on, if its octets are at fault.
+    /// Why reading stopped, if its octets are at fault.
     pub(crate) ended: Option<EndedCapture>,
 }
 
 impl<'a, S: RecordSource + Drop> Tap<'a, S> {
-    /// Returns the tap of this number, whose capture is of this file. `AllocError` if an allocation
+    /// Returns the tap with this number and this capture file. `AllocError` if an allocation
     /// failed.
     fn new(
         alloc: Global,
@@ -104,7 +104,7 @@ impl<'a, S: RecordSource + Drop> Tap<'a, S> {
         Ok(())
     }
 
-    /// Takes what was read of a record.
+    /// Takes what was read from a record.
     fn take(&mut self, read: ReadRecord) {
         self.counts.records = self.counts.records.saturating_add(1);
         match read {
@@ -115,7 +115,7 @@ impl<'a, S: RecordSource + Drop> Tap<'a, S> {
     }
 }
 
-/// Opens the tap of this number, whose capture is of this file. `CannotRead` if a read failed,
+/// Opens the tap with this number and this capture file. `CannotRead` if a read failed,
 /// `OutOfMemory` if an allocation did.
 pub(crate) fn open_tap<'a, R: Read + Drop>(
     alloc: Global,
@@ -131,9 +131,9 @@ pub(crate) fn open_tap<'a, R: Read + Drop>(
     }
 }
 
-/// Returns the next packet of several captures: the one with the least time of those that are next
-/// in each. If times are equal, it is that of the first capture. `None` if no capture has another
-/// one.
+/// Returns the next packet of several captures: the one with the least time among the next packets
+/// of the captures. If times are equal, it is that of the first capture. `None` if no capture has
+/// another packet.
 ///
 /// `CannotRead` if a read failed, `OutOfMemory` if an allocation did.
 pub(crate) fn next_packet<'a, S: RecordSource + Drop>(

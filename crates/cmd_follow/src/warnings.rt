@@ -8,7 +8,7 @@ use cmd_reporting::OutputFormat;
 use its_words::frames::Explanation;
 use std::io::Write;
 
-/// Reports what was not read of the tap of this name. A failed write changes nothing.
+/// Reports which part of the tap with this name was not read. A failed write changes nothing.
 pub(crate) fn report_tap<E: Write>(
     name: &str,
     counts: &TapCounts,
@@ -68,7 +68,7 @@ pub(crate) fn report_window<E: Write>(counts: &WindowCounts, millis: u64, err: &
     }
 }
 
-/// The noun and the verb for so many records.
+/// Returns the noun and the verb for this many records.
 fn words_of(count: u64) -> (&'static str, &'static str) {
     if count == 1 {
         ("record", "is")

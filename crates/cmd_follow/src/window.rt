@@ -17,7 +17,7 @@ pub(crate) const MOST_HELD: usize = 65_536;
 pub(crate) struct WindowCounts {
     /// Records whose time is before the window.
     pub(crate) late: u64,
-    /// Records of a packet of which so many frames are held that no other is.
+    /// Records of a packet that already has the most frames.
     pub(crate) crowded: u64,
     /// Packets that were forgotten before their time.
     pub(crate) early: u64,
@@ -75,7 +75,7 @@ impl Window {
         self.packets.len()
     }
 
-    /// Takes the oldest packet, if its time is over or as many frames are held as there may be.
+    /// Removes the oldest packet, if its time is over or the most frames are held.
     pub(crate) fn take_complete(&mut self) -> Option<FollowedPacket>
         ensures { length self.new.packets.items ≤ length self.old.packets.items }
     {
@@ -89,7 +89,7 @@ impl Window {
         self.take_oldest()
     }
 
-    /// Takes the oldest packet.
+    /// Removes the oldest packet.
     pub(crate) fn take_oldest(&mut self) -> Option<FollowedPacket>
         ensures { length self.new.packets.items ≤ length self.old.packets.items }
     {
@@ -102,7 +102,7 @@ impl Window {
     /// Adds the packet of a record, or its frame to the packet of which it is a copy. A record
     /// before the window is only counted. `AllocError` if an allocation failed.
     ///
-    /// - `held`: at most so many packets are held as there may be.
+    /// - `held`: no more packets are held than the limit.
     pub(crate) fn add(&mut self, seen: SeenPacket) -> Result<(), AllocError>
         ensures held { length self.old.packets.items ≤ MOST_HELD
             → length self.new.packets.items ≤ MOST_HELD }
@@ -117,14 +117,14 @@ impl Window {
         }
     }
 
-    /// The place of a packet among those that are held.
+    /// Returns the index of a packet among those that are held.
     fn place_of(&self, key: &PacketKey) -> Option<usize> {
         let number = *self.numbers.get(key)?;
         let oldest = self.packets.front()?.number;
         usize::try_from(number.checked_sub(oldest)?).ok()
     }
 
-    /// Adds a frame to the packet at this place.
+    /// Adds a frame to the packet at this index.
     fn add_frame(&mut self, place: usize, seen: SeenPacket) -> Result<(), AllocError>
         ensures { length self.new.packets.items ≡ length self.old.packets.items }
     {

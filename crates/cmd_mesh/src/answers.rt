@@ -1,4 +1,4 @@
-//! A call of a station, and its word.
+//! A call of a station, and its keyword.
 
 ghost use Rattle.std.specs.Prelude.{◌≡◌, ◌∷◌, [], IfOk, OnErr};
 ghost use Rattle.its_model.specs.Station.{StationModel};
@@ -11,8 +11,8 @@ use its_model::laws::{calls_go_on, sources_are_isolated};
 use its_station::{Call, Station, StationAnswer};
 use its_words::calls::own_verb;
 
-/// Makes one call at a time, which is a run of this call alone. `NoMemory` if an allocation failed:
-/// nothing changed then.
+/// Makes one call of a station, which is a run of only this call. `NoMemory` if an allocation
+/// failed. Nothing changed then.
 pub(crate) fn answer(
     station: &mut Station<SortedTable>,
     moment: u64,
@@ -30,8 +30,8 @@ pub(crate) fn answer(
     station.answer(moment, &call)
 }
 
-/// Returns the word of a call, as a scenario has it after `do`. It is `receive` for a frame that
-/// came.
+/// Returns the keyword of a call, as a scenario has it under `do`. It is `receive` for a received
+/// frame.
 pub(crate) fn call_word(call: &Call) -> &'static str {
     match call {
         Call::Own(own) => own_verb(own).word(),

@@ -1,21 +1,20 @@
 //! The command `mesh`.
 
-ghost use Rattle.std.specs.Prelude.{◌≡◌, All, IfErr, IfOk, IfSome, IsErrAnd, None, map};
+ghost use Rattle.std.specs.Prelude.{◌≡◌, ◌≢◌, All, IfErr, IfOk, IfSome, IsErrAnd, None, map, IsTrue};
 ghost use Rattle.cmd_reporting.specs.FileNames.{format_of_file};
-ghost use Rattle.cmd_reporting.specs.Statuses.{IsCommandStatus};
+ghost use Rattle.cmd_reporting.specs.Statuses.{IsOutputFault, IsStopped};
 ghost use Rattle.its_world.specs.Events.{config_of, event_of};
 ghost use Rattle.sim_scenario.specs.Events.{FitsEvent};
 ghost use Rattle.sim_scenario.specs.Scenarios.{IsPlain, plain_events};
 ghost use Rattle.cmd_mesh.specs.Calls.{IsMeshRun};
-ghost use Rattle.cmd_mesh.specs.Statuses.{IsMeshStatus, IsOutputFault, IsStopped};
 
 use crate::fault::MeshFault;
 use crate::mesh::Mesh;
 use crate::sockets::Sockets;
 use crate::udp::UdpSockets;
 use cmd_reporting::{
-    FrameFile, Io, Status, Target, WriterFault, create_frames, end_frames, frame_target,
-    keep_apart, open,
+    ExitStatus, FrameFile, Io, Status, Target, WriterFault, create_frames, end_frames,
+    frame_target, keep_apart, open,
 };
 use its_world::Event;
 use sim_runs::{read_scenario, report_unknown};
@@ -32,24 +31,27 @@ const MOST_STATIONS: usize = 64;
 /// How a mesh is run.
 #[derive(Clone, Copy, Debug, Default, PartialEq, Eq)]
 pub struct MeshOptions {
-    /// Whether a call that is refused makes the status `Refused`, where it would be `Done`. A key
-    /// of the scenario that is unknown is refused then, too.
+    /// Whether a call that is refused changes the status from `Done` to `Refused`. Unknown keys of
+    /// the scenario are then refused too.
     pub strict: bool,
 }
 
-/// Runs the scenario in the file, of at most 64 stations, each with a UDP socket on 127.0.0.1 at a
-/// port that the system picks. Prints a line for each event but `deliver`, and for each datagram
-/// that comes: its moment, its station and its result. In JSON the stations have a line
-/// before. `input` is standard input, which is read where the file is `-`. With `frames` each frame
-/// that a station gives is also written to that file, at the moment of its line; it is created once
-/// the scenario is read.
+/// Runs the scenario in the file, with at most 64 stations. Each has a UDP socket on 127.0.0.1 at a
+/// port that the system picks. Prints one line per event except `deliver`, and per datagram that
+/// arrives: its time, its station and its result. In JSON a line of the stations comes first.
+/// `input` is standard input, which is read if the file is `-`. With `frames` each frame that a
+/// station sends is also written to that file, at the time of its line. That file is created after
+/// the scenario was read.
 ///
-/// `BadArguments`, before anything is opened, where nothing says that file's format or its name is
-/// `-`, and before it is created where it is the scenario's own file. `Refused` for a text that is
-/// no scenario, where a frame has no place in its file and, with `strict`, where a call was refused
-/// and nothing failed. `Failed` where a file could not be read, created or written, a socket not be
-/// made or standard output not written, or memory ran out: then it ends there. `Failed` too where a
-/// send or a receive failed: that is reported, and it goes on.
+/// Its status can be:
+///
+/// - `BadArguments` before anything is opened, if nothing says the format of the file of frames or
+///   its name is `-`; and before that file is created, if it is the scenario's own file.
+/// - `Refused` for a text that is not a scenario, if a frame doesn't fit its file and, with
+///   `strict`, if a call was refused and nothing failed.
+/// - `Failed` if a file could not be read, created or written, a socket could not be made, standard
+///   output could not be written, or memory ran out. The run ends there.
+/// - `Failed` if a send or a receive failed. That is reported, and the run goes on.
 pub fn mesh_file<R: Files + Net + AllocGlobal, I: Read + Drop, W: Write, E: Write>(
     rt: &R,
     file: &str,
@@ -57,12 +59,12 @@ pub fn mesh_file<R: Files + Net + AllocGlobal, I: Read + Drop, W: Write, E: Writ
     frames: Option<Target<'_>>,
     options: MeshOptions,
     io: &mut Io<W, E>,
-) -> Status
+) -> ExitStatus
 where
     R::File: Read + Write + Drop,
-    ensures alone { frames.entry ≡ None → IsCommandStatus result }
+    ensures alone { frames.entry ≡ None → result ≢ ExitStatus.BadArguments }
     ensures format { IfSome frames.entry (λ target.
-        format_of_file target.to target.name.now ≡ None → result ≡ Status.BadArguments) }
+        format_of_file target.to target.name.now ≡ None → result ≡ ExitStatus.BadArguments) }
 {
     let ended = mesh_named(rt, file, input, frames, options, io);
     io.status_of(ended)
@@ -80,7 +82,6 @@ fn mesh_named<'a, R: Files + Net + AllocGlobal, I: Read + Drop, W: Write, E: Wri
 ) -> Result<Status, WriterFault<'a, MeshFault<'a>>>
 where
     R::File: Read + Write + Drop,
-    ensures status { IfOk result IsCommandStatus }
     ensures alone { frames.entry ≡ None → IfErr result IsStopped }
     ensures format { IfSome frames.entry (λ target.
         format_of_file target.to target.name.now ≡ None → IsErrAnd result IsOutputFault) }
@@ -96,8 +97,8 @@ where
     Ok(run_mesh(rt.alloc(), scenario, frames, options, &mut sockets, io)?)
 }
 
-/// The command over a reader, and over the sockets of the stations, of which there is none yet.
-/// `file` is the name of what is read. It ends as `mesh_file` without frames does.
+/// Runs the command over a reader, with sockets of which none was made yet. `file` is the name of
+/// the scenario. It ends as `mesh_file` without frames does.
 pub fn mesh_over<R: Read + Drop, S: Sockets, W: Write, E: Write>(
     alloc: Global,
     file: &str,
@@ -105,14 +106,12 @@ pub fn mesh_over<R: Read + Drop, S: Sockets, W: Write, E: Write>(
     options: MeshOptions,
     sockets: &mut S,
     io: &mut Io<W, E>,
-) -> Status
-    ensures { IsCommandStatus result }
-{
+) -> Status {
     let ended = mesh_read(alloc, file, reader, options, sockets, io);
     io.status_of(ended)
 }
 
-/// The same, with the fault that ends it.
+/// Runs the command as `mesh_over` does, and returns the fault that ends it.
 fn mesh_read<'a, R: Read + Drop, S: Sockets, W: Write, E: Write>(
     alloc: Global,
     file: &'a str,
@@ -120,9 +119,7 @@ fn mesh_read<'a, R: Read + Drop, S: Sockets, W: Write, E: Write>(
     options: MeshOptions,
     sockets: &mut S,
     io: &mut Io<W, E>,
-) -> Result<Status, MeshFault<'a>>
-    ensures { IfOk result IsCommandStatus }
-{
+) -> Result<Status, MeshFault<'a>> {
     let scenario = read(alloc, file, reader, options)?;
     let frames: Option<FrameFile<'_, io::Sink>> = None;
     run_mesh(alloc, scenario, frames, options, sockets, io)
@@ -145,7 +142,7 @@ fn read<'a, R: Read + Drop>(
     Ok(read_scenario(alloc, file, reader, MOST_STATIONS, &reading)?)
 }
 
-/// The events of a scenario without a radio model.
+/// Returns the events of a scenario without a radio model.
 fn events_of(timeline: Timeline) -> Vec<Event>
     requires { IsPlain timeline }
     ensures events { result.items ≡ plain_events timeline }
@@ -168,8 +165,8 @@ fn run_mesh<'f, F: Write + Drop, S: Sockets, W: Write, E: Write>(
     io: &mut Io<W, E>,
 ) -> Result<Status, MeshFault<'f>>
     requires { IsPlain scenario.timeline }
-    ensures command { IfOk result IsCommandStatus }
-    ensures status { frames.entry ≡ None → IfOk result (IsMeshStatus options.strict) }
+    ensures status { frames.entry ≡ None → IfOk result
+        (λ status. status ≡ Status.Refused → IsTrue options.strict) }
     ensures run { frames.entry ≡ None → IfOk result (
         IsMeshRun (map config_of scenario.stations.items)
         (map event_of (plain_events scenario.timeline)) options.strict) }

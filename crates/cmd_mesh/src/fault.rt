@@ -1,4 +1,4 @@
-//! What fails in a mesh: sockets, and what ends any command.
+//! The faults of a mesh: those of sockets, and those of any command.
 
 ghost use Rattle.std.specs.Prelude.{◌≡◌};
 
@@ -10,7 +10,7 @@ use std::alloc::AllocError;
 use std::io::Write;
 use thiserror::Error;
 
-/// A failed call of the socket of a station, counted from 0. Its text is the line on standard
+/// A failed call of the socket of a station, counted from 0. It prints as its line on standard
 /// error.
 #[derive(Clone, Copy, Debug, PartialEq, Eq, Error)]
 pub(crate) enum SocketFault {
@@ -31,17 +31,19 @@ pub(crate) enum MeshFault<'a> {
     /// A socket could not be made.
     #[error("{0}")]
     Socket(SocketFault),
-    /// The scenario is not run, or what ends any command.
+    /// The scenario is not run, or a fault that can end any command.
     #[error("{0}")]
     Run(RunFault<'a>),
 }
 
 impl CommandFault for MeshFault<'_> {
+    type Ending = Status;
+
     ghost use Rattle.cmd_mesh.specs.Statuses.{mesh_fault_status};
 
     ghost status_of = { mesh_fault_status };
 
-    /// `Failed` for a socket, else that of the run's fault.
+    /// Returns `Failed` for a socket, and otherwise the status of the run's fault.
     fn status(&self) -> Status {
         match self {
             MeshFault::Socket(_) => Status::Failed,
@@ -59,7 +61,7 @@ impl CommandFault for MeshFault<'_> {
     }
 }
 
-/// What ends the command where a line could not be written.
+/// Returns the fault of a command that could not write a line.
 pub(crate) fn fault_of_lines<'a>(fault: SimulationFault) -> Fault<'a> {
     match fault {
         SimulationFault::OutOfMemory(error) => Fault::OutOfMemory(error),

@@ -1,4 +1,4 @@
-//! The lines of a mesh, in words or as objects in JSON.
+//! The lines of a mesh, as text or as objects in JSON.
 
 use cmd_reporting::OutputFormat;
 use its_world::{Config, Entry};
@@ -6,8 +6,8 @@ use sim_simulation::{EntryText, JsonLines, SimulationFault};
 use std::alloc::Global;
 use std::io::Write;
 
-/// Writes what stands before the lines of calls: of objects the line of the stations. `OutOfMemory`
-/// where an allocation failed, `Output` where a write did.
+/// Writes what comes before the lines of calls: in JSON the line of the stations, in text nothing.
+/// `OutOfMemory` if an allocation failed, `Output` if a write did.
 pub(crate) fn print_stations<W: Write>(
     alloc: Global,
     format: OutputFormat,
@@ -21,9 +21,9 @@ pub(crate) fn print_stations<W: Write>(
     }
 }
 
-/// Writes the line of a call with this word, as `1000 0 sent 0` or
-/// `{"moment":1000,"station":0,"do":"gbc","result":"sent","sent":0}`. `OutOfMemory` where an
-/// allocation failed, `Output` where a write did.
+/// Writes the line of a call with this keyword, for example `1000 0 sent 0` or
+/// `{"moment":1000,"station":0,"do":"gbc","result":"sent","sent":0}`. `OutOfMemory` if an
+/// allocation failed, `Output` if a write did.
 pub(crate) fn print_call<W: Write>(
     alloc: Global,
     format: OutputFormat,

@@ -1,4 +1,4 @@
-//! Stations that talk by sockets, and what is printed of them.
+//! Stations that talk by sockets, and their lines.
 
 ghost use Rattle.std.specs.Prelude.{◌≡◌, ◌&&◌, ◌||◌, not, ℕ, false, All, IfOk, OnOk, OnErr};
 ghost use Rattle.std.specs.Prelude.{List, map, slice_get};
@@ -28,7 +28,7 @@ use std::alloc::Global;
 use std::io;
 use std::io::{ErrorKind, Write};
 
-/// Stations with a socket each, and where their lines go.
+/// Stations, each with a socket, and the sinks of their lines.
 #[derive(Drop)]
 pub(crate) struct Mesh<'a, 't, S, W, E, F: Write + Drop> {
     pub(crate) alloc: Global,
@@ -38,7 +38,7 @@ pub(crate) struct Mesh<'a, 't, S, W, E, F: Write + Drop> {
     io: &'a mut Io<W, E>,
     /// Where frames are written, if they are.
     pub(crate) file: Option<FrameFile<'t, F>>,
-    /// The greatest moment of the events so far: that of all that comes by a socket.
+    /// The greatest time of the events so far. It is the time of each datagram that arrives.
     pub(crate) moment: u64,
     /// How many frames were sent so far.
     frames: usize,
@@ -49,8 +49,8 @@ pub(crate) struct Mesh<'a, 't, S, W, E, F: Write + Drop> {
 }
 
 impl<'a, 't, S: Sockets, W: Write, E: Write, F: Write + Drop> Mesh<'a, 't, S, W, E, F> {
-    /// New stations of these configs, each with a socket, and no file of frames. In JSON their line
-    /// is printed.
+    /// Returns new stations with these configs, each with a socket, and no file of frames. In JSON
+    /// the line of the stations is printed.
     pub(crate) fn new<'f>(
         alloc: Global,
         configs: &[Config],
@@ -82,11 +82,11 @@ impl<'a, 't, S: Sockets, W: Write, E: Write, F: Write + Drop> Mesh<'a, 't, S, W,
         })
     }
 
-    /// Runs the events, and rounds after each. An event that delivers a frame is passed over, since
-    /// the sockets do that: so each call of the others is made once, in their order, and between
-    /// them what comes by sockets, at the greatest moment so far. With `strict` a call that was
-    /// refused makes the status `Refused`, where it would be `Done`. Where it ends before the last
-    /// event, the calls that were made are a beginning of theirs.
+    /// Runs the events, and rounds after each. An event that delivers a frame is skipped, since the
+    /// sockets do that. Each call of the other events is made once, in order. Between them
+    /// datagrams are received, at the greatest time so far. With `strict` a call that was refused
+    /// changes the status from `Done` to `Refused`. If the run ends before the last event, the
+    /// calls that were made are the first ones.
     pub(crate) fn run<'f>(&mut self, events: Vec<Event>, strict: bool) -> Result<Status, Fault<'f>>
         requires ranges { All (λ event. happenings.IsInRange event.what) events.items }
         ensures status { IfOk result (λ status. status
@@ -125,9 +125,9 @@ impl<'a, 't, S: Sockets, W: Write, E: Write, F: Write + Drop> Mesh<'a, 't, S, W,
         })
     }
 
-    /// Makes a call of a station, notes whether it was refused, prints its line, and sends the
-    /// frame that it gives to each other station. An `Err` where memory ran out, and then the call
-    /// was not made, or where the line or the frame could not be written, and then it was.
+    /// Makes a call of a station, notes whether it was refused, prints its line, and sends its
+    /// frame to each other station. If memory ran out, the call was not made. If the line or the
+    /// frame could not be written, it was made.
     pub(crate) fn call<'f>(
         &mut self,
         station: usize,
@@ -161,7 +161,7 @@ impl<'a, 't, S: Sockets, W: Write, E: Write, F: Write + Drop> Mesh<'a, 't, S, W,
         Ok(())
     }
 
-    /// Writes a frame that a station gave to the file of frames, if there is one.
+    /// Writes a frame that a station sent to the file of frames, if there is one.
     fn record(&mut self, moment: u64, station: usize, frame: &[u8]) -> io::Result<()>
         ensures stations { self.new.stations ≡ self.old.stations }
         ensures refused { self.new.refused ≡ self.old.refused }
@@ -201,7 +201,7 @@ impl<'a, 't, S: Sockets, W: Write, E: Write, F: Write + Drop> Mesh<'a, 't, S, W,
         Ok(entry_of(answer, self.frames))
     }
 
-    /// Prints the line of a call with this word, and notes whether it was refused.
+    /// Prints the line of a call with this keyword, and notes whether it was refused.
     fn print(
         &mut self,
         moment: u64,
@@ -226,8 +226,8 @@ impl<'a, 't, S: Sockets, W: Write, E: Write, F: Write + Drop> Mesh<'a, 't, S, W,
         )
     }
 
-    /// Sends a frame to each other station. A send that fails or would block is reported and passed
-    /// over.
+    /// Sends a frame to each other station. A send that fails or would block is reported, and the
+    /// others are made.
     fn send(&mut self, from: usize, frame: &[u8])
         ensures stations { self.new.stations ≡ self.old.stations }
         ensures refused { self.new.refused ≡ self.old.refused }
@@ -242,7 +242,7 @@ impl<'a, 't, S: Sockets, W: Write, E: Write, F: Write + Drop> Mesh<'a, 't, S, W,
         }
     }
 
-    /// Tells of a socket that failed, and goes on.
+    /// Reports a socket that failed, and goes on.
     pub(crate) fn fail(&mut self, fault: SocketFault)
         ensures stations { self.new.stations ≡ self.old.stations }
         ensures refused { self.new.refused ≡ self.old.refused }
@@ -254,7 +254,7 @@ impl<'a, 't, S: Sockets, W: Write, E: Write, F: Write + Drop> Mesh<'a, 't, S, W,
     }
 }
 
-/// Makes the socket of the station of this number.
+/// Makes the socket of the station with this number.
 fn make_socket<'f, S: Sockets>(sockets: &mut S, number: usize) -> Result<(), MeshFault<'f>> {
     match sockets.make() {
         Ok(()) => Ok(()),

@@ -1,4 +1,4 @@
-//! Rounds in which each socket is asked for what came.
+//! Rounds in which each socket is asked for datagrams.
 
 ghost use Rattle.std.specs.Prelude.{◌≡◌, ℕ, ◌+◌, ◌≤◌, ◌<◌, IfOk, OnOk, List, length};
 ghost use Rattle.its_model.specs.Station.{StationModel};
@@ -13,10 +13,10 @@ use its_linkframe::LONGEST_FRAME;
 use its_station::Call;
 use std::io::Write;
 
-/// The most rounds after an event, and the most datagrams that a socket is asked for in one.
+/// The most rounds after an event, and the most datagrams that a socket is asked for in one round.
 const MOST: u32 = 64;
 
-/// After so many rounds in a row in which nothing came no further one is held.
+/// After this many rounds in a row without a datagram, there is no further round.
 const QUIET: u32 = 4;
 
 /// The longest prefix of a datagram that is read: one octet more than a frame may have, so that
@@ -24,8 +24,7 @@ const QUIET: u32 = 4;
 const LONGEST_READ: usize = LONGEST_FRAME + 1;
 
 impl<'a, 't, S: Sockets, W: Write, E: Write, F: Write + Drop> Mesh<'a, 't, S, W, E, F> {
-    /// Holds rounds until nothing came in four in a row, 64 at most. No call is made but of what
-    /// comes by sockets.
+    /// Holds at most 64 rounds, until four in a row had no datagram. Only datagrams make calls.
     pub(crate) fn rounds<'f>(&mut self) -> Result<(), Fault<'f>>
         ensures received { (models : List StationModel) →
             RepresentStations self.old.stations.items models →
@@ -43,8 +42,7 @@ impl<'a, 't, S: Sockets, W: Write, E: Write, F: Write + Drop> Mesh<'a, 't, S, W,
         Ok(())
     }
 
-    /// Asks each socket in turn. Tells whether anything came. No call is made but of what comes by
-    /// sockets.
+    /// Asks each socket in turn, and returns whether a datagram arrived. Only datagrams make calls.
     fn round<'f>(&mut self) -> Result<bool, Fault<'f>>
         ensures received { (models : List StationModel) →
             RepresentStations self.old.stations.items models →
@@ -61,8 +59,8 @@ impl<'a, 't, S: Sockets, W: Write, E: Write, F: Write + Drop> Mesh<'a, 't, S, W,
         Ok(came)
     }
 
-    /// Asks a station's socket until it would block or fails, or 64 datagrams came, and hands each
-    /// to the station once, at the greatest moment so far. Gives how many came.
+    /// Asks a station's socket until it would block, it fails, or 64 datagrams arrived. Passes each
+    /// to the station once, at the greatest time so far. Returns how many arrived.
     fn ask<'f>(&mut self, station: usize) -> Result<u32, Fault<'f>>
         ensures received { (models : List StationModel) →
             RepresentStations self.old.stations.items models →

@@ -5,7 +5,7 @@ ghost use Rattle.cmd_mesh.specs.Sockets.{FitsBuffer};
 
 use std::io;
 
-/// What came of a send.
+/// The result of a send.
 #[derive(Clone, Copy, Debug, PartialEq, Eq)]
 pub enum Sent {
     Done,
@@ -13,10 +13,11 @@ pub enum Sent {
     Failed,
 }
 
-/// What came of a receive.
+/// The result of a receive.
 #[derive(Clone, Copy, Debug, PartialEq, Eq)]
 pub enum Received {
-    /// A datagram: so many octets at the start of the buffer. What has no room there is cut off.
+    /// A datagram of this many octets, at the start of the buffer. Octets that don't fit are cut
+    /// off.
     Done(usize),
     WouldBlock,
     Failed,
@@ -24,8 +25,8 @@ pub enum Received {
 
 /// A socket for each station, numbered from 0 in the order in which they are made.
 pub trait Sockets {
-    /// What they say of having been asked for so many datagrams. Sockets that don't count may say
-    /// nothing of it.
+    /// What holds for sockets that were asked for this many datagrams. Sockets that don't count may
+    /// say nothing.
     ghost Asked: { Self → ℕ → Type 0 };
 
     /// Makes the socket of the next station. Out of memory is the error of that kind.

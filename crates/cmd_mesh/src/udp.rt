@@ -14,7 +14,7 @@ pub struct UdpSockets<'a, R> {
 }
 
 impl<'a, R: Net> UdpSockets<'a, R> {
-    /// No socket yet.
+    /// Returns the sockets before the first is made.
     pub fn new(rt: &'a R, alloc: Global) -> UdpSockets<'a, R> {
         UdpSockets {
             rt,

@@ -1,8 +1,6 @@
 -- How `view` ends that writes no page.
 use Rattle.cmd_reporting.specs.declared.status.Status.{Status}
 use Rattle.cmd_reporting.specs.declared.status.Status.TheVariants.{Failed, Refused}
-use Rattle.cmd_reporting.specs.declared.fault.WriterFault.{WriterFault}
-use Rattle.cmd_reporting.specs.Statuses.{IsCommandStatus, writer_fault_status}
 use Rattle.sim_runs.specs.Runs.{run_fault_status}
 use Rattle.cmd_page.specs.declared.fault.PageFault.{PageFault}
 use Rattle.cmd_page.specs.declared.fault.PageFault.TheVariants.{NoPage, PartNotRead, Run}
@@ -15,7 +13,3 @@ page_fault_status NoPage = Failed
 page_fault_status (PartNotRead _ _) = Failed
 page_fault_status (TooLarge _) = Refused
 page_fault_status (Run fault) = run_fault_status fault
-
--- the fault that would end the command if it wrote no file
-abbrev pub IsStopped : WriterFault PageFault → Type 0
-IsStopped fault = IsCommandStatus (writer_fault_status page_fault_status fault)

@@ -12,7 +12,7 @@ use std::io;
 use std::io::Write;
 use thiserror::Error;
 
-/// Why the page is not written. Its text is the line on standard error.
+/// Why the page is not written. It prints as its line on standard error.
 #[derive(Debug, Drop, Error)]
 pub(crate) enum PageFault<'a> {
     /// No folder beside the program has the page.
@@ -24,13 +24,13 @@ pub(crate) enum PageFault<'a> {
     /// A run or a street net is larger than a page holds.
     #[error("geostation: {0}")]
     TooLarge(TooLarge<'a>),
-    /// The scenario is not run, or what ends any command.
+    /// The scenario is not run, or a fault that can end any command.
     #[error("{0}")]
     Run(RunFault<'a>),
 }
 
 impl PageFault<'_> {
-    /// The fault of a failed read of a style or a script: out of memory has its own.
+    /// Returns the fault of a failed read of a style or a script. Out of memory has its own.
     pub(crate) fn of_part<'a>(error: &io::Error, path: String) -> PageFault<'a> {
         if error.kind() == io::ErrorKind::OutOfMemory {
             return PageFault::from(AllocError);
@@ -40,6 +40,8 @@ impl PageFault<'_> {
 }
 
 impl CommandFault for PageFault<'_> {
+    type Ending = Status;
+
     ghost use Rattle.cmd_page.specs.Faults.{page_fault_status};
 
     ghost status_of = { page_fault_status };
@@ -54,7 +56,7 @@ impl CommandFault for PageFault<'_> {
         }
     }
 
-    /// The line of a style or a script goes on with the system's reason.
+    /// Adds the system's reason to the line of a style or a script.
     fn report<E: Write>(&self, format: OutputFormat, err: &mut E) {
         let cause = match self {
             PageFault::Run(fault) => return fault.report(format, err),

@@ -1,4 +1,4 @@
-//! Where the page lies.
+//! Finds the folder of the page.
 
 use crate::fault::PageFault;
 use std::alloc::AllocError;
@@ -8,11 +8,11 @@ use std::{env, fs};
 /// The file of the page that names the others.
 const INDEX: &str = "index.html";
 
-/// Where the page lies, seen from the folder of the program: as it is installed, and as in the tree
-/// that the program was built in.
+/// The folders of the page, relative to the folder of the program: in an installation, and in the
+/// tree in which the program was built.
 const BESIDE: [&str; 2] = ["../share/geostation/viewer", "../../../viewer"];
 
-/// Where the page lies.
+/// The place of the page.
 #[derive(Drop)]
 pub(crate) struct PagePlace {
     /// Its folder.
@@ -21,8 +21,8 @@ pub(crate) struct PagePlace {
     pub(crate) index: String,
 }
 
-/// Where the page lies: in the folder that is given, else in the first beside the program that has
-/// it. `NoPage` where none has, `OutOfMemory` where an allocation failed.
+/// Returns the folder of the page: the given one, and without one the first of the known folders
+/// that has the page. `NoPage` if none has it, `OutOfMemory` if an allocation failed.
 pub(crate) fn find_page<'a, R: Files + AllocGlobal>(
     rt: &R,
     given: Option<&str>,
@@ -38,7 +38,8 @@ pub(crate) fn find_page<'a, R: Files + AllocGlobal>(
     Ok(PagePlace { folder, index })
 }
 
-/// The first folder beside the program that has the page. The system tells where the program is.
+/// Returns the first known folder that has the page, relative to the program. The system says where
+/// the program is.
 fn beside_program<R: Files + AllocGlobal>(rt: &R) -> Result<Option<String>, AllocError> {
     let Ok(program) = env::current_exe(rt) else {
         return Ok(None);

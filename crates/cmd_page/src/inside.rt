@@ -1,4 +1,4 @@
-//! The lines of a run as they stand in an element of the page.
+//! The lines of a run, spelled as in an element of the page.
 
 ghost use Rattle.std.specs.Prelude.{◌≡◌, ◌≢◌, ◌≤◌, ◌<◌, All, false, length, take};
 ghost use Rattle.cmd_page.specs.Inside.{spelled};
@@ -9,7 +9,7 @@ use std::io::Write;
 /// How the sign `<` is spelled in a text of JSON.
 const LESS_THAN: &[u8] = b"\\u003c";
 
-/// What is written for the first octets of some.
+/// The spelling of the first octets of a text.
 #[derive(Clone, Copy, Debug, PartialEq, Eq)]
 pub struct Replacement<'a> {
     /// What is written.
@@ -18,11 +18,12 @@ pub struct Replacement<'a> {
     pub taken: usize,
 }
 
-/// What is written for the first octets of these, so that no text of a run ends the element that it
-/// stands in: the octets themselves up to the first sign `<`, and that sign as JSON spells it in a
-/// text, `\u003c`. In lines of JSON the sign stands in texts alone, so they mean the same.
+/// Returns the spelling of the first octets of these, so that no text of a run ends its element of
+/// the page. It is the octets themselves up to the first sign `<`, or for that sign `\u003c`, its
+/// spelling in a JSON string. In lines of JSON the sign occurs only in strings, so the meaning
+/// stays the same.
 ///
-/// - `spelled`: what is written for the octets that it takes is their spelling: the sign `<` as
+/// - `spelled`: what is written for the octets that it replaces is their spelling: the sign `<` as
 ///   `\u003c`, any other octet as it is.
 /// - `signs`: no sign `<` is written.
 pub fn first_piece(octets: &[u8]) -> Replacement<'_>
@@ -47,7 +48,8 @@ pub fn first_piece(octets: &[u8]) -> Replacement<'_>
     }
 }
 
-/// A writer that hands on what it takes, piece by piece, as it stands in an element of a page.
+/// A writer that passes on what is written to it, piece by piece, spelled as in an element of a
+/// page.
 #[derive(Drop)]
 pub struct Inside<'a, W> {
     out: &'a mut W,
@@ -55,7 +57,7 @@ pub struct Inside<'a, W> {
 }
 
 impl<'a, W: Write> Inside<'a, W> {
-    /// One that hands on to this writer, which hasn't failed.
+    /// Returns a writer that passes on to this one, which hasn't failed.
     pub fn new(out: &'a mut W) -> Inside<'a, W>
         ensures { result.has_failed ≡ false }
     {

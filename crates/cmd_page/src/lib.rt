@@ -2,13 +2,13 @@
 //!
 //! # What is proved
 //!
-//! A writer `Inside` passes on what `first_piece` gives of what it takes, piece by piece
+//! A writer `Inside` passes on what `first_piece` returns for what is written to it, piece by piece
 //! (`flat_map`).
 //!
 //! # Only tested
 //!
-//! - `cases/view.md`: what a file is taken for, the name in the page, messages and statuses, the
-//!   largest run and street net.
+//! - `cases/view.md`: how the kind of a file is found, the name in the page, messages and statuses,
+//!   the largest run and street net.
 //! - `checks/viewer`: the whole page, against one that is put together by node; that a browser
 //!   opens it.
 //!

@@ -1,4 +1,4 @@
-//! How large a file may be that a page holds.
+//! How large a file in a page may be.
 
 use cmd_quoting::OneLine;
 use cmd_reporting::is_standard;
@@ -41,7 +41,8 @@ impl Content {
     }
 }
 
-/// A file with more than a page holds. Its text says on which page to drop the file.
+/// A file with more than a page holds. It prints as a sentence that says on which page to drop the
+/// file.
 #[derive(Clone, Copy, Debug, PartialEq, Eq)]
 pub(crate) struct TooLarge<'a> {
     pub(crate) content: Content,
@@ -80,7 +81,7 @@ impl fmt::Display for TooLarge<'_> {
     }
 }
 
-/// A writer that passes on so many octets, and fails at the next one.
+/// A writer that passes on a limited number of octets, and fails at the next one.
 #[derive(Drop)]
 pub(crate) struct Limited<'a, W> {
     out: &'a mut W,
@@ -89,7 +90,7 @@ pub(crate) struct Limited<'a, W> {
 }
 
 impl<'a, W: Write> Limited<'a, W> {
-    /// A writer that passes on to this one as much of this content as a page holds.
+    /// Returns a writer that passes on to this one as much of this content as a page holds.
     pub(crate) fn new(out: &'a mut W, content: Content) -> Limited<'a, W> {
         Limited {
             out,

@@ -3,8 +3,8 @@
 use cmd_reporting::is_standard;
 use std::fmt;
 
-/// The name of a run's file, without its folders. It prints as it stands in an attribute of an
-/// element, and as `standard input` where the file is that.
+/// The name of a run's file, without its folders. It prints as an attribute of an element has it,
+/// and as `standard input` if the file is that.
 #[derive(Clone, Copy)]
 pub(crate) struct ShownName<'a>(pub(crate) &'a str);
 

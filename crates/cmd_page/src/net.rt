@@ -17,8 +17,7 @@ pub(crate) struct Net<'a, F: Drop> {
     reader: BufReader<Opened<F, io::Empty>>,
 }
 
-/// Opens the street net, if one is given. The fault is that it can't be read, or that memory ran
-/// out.
+/// Opens the street net, if one is given. Returns that it can't be read, or that memory ran out.
 pub(crate) fn open_net<'a, R: Files + AllocGlobal>(
     rt: &R,
     way: Way<'a>,

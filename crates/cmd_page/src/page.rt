@@ -1,4 +1,4 @@
-//! The page, its styles and scripts put into it.
+//! Writes the page, with its styles and scripts in it.
 
 use crate::fault::PageFault;
 use crate::folder::path_in;
@@ -23,7 +23,7 @@ pub(crate) struct Page<F: Drop> {
 /// The reader of a file of the page's folder.
 type PageReader<F> = BufReader<Opened<F, io::Empty>>;
 
-/// Opens the page. The fault is that it can't be read, or that memory ran out.
+/// Opens the page. Returns that it can't be read, or that memory ran out.
 pub(crate) fn open_page<'a, R: Files + AllocGlobal>(
     rt: &R,
     way: Way<'a>,
@@ -36,8 +36,8 @@ where
     Ok(Page { reader, line })
 }
 
-/// Writes the lines of the page up to the one in whose place the run stands, or to the last, and
-/// its styles and scripts in place of the lines that name them. Gives whether there is such a line.
+/// Writes the lines of the page up to the one that the run replaces, or to the last. Lines that
+/// name styles and scripts are replaced by these. Returns whether there is a line for the run.
 pub(crate) fn write_up_to_run<'a, R: Files + AllocGlobal, W: Write>(
     rt: &R,
     way: Way<'a>,
@@ -70,7 +70,7 @@ fn write_line<W: Write>(line: &[u8], out: &mut W) -> io::Result<()> {
     out.write_all(b"\n")
 }
 
-/// Writes what stands in a file of the page's folder, as an element of this name.
+/// Writes the content of a file in the page's folder, as an element with this name.
 fn write_element<'a, R: Files + AllocGlobal, W: Write>(
     rt: &R,
     way: Way<'a>,

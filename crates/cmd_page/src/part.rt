@@ -1,24 +1,24 @@
-//! What a line of the page stands for.
+//! What replaces a line of the page.
 
 use std::str;
 
-/// The line in whose place the run stands.
+/// The line that the run replaces.
 const RUN: &[u8] = b"<script type=\"application/jsonl\" id=\"inside\"></script>";
 
-/// What a line of the page stands for.
+/// What replaces a line of the page.
 #[derive(Clone, Copy)]
 pub(crate) enum PagePart<'a> {
-    /// Itself.
+    /// The line itself.
     Text,
-    /// The style in the file of this name.
+    /// The style in the file with this name.
     Style(&'a str),
-    /// The script in the file of this name.
+    /// The script in the file with this name.
     Script(&'a str),
     /// The run.
     Run,
 }
 
-/// What this line of the page stands for.
+/// Returns what replaces this line of the page.
 pub(crate) fn part_of(line: &[u8]) -> PagePart<'_> {
     if line == RUN {
         return PagePart::Run;
@@ -32,7 +32,7 @@ pub(crate) fn part_of(line: &[u8]) -> PagePart<'_> {
     }
 }
 
-/// What stands between such a beginning and such an end of a line.
+/// Returns what is between this beginning and this end of a line, if the line has both.
 fn name_between<'a>(line: &'a [u8], start: &[u8], end: &[u8]) -> Option<&'a str> {
     let name = line.strip_prefix(start)?.strip_suffix(end)?;
     str::from_utf8(name).ok()

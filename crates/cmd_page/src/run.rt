@@ -1,7 +1,6 @@
 //! The run that the page shows.
 
-ghost use Rattle.std.specs.Prelude.{◌≤◌, IfOk, vec_len};
-ghost use Rattle.cmd_reporting.specs.Statuses.{IsCommandStatus};
+ghost use Rattle.std.specs.Prelude.{◌≤◌, vec_len};
 
 use crate::fault::PageFault;
 use crate::inside::Inside;
@@ -37,7 +36,7 @@ pub(crate) enum Shown<'a, R: Drop, M: BufRead + Drop> {
 }
 
 impl<R: Drop, M: BufRead + Drop> Shown<'_, R, M> {
-    /// What a page holds of it.
+    /// Returns what kind of content it is.
     fn content(&self) -> Content {
         match self {
             Shown::Lines(_) => Content::Lines,
@@ -46,9 +45,9 @@ impl<R: Drop, M: BufRead + Drop> Shown<'_, R, M> {
     }
 }
 
-/// What the file of this name is: a scenario if the name ends in `.toml` or the first octet isn't
-/// `{`, otherwise the lines of a run. A scenario is read to its end. The fault is that of the
-/// scenario, or that a read failed or memory ran out.
+/// Finds what the file with this name is: a scenario if the name ends in `.toml` or the first octet
+/// isn't `{`, and otherwise the lines of a run. A scenario is read to its end. Returns the fault of
+/// the scenario, or that a read failed or memory ran out.
 pub(crate) fn shown_of<'a, R: BufRead + Drop, M: BufRead + Drop>(
     alloc: Global,
     file: &'a str,
@@ -70,8 +69,8 @@ fn begins_object<R: BufRead>(reader: &mut R) -> io::Result<bool> {
     Ok(reader.fill_buf()?.first() == Some(&b'{'))
 }
 
-/// Writes the element of the page that has the run. That of a scenario has its notes, if it has an
-/// air. `TooLarge` if the page can't hold it.
+/// Writes the element of the page that has the run. For a scenario with a radio model it has the
+/// notes. `TooLarge` if the page can't hold it.
 pub(crate) fn write_run<'a, R: BufRead + Drop, M: BufRead + Drop, W: Write, E: ProgressWriter>(
     alloc: Global,
     way: Way<'a>,
@@ -79,9 +78,7 @@ pub(crate) fn write_run<'a, R: BufRead + Drop, M: BufRead + Drop, W: Write, E: P
     options: &RunOptions,
     out: &mut W,
     err: &mut E,
-) -> Result<Status, PageFault<'a>>
-    ensures { IfOk result IsCommandStatus }
-{
+) -> Result<Status, PageFault<'a>> {
     let name = ShownName(way.file);
     let begun = writeln!(
         out,
@@ -99,7 +96,7 @@ pub(crate) fn write_run<'a, R: BufRead + Drop, M: BufRead + Drop, W: Write, E: P
     Ok(status)
 }
 
-/// Writes an element without a run, by which the page tells what is too large for it.
+/// Writes an element without a run, which makes the page say what is too large for it.
 pub(crate) fn write_too_large<'a, W: Write>(
     way: Way<'a>,
     fault: TooLarge<'a>,
@@ -122,9 +119,7 @@ fn write_shown<'a, R: BufRead + Drop, M: BufRead + Drop, W: Write, E: ProgressWr
     options: &RunOptions,
     out: &mut W,
     err: &mut E,
-) -> Result<Status, Fault<'a>>
-    ensures { IfOk result IsCommandStatus }
-{
+) -> Result<Status, Fault<'a>> {
     match shown {
         Shown::Lines(reader) => write_lines(way, reader, out),
         Shown::Scenario(runnable) => {
@@ -135,14 +130,12 @@ fn write_shown<'a, R: BufRead + Drop, M: BufRead + Drop, W: Write, E: ProgressWr
     }
 }
 
-/// Writes the lines that the reader gives.
+/// Writes all lines of the reader.
 fn write_lines<'a, R: BufRead + Drop, W: Write>(
     way: Way<'a>,
     reader: R,
     out: &mut W,
-) -> Result<Status, Fault<'a>>
-    ensures { IfOk result IsCommandStatus }
-{
+) -> Result<Status, Fault<'a>> {
     let mut reader = reader;
     let mut inside = Inside::new(out);
     match copy(&mut reader, &mut inside) {
@@ -162,7 +155,6 @@ fn write_lines_of<'a, W: Write, E: ProgressWriter>(
     err: &mut E,
 ) -> Result<Status, Fault<'a>>
     requires { vec_len scenario.now.stations ≤ 65535 }
-    ensures { IfOk result IsCommandStatus }
 {
     let options = lines_options(options, scenario.timeline.air().is_some());
     let mut inside = inside_of(way, out, err);
@@ -182,9 +174,7 @@ fn write_moved<'a, M: BufRead + Drop, W: Write, E: ProgressWriter>(
     options: &RunOptions,
     out: &mut W,
     err: &mut E,
-) -> Result<Status, Fault<'a>>
-    ensures { IfOk result IsCommandStatus }
-{
+) -> Result<Status, Fault<'a>> {
     // Moves need an air.
     let options = lines_options(options, true);
     let mut inside = inside_of(way, out, err);
@@ -195,7 +185,7 @@ fn write_moved<'a, M: BufRead + Drop, W: Write, E: ProgressWriter>(
     ran
 }
 
-/// How a scenario is run for the page.
+/// Returns the options with which a scenario is run for the page.
 fn lines_options(options: &RunOptions, has_air: bool) -> RunOptions {
     RunOptions {
         summary: false,
@@ -204,7 +194,7 @@ fn lines_options(options: &RunOptions, has_air: bool) -> RunOptions {
     }
 }
 
-/// To where a run prints its lines: into an element of the page.
+/// Returns the streams of a run that prints its lines into an element of the page.
 fn inside_of<'o, W: Write, E: ProgressWriter>(
     way: Way<'_>,
     out: &'o mut W,

@@ -1,9 +1,8 @@
 //! The command `view`.
 
-ghost use Rattle.std.specs.Prelude.{◌≡◌, IfErr, IfOk, IsOk, true};
+ghost use Rattle.std.specs.Prelude.{◌≡◌, ◌≢◌, IfErr, IsOk, true};
 ghost use Rattle.cmd_reporting.specs.FileNames.{is_standard as names_standard};
-ghost use Rattle.cmd_reporting.specs.Statuses.{IsCommandStatus};
-ghost use Rattle.cmd_page.specs.Faults.{IsStopped};
+ghost use Rattle.cmd_reporting.specs.Statuses.{IsStopped};
 
 use crate::fault::PageFault;
 use crate::folder::find_page;
@@ -14,8 +13,8 @@ use crate::run::{Shown, shown_of, write_run, write_too_large};
 use crate::way::Way;
 use cmd_quoting::OneLine;
 use cmd_reporting::{
-    Destination, Fault, Io, NamedFile, Opened, OutputFault, ProgressWriter, Status, WriterFault,
-    create, create_output, is_standard, open, refuse_same,
+    Destination, ExitStatus, Fault, Io, NamedFile, Opened, OutputFault, ProgressWriter, Status,
+    WriterFault, create, create_output, is_standard, open, refuse_same,
 };
 use sim_runs::{ResultFiles, RunFault, RunFiles, RunOptions, RunReader, read_inputs};
 use std::io::{BufRead, BufReader, Read, Write};
@@ -35,35 +34,37 @@ pub struct Viewing<'a> {
     pub moves: Option<&'a str>,
     /// The name of the street net beneath the run, if there is one: `net.xml` of SUMO, or GeoJSON.
     pub net: Option<&'a str>,
-    /// How a scenario is run: its lines are those in JSON, with the notes of an air.
+    /// How a scenario is run: its lines are in JSON, with the notes of a radio model.
     pub options: RunOptions,
 }
 
 /// Writes the page that shows a run, with its styles, its scripts and the run in it, as one file
-/// that a browser opens from wherever it lies. A file whose name ends in `.toml`, or that doesn't
-/// begin with `{`, is a scenario, which is run, and so is any file with `moves`; any other is the
-/// lines that `sim --json` printed, which are taken as they are. No more of a run is kept than a
-/// buffer of its octets.
+/// that a browser can open from any folder. A file whose name ends in `.toml`, or that doesn't
+/// begin with `{`, is a scenario, which is run. So is any file with `moves`. Any other file has
+/// lines that `sim --json` printed, which are copied. Only a buffer of a run is kept in memory.
 ///
-/// `BadArguments` if the file that would be written is one that is read. `Refused` for a text that
-/// is no scenario and for a bad first line of moves, before anything is written, for a later bad
-/// line, and if something isn't met that the scenario expects. `Refused` too for a run of more than
-/// 400 MB and a net of more than 100 MB: the page is written without them then, and tells how to
-/// open them; what went to standard output isn't taken back. `Failed` if a file could not be read,
-/// created or written or memory ran out, and if no page is found.
+/// Its status can be:
+///
+/// - `BadArguments` if the file to write is one that is read.
+/// - `Refused` for a text that is not a scenario and for a bad first line of moves, before anything
+///   is written, for a later bad line, and if an expectation isn't met.
+/// - `Refused` for a run of more than 400 MB and a net of more than 100 MB. The page is then
+///   written without them, and says how to open them. What was written to standard output stays.
+/// - `Failed` if a file could not be read, created or written, memory ran out, or no page was
+///   found.
 pub fn view_file<R: Files + AllocGlobal, I: Read + Drop, W: Write, E: ProgressWriter>(
     rt: &R,
     viewing: &Viewing<'_>,
     input: I,
     io: &mut Io<W, E>,
-) -> Status
+) -> ExitStatus
 where
     R::File: Read + Write + Drop,
-    ensures { names_standard viewing.now.target.now ≡ true → IsCommandStatus result }
+    ensures { names_standard viewing.now.target.now ≡ true → result ≢ ExitStatus.BadArguments }
 {
     let place = match find_page(rt, viewing.viewer) {
         Ok(place) => place,
-        Err(fault) => return io.status_of(Err(fault)),
+        Err(fault) => return ExitStatus::from(io.status_of(Err(fault))),
     };
     let way = Way {
         folder: place.folder.as_str(),
@@ -78,9 +79,9 @@ where
     io.status_of(ended)
 }
 
-/// Opens what is read, and only then creates the file, if the page isn't written to standard output;
-/// says how that file is opened. If the run or the net is too large, the file is written once more
-/// without them.
+/// Opens what is read, and only then creates the file, unless the page is written to standard
+/// output. Says how to open that file. If the run or the net is too large, the file is written once
+/// more without them.
 fn view_to<'a, R: Files + AllocGlobal, I: Read + Drop, W: Write, E: ProgressWriter>(
     rt: &R,
     way: Way<'a>,
@@ -90,7 +91,6 @@ fn view_to<'a, R: Files + AllocGlobal, I: Read + Drop, W: Write, E: ProgressWrit
 ) -> Result<Status, WriterFault<'a, PageFault<'a>>>
 where
     R::File: Read + Write + Drop,
-    ensures status { IfOk result IsCommandStatus }
     ensures alone { names_standard way.entry.target.now ≡ true → IfErr result IsStopped }
 {
     let viewed = open_viewed(rt, way, options, input)?;
@@ -179,7 +179,7 @@ where
     Ok(Shown::Moved(read_inputs(rt, &files, input, options)?))
 }
 
-/// Writes the page with the run and the net in it. `CannotRead` if it has no place for a run.
+/// Writes the page with the run and the net in it. `CannotRead` if the page has no line for a run.
 fn write_page<
     'a,
     R: Files + AllocGlobal,
@@ -197,7 +197,6 @@ fn write_page<
 ) -> Result<Status, PageFault<'a>>
 where
     R::File: Read + Write + Drop,
-    ensures { IfOk result IsCommandStatus }
 {
     let Viewed {
         mut page,
@@ -213,7 +212,7 @@ where
     Ok(status)
 }
 
-/// Writes the page up to the place of its run. `CannotRead` if it has none.
+/// Writes the page up to the line for its run. `CannotRead` if it has none.
 fn write_start<'a, R: Files + AllocGlobal, W: Write>(
     rt: &R,
     way: Way<'a>,
@@ -230,7 +229,7 @@ where
     }
 }
 
-/// Creates the file once more, and writes the page without a run to it, which tells what is too
+/// Creates the file once more, and writes the page without a run to it, which says what is too
 /// large.
 fn write_without_run<'a, R: Files + AllocGlobal>(
     rt: &R,

@@ -25,8 +25,8 @@ pub(crate) struct Way<'a> {
 }
 
 impl<'a> Way<'a> {
-    /// The fault of a file with more content than a page holds. It can be dropped on the page that
-    /// is written, or on the empty one if that is standard output.
+    /// Returns the fault of a file with more content than a page holds. The file can be dropped on
+    /// the page that is written, or on the empty page if that is standard output.
     pub(crate) fn too_large(self, content: Content, file: &'a str) -> TooLarge<'a> {
         let page = if is_standard(self.target) {
             self.index
@@ -46,7 +46,8 @@ impl<'a> Way<'a> {
     }
 }
 
-/// The fault of a failed write to the file of this name: for standard output there is no line.
+/// Returns the fault of a failed write to the file with this name. For standard output there is no
+/// line.
 pub(crate) fn fault_of<'a>(error: &io::Error, target: &'a str) -> Fault<'a> {
     if is_standard(target) {
         Fault::of_target(target)
@@ -64,7 +65,7 @@ pub(crate) enum CopyError {
     Write(io::Error),
 }
 
-/// Writes all that the reader gives.
+/// Writes all octets of the reader.
 pub(crate) fn copy<R: BufRead, W: Write>(reader: &mut R, out: &mut W) -> Result<(), CopyError> {
     // The range is there so that the copying ends on any reader.
     for _ in 0..u64::MAX {

@@ -3,8 +3,8 @@ use Rattle.std.proofs.Common.{◌≡◌, ℕ, List, [], ◌∷◌, ◌++◌, ◌
 use Rattle.std.proofs.Common.{refl, sym, ap, subst, ◌∙◌, arith, length-append}
 use Rattle.std.specs.Prelude.{Option, Result, IfOk, OnOk}
 use Rattle.std.proofs.lemmas.List.{append_assoc, append-nil}
-use Rattle.cmd_pipe.specs.declared.ended.Ended.{Ended}
-use Rattle.cmd_pipe.specs.declared.ended.Ended.TheVariants as ends
+use Rattle.cmd_reporting.specs.declared.status.Status.{Status}
+use Rattle.cmd_reporting.specs.declared.status.Status.TheVariants as statuses
 use Rattle.its_unit.specs.Unit.{RepresentsUnit, UnitModel, UnitState}
 use Rattle.its_lines.specs.Lines.{LineText}
 use Rattle.cmd_pipe.specs.Lines.{AreLines}
@@ -87,8 +87,8 @@ one_told s n line same answer old new is rep tells reps =
     )
 
 -- of a line something was told
-pub line_told : {E : Type 0} (r : Result Ended E) (s : CountedUnit) (n : ℕ) (line : LineText)
-    (log : List Response) (t : Response) (st : UnitState) (before : Ended)
+pub line_told : {E : Type 0} (r : Result Status E) (s : CountedUnit) (n : ℕ) (line : LineText)
+    (log : List Response) (t : Response) (st : UnitState) (before : Status)
     (Took : List Response → Type 0)
     → (next : CountedUnit) × TellsOne s n line (t ∷ []) next × IsCounted st next
     → before ≡ ended_of log → OnOk r (Took (log ++ t ∷ []))
@@ -107,7 +107,7 @@ line_told (Ok ended) s n line log t st before Took tells was took is =
 
 -- of a line nothing was told
 pub line_quiet : (s : CountedUnit) (n : ℕ) (line : LineText) (log : List Response)
-    (st : UnitState) (ended : Ended) (Took : List Response → Type 0)
+    (st : UnitState) (ended : Status) (Took : List Response → Type 0)
     → (next : CountedUnit) × TellsOne s n line [] next × IsCounted st next
     → ended ≡ ended_of log → Took log → IsServedLine s n line log st ended Took
 line_quiet s n line log st ended Took tells was took =
@@ -121,7 +121,7 @@ line_quiet s n line log st ended Took tells was took =
     }
 
 -- so many lines were served, and the next is line n
-pub record Serving (s : CountedUnit) (n : ℕ) (st : UnitState) (ended : Ended)
+pub record Serving (s : CountedUnit) (n : ℕ) (st : UnitState) (ended : Status)
     (Took : List Response → Type 0) (input left : Option (List ℕ)) : Type 0 where
   pub served : IsServed s st ended Took None
   pub count : 1 + length served.lines ≡ n
@@ -130,7 +130,7 @@ pub record Serving (s : CountedUnit) (n : ℕ) (st : UnitState) (ended : Ended)
 pub serving_none : (s : CountedUnit) (st : UnitState)
     (Took : List Response → Type 0) (input : Option (List ℕ))
     → IsCounted st s → Took []
-    → Serving s 1 st ends.Done Took input input
+    → Serving s 1 st statuses.Done Took input input
 serving_none s st Took input rep took =
     record {
       served = record {
@@ -148,7 +148,7 @@ serving_none s st Took input rep took =
     }
 
 pub serving_more : (s : CountedUnit) (n : ℕ) (st next : UnitState)
-    (ended then : Ended) (Took TookThen : List Response → Type 0) (line : LineText)
+    (ended then : Status) (Took TookThen : List Response → Type 0) (line : LineText)
     (input left rest : Option (List ℕ)) (serving : Serving s n st ended Took input left)
     → (AreBefore input left serving.served.lines
     → AreBefore input rest (serving.served.lines ++ line ∷ []))
@@ -176,7 +176,7 @@ serving_more s n st next ended then Took TookThen line input left rest serving
     }
 
 -- the input has no further line
-pub serving_all : (s : CountedUnit) (n : ℕ) (st : UnitState) (ended : Ended)
+pub serving_all : (s : CountedUnit) (n : ℕ) (st : UnitState) (ended : Status)
     (Took : List Response → Type 0) (input left : Option (List ℕ))
     (serving : Serving s n st ended Took input left)
     → (AreBefore input left serving.served.lines → AreLines input serving.served.lines)

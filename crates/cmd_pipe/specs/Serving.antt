@@ -1,8 +1,8 @@
 -- What is answered to the lines of the input, and the station afterwards.
 use Rattle.std.specs.Prelude.{◌≡◌, ◌++◌, ◌∷◌, ◌+◌, [], ℕ, List, Option, Some, None, false}
 use Rattle.std.specs.Option.{option_map}
-use Rattle.cmd_pipe.specs.declared.ended.Ended.{Ended}
-use Rattle.cmd_pipe.specs.declared.ended.Ended.TheVariants as ends
+use Rattle.cmd_reporting.specs.declared.status.Status.{Status}
+use Rattle.cmd_reporting.specs.declared.status.Status.TheVariants as statuses
 use Rattle.cmd_pipe.specs.Lines.{AreLines}
 use Rattle.its_lines.specs.Lines.{LineText}
 use Rattle.its_lines.specs.Within.{TellsLine}
@@ -52,35 +52,29 @@ TellsLines s n (line ∷ lines) told end =
     × TellsOne s n line first mid × TellsLines mid (n + 1) lines rest end
 
 -- refused where a line could not be read
-abbrev pub ended_of : List Response → Ended
-ended_of [] = ends.Done
+abbrev pub ended_of : List Response → Status
+ended_of [] = statuses.Done
 ended_of (responses.Reply id at source due cancelled reply ∷ told) = ended_of told
 ended_of (responses.Released id at frame ∷ told) = ended_of told
 ended_of (responses.Repeated id at ∷ told) = ended_of told
 ended_of (responses.OverRate id at ∷ told) = ended_of told
 ended_of (responses.NotAllowed id at ∷ told) = ended_of told
 ended_of (responses.Known id at known ∷ told) = ended_of told
-ended_of (responses.Fault id line fault ∷ told) = ends.Refused
+ended_of (responses.Fault id line fault ∷ told) = statuses.Refused
 
 -- the same after one more
-abbrev pub then_ended : Ended → Response → Ended
+abbrev pub then_ended : Status → Response → Status
 then_ended ended (responses.Reply id at source due cancelled reply) = ended
 then_ended ended (responses.Released id at frame) = ended
 then_ended ended (responses.Repeated id at) = ended
 then_ended ended (responses.OverRate id at) = ended
 then_ended ended (responses.NotAllowed id at) = ended
 then_ended ended (responses.Known id at known) = ended
-then_ended ended (responses.Fault id line fault) = ends.Refused
-
--- the number with which the process ends
-abbrev pub exit_code : Ended → ℕ
-exit_code ends.Done = 0
-exit_code ends.Refused = 1
-exit_code ends.Failed = 3
+then_ended ended (responses.Fault id line fault) = statuses.Refused
 
 -- Line n was served by a station that was this one, after others to which this was answered.
 pub record IsServedLine (s : CountedUnit) (n : ℕ) (line : LineText) (log : List Response)
-    (st : UnitState) (ended : Ended) (Took : List Response → Type 0)
+    (st : UnitState) (ended : Status) (Took : List Response → Type 0)
     : Type 0 where
   pub told : List Response
   pub after : CountedUnit
@@ -91,7 +85,7 @@ pub record IsServedLine (s : CountedUnit) (n : ℕ) (line : LineText) (log : Lis
 
 -- A station that was this one has served the lines of the input: what was answered to them, in
 -- order, was taken, and it represents the station of the model after the calls of these lines.
-pub record IsServed (s : CountedUnit) (st : UnitState) (ended : Ended)
+pub record IsServed (s : CountedUnit) (st : UnitState) (ended : Status)
     (Took : List Response → Type 0) (input : Option (List ℕ)) : Type 0 where
   pub lines : List LineText
   pub lines_are : AreLines input lines
@@ -122,7 +116,7 @@ beginning config rule governor =
 
 -- A unit without limits that began as the config says has served the lines of the input, and ended by what
 -- was answered to them, in order.
-pub record ServesInput (config : Config) (rule : Option ContentionRule) (ended : Ended)
+pub record ServesInput (config : Config) (rule : Option ContentionRule) (ended : Status)
     (input : Option (List ℕ)) : Type 0 where
   pub governor : Governor
   pub limits_are : IsNewGovernor no_limits governor

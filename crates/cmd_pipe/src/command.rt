@@ -1,4 +1,4 @@
-//! The command.
+//! The command `station`.
 
 ghost use Rattle.std.specs.Prelude.{◌≡◌, IfOk, None};
 ghost use Rattle.its_model.specs.Station.{new_station};
@@ -10,10 +10,10 @@ ghost use Rattle.std.specs.Option.{option_map};
 ghost use Rattle.its_contention.specs.Buffer.{empty};
 ghost use Rattle.its_governor.specs.Governing.{IsNewGovernor};
 
-use crate::ended::Ended;
 use crate::fault::PipeFault;
 use crate::printer::Printer;
 use crate::serving::serve;
+use cmd_reporting::Status;
 use its_contention::ContentionRule;
 use its_gnvalue::NoMemory;
 use its_governor::Limits;
@@ -24,32 +24,33 @@ use its_world::Config;
 use std::alloc::Global;
 use std::io::{BufReader, Read, Write};
 
-/// Runs one station, as `run_contending_station` does, which doesn't contend.
+/// Runs one station that doesn't contend, as `run_contending_station` does.
 pub fn run_station<R: Read + Drop, W: Write, E: Write>(
     alloc: Global,
     config: &Config,
     input: R,
     out: &mut W,
     err: &mut E,
-) -> Ended
+) -> Status
     requires { IsConfig config.now }
-    ensures { ¬ (result ≡ Ended.Failed) →
+    ensures { ¬ (result ≡ Status.Failed) →
         ServesInput config.now None result (R.remaining input) }
 {
     run_contending_station(alloc, config, None, input, out, err)
 }
 
-/// Runs one station, which begins as the config says, on the lines of the input. If a rule is given, it
-/// contends by this rule. What is answered to a line is written on `out` as one line, and flushed,
-/// before the next is read. Where the octets of the input are known the lines are all of its own, in
-/// order.
+/// Runs one station, which begins as the config says, on the lines of the input. If a rule is
+/// given, it contends by this rule. The answer to a line is written to `out` as one line, and
+/// flushed, before the next line is read. If the octets of the input are known, all its lines are
+/// answered, in order.
 ///
-/// `Refused` where a line could not be read, `Failed` where the input could not be read, `out` not
-/// be written, or memory ran out. The line of a fault is written on `err`.
+/// `Refused` if a line could not be read. `Failed` if the input could not be read, `out` could not
+/// be written, or memory ran out. The line of a fault is written to `err`.
 ///
-/// - its clause (`ServesInput`): unless it ends with 3, what is answered to the lines of the input
-///   (all of them, if its octets are known) is what the unit of the model answers past its limits that
-///   begins as the config says. It ends with 1 if one of these answers is a fault, otherwise with 0.
+/// - its clause (`ServesInput`): unless the status is `Failed`, the answers to the lines of the
+///   input (all of them, if its octets are known) are those of the unit of the model that begins as
+///   the config says, without limits. The status is `Refused` if one of these answers is a fault,
+///   otherwise `Done`.
 pub fn run_contending_station<R: Read + Drop, W: Write, E: Write>(
     alloc: Global,
     config: &Config,
@@ -57,15 +58,15 @@ pub fn run_contending_station<R: Read + Drop, W: Write, E: Write>(
     input: R,
     out: &mut W,
     err: &mut E,
-) -> Ended
+) -> Status
     requires { IsConfig config.now }
-    ensures { ¬ (result ≡ Ended.Failed) → ServesInput config.now rule result (R.remaining input) }
+    ensures { ¬ (result ≡ Status.Failed) → ServesInput config.now rule result (R.remaining input) }
 {
     match serve_input(alloc, config, rule, input, out) {
         Ok(ended) => ended,
         Err(fault) => {
             fault.report(err);
-            Ended::Failed
+            Status::Failed
         }
     }
 }
@@ -77,7 +78,7 @@ fn serve_input<R: Read + Drop, W: Write>(
     rule: Option<ContentionRule>,
     input: R,
     out: &mut W,
-) -> Result<Ended, PipeFault>
+) -> Result<Status, PipeFault>
     requires { IsConfig config.now }
     ensures { IfOk result (λ ended. ServesInput config.now rule ended (R.remaining input)) }
 {
@@ -87,7 +88,7 @@ fn serve_input<R: Read + Drop, W: Write>(
     serve(alloc, &mut unit, &mut reader, &mut printer)
 }
 
-/// A unit without limits to which nothing happened yet, and which contends by this rule, or doesn't.
+/// Returns a new unit without limits, which contends by this rule, if one is given.
 fn begin(
     alloc: Global,
     config: &Config,

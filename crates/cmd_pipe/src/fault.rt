@@ -1,4 +1,4 @@
-//! What ends a station on a pipe before its input ends.
+//! Faults that end a station on a pipe before its input ends.
 
 use its_gnvalue::NoMemory;
 use its_words::json_lines::JsonFault;
@@ -7,7 +7,7 @@ use std::io;
 use std::io::Write;
 use thiserror::Error;
 
-/// Why a station on a pipe ended before its input did. Its text is the line on standard error.
+/// Why a station on a pipe ended before its input did. It prints as its line on standard error.
 #[derive(Debug, Drop, Error)]
 pub enum PipeFault {
     /// A read of the input failed.

@@ -1,6 +1,6 @@
 //! The command `station`: one station on a pipe. It reads JSON lines and answers each with one JSON
-//! line, which is written before the next line is read, so that a test bench of any language drives
-//! a station and keeps its clock. Each line makes one call of the station, or asks what it knows
+//! line, which is written before the next line is read. So a test bench in any language can drive a
+//! station and control its clock. Each line makes one call of the station, or queries its state
 //! (`its_lines`).
 //!
 //! # What is proved
@@ -16,14 +16,12 @@
 #![tactic(auto)]
 
 mod command;
-mod ended;
 mod fault;
 mod printer;
 mod serving;
 mod sink;
 
 pub use command::{run_contending_station, run_station};
-pub use ended::Ended;
 pub use fault::PipeFault;
 pub use printer::Printer;
 pub use serving::serve;

@@ -6,9 +6,9 @@ ghost use Rattle.cmd_pipe.specs.Lines.{text_of};
 ghost use Rattle.cmd_pipe.specs.Serving.{CountedUnit, IsCounted, IsServed, IsServedLine};
 ghost use Rattle.cmd_pipe.specs.Serving.{ended_of, then_ended};
 
-use crate::ended::Ended;
 use crate::fault::PipeFault;
 use crate::sink::ResponseSink;
+use cmd_reporting::Status;
 use cmd_text::lines::Line;
 use its_lines::{LONGEST_LINE, Response, answer_input_line};
 use its_loctable::SortedTable;
@@ -23,22 +23,23 @@ use std::io::BufRead;
 /// ran out: then no further line is read.
 ///
 /// - its clause (`IsServed`): if the octets of the reader are known, the lines that are answered
-///   are exactly its lines, of one of more than 65536 octets the first 65536 (`AreLines`), in
-///   order, each once, numbered from 1. A line that asks for a call is one step of the unit past its
-///   limits, at the time and with the frame or the keys in it (`SaysCall`); the answer is that step's,
-///   and is counted. So is a release. A query is answered as the station knows it (`TellsQuery`). A
-///   query and any other line change nothing. The unit is one of the model throughout.
+///   are exactly its lines, in order, each once, numbered from 1. A longer line than 65536 octets
+///   counts with its first 65536 (`AreLines`). A line that asks for a call is one step of the unit
+///   without limits, at the time and with the frame or the keys in it (`SaysCall`). The answer is
+///   that step's, and is counted. The same holds for a release. A query is answered by the
+///   station's state (`TellsQuery`). A query and any other line change nothing. The unit is always
+///   one of the model.
 pub fn serve<R: BufRead, S: ResponseSink>(
     alloc: Global,
     unit: &mut Unit<SortedTable>,
     reader: &mut R,
     sink: &mut S,
-) -> Result<Ended, PipeFault>
+) -> Result<Status, PipeFault>
     ensures { (s : CountedUnit) → IsCounted unit.old s → S.Took sink.old [] →
         IfOk result (λ ended. IsServed s unit.new ended (S.Took sink.new) (R.remaining reader.old)) }
 {
     let mut line = Line::new(alloc, LONGEST_LINE)?;
-    let mut ended = Ended::Done;
+    let mut ended = Status::Done;
     // The range is there so that the walk ends on any reader.
     for number in 1..u64::MAX {
         if !line
@@ -61,8 +62,8 @@ fn serve_line<S: ResponseSink>(
     number: u64,
     line: &Line,
     sink: &mut S,
-    ended: Ended,
-) -> Result<Ended, PipeFault>
+    ended: Status,
+) -> Result<Status, PipeFault>
     ensures { (s : CountedUnit) (log : List ToldLine) → IsCounted unit.old s
         → S.Took sink.old log → ended ≡ ended_of log → IfOk result (λ next.
         IsServedLine s number (text_of line.now) log unit.new next (S.Took sink.new)) }
@@ -77,8 +78,8 @@ fn serve_line<S: ResponseSink>(
 fn hand_on<S: ResponseSink>(
     response: Response,
     sink: &mut S,
-    ended: Ended,
-) -> Result<Ended, PipeFault>
+    ended: Status,
+) -> Result<Status, PipeFault>
     ensures took { (log : List ToldLine) → S.Took sink.old log
         → OnOk result (S.Took sink.new (log ++ response ∷ [])) }
     ensures ended { IfOk result (λ next. next ≡ then_ended ended response) }
@@ -89,7 +90,7 @@ fn hand_on<S: ResponseSink>(
 }
 
 /// Returns how a station ends after the answer to one more line.
-fn ended_after(ended: Ended, response: &Response) -> Ended
+fn ended_after(ended: Status, response: &Response) -> Status
     ensures { result ≡ then_ended ended response.now }
 {
     match response {
@@ -99,6 +100,6 @@ fn ended_after(ended: Ended, response: &Response) -> Ended
         | Response::OverRate { .. }
         | Response::NotAllowed { .. }
         | Response::Known { .. } => ended,
-        Response::Fault { .. } => Ended::Refused,
+        Response::Fault { .. } => Status::Refused,
     }
 }

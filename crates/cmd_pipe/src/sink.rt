@@ -1,4 +1,4 @@
-//! Where the answers to the lines of an input go.
+//! The sink of the answers to the lines of an input.
 
 use crate::fault::PipeFault;
 use its_lines::Response;
@@ -8,7 +8,7 @@ pub trait ResponseSink {
     ghost use Rattle.std.specs.Prelude.{◌++◌, ◌∷◌, [], List, OnOk};
     ghost use Rattle.its_lines.specs.declared.response.Response.{Response};
 
-    /// What the sink says of having taken these answers, in order. A sink that keeps none may say
+    /// What holds for a sink that took these answers, in order. A sink that keeps none may say
     /// nothing.
     ghost Took: { Self → List Response → Type 0 };
 

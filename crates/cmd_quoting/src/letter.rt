@@ -1,9 +1,9 @@
-//! A letter of a text from outside.
+//! A character of a text from outside.
 
 use std::fmt;
 
-/// Writes a letter of a text from outside. A backslash is doubled, and a letter that could begin a
-/// line or change the order of its letters is written by its number, as `\u000a`.
+/// Writes a character of a text from outside. A backslash is doubled. A character that could begin
+/// a line or change the direction of text is written by its number, for example `\u000a`.
 pub(crate) fn write_letter<W: fmt::Write>(f: &mut fmt::Formatter<W>, letter: char) -> fmt::Result {
     match letter {
         '\\' => f.write_str("\\\\"),
@@ -12,8 +12,8 @@ pub(crate) fn write_letter<W: fmt::Write>(f: &mut fmt::Formatter<W>, letter: cha
     }
 }
 
-/// Whether a letter is a control character, a separator of lines or paragraphs, or a mark of the
-/// direction in which text runs.
+/// Whether a character is a control character, a separator of lines or paragraphs, or a mark of the
+/// direction of text.
 fn is_hidden(letter: char) -> bool {
     matches!(
         letter as u32,

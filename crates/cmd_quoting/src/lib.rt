@@ -1,10 +1,10 @@
-//! How a message shows a text from outside: a name, a path or a value of a file or an argument. It
-//! stays on the line that it is in, and what is shown says which text it is.
+//! How a message shows a text from outside: a name, a path or a value of a file or an argument. The
+//! text stays on its line, and different texts print differently.
 //!
 //! # What is proved
 //!
-//! `OneLine` and `Quoted` print a text from outside. No call takes memory, and no clause speaks of
-//! what is printed.
+//! `OneLine` and `Quoted` print a text from outside. No call allocates memory. No clause says what
+//! is printed.
 //!
 //! # Only tested
 //!

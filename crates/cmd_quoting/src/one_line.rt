@@ -3,9 +3,9 @@
 use crate::letter::write_letter;
 use std::fmt;
 
-/// A name, a path or a key from outside, as a line shows it. It prints as it is, but for a backslash,
-/// which is doubled, and for control characters, separators of lines and marks of direction, which are
-/// written by their number: `a\u000ab`.
+/// A name, a path or a key from outside, as a line shows it. It prints as it is, except that a
+/// backslash is doubled, and that control characters, separators of lines and marks of direction
+/// are written by their number: `a\u000ab`.
 #[derive(Clone, Copy, Debug, PartialEq, Eq)]
 pub struct OneLine<'a>(pub &'a str);
 

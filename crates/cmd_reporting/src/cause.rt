@@ -2,13 +2,13 @@
 
 use std::{fmt, io};
 
-/// Why a call of the system failed: its number of the error. It prints as the system has it, in
-/// lower case: `no such file or directory`.
+/// Why a call of the system failed: the number of the error. It prints as the system's words in
+/// lower case, for example `no such file or directory`.
 #[derive(Clone, Copy, Debug, PartialEq, Eq)]
 pub struct Cause(i32);
 
 impl Cause {
-    /// That of an error, where it is the system's own.
+    /// Returns the cause of an error, if it is one of the system's.
     pub fn of(error: &io::Error) -> Option<Cause> {
         match error.raw_os_error() {
             Some(number) => Some(Cause(number)),
@@ -16,7 +16,7 @@ impl Cause {
         }
     }
 
-    /// The words of Linux for what a call on a file gives; none for another number.
+    /// Returns the words of Linux for an error of a call on a file. `None` for another number.
     fn words(self) -> Option<&'static str> {
         match self.0 {
             1 => Some("operation not permitted"),

@@ -1,4 +1,4 @@
-//! What a command prints to, and how it ends.
+//! The streams of a command, and how it ends.
 
 ghost use Rattle.std.specs.Prelude.{◌≡◌, MatchResult};
 
@@ -7,7 +7,7 @@ use crate::options::OutputFormat;
 use crate::status::Status;
 use std::io::Write;
 
-/// What a command prints to, and how.
+/// The streams to which a command prints, and the format.
 #[derive(Drop)]
 pub struct Io<W, E> {
     /// Standard output.
@@ -20,15 +20,16 @@ pub struct Io<W, E> {
 }
 
 impl<W, E: Write> Io<W, E> {
-    /// The exit status of a command that ended so. A fault has its line on standard error, which
-    /// goes on with the reason where `explain` is set.
-    pub fn status_of<F: CommandFault + Drop>(&mut self, ended: Result<Status, F>) -> Status
+    /// Returns the exit status of a command that ended as `ended` says: an `ExitStatus` if its
+    /// arguments may be refused, otherwise a `Status`. A fault is printed as its line on standard
+    /// error, with the reason if `explain` is set.
+    pub fn status_of<F: CommandFault + Drop>(&mut self, ended: Result<Status, F>) -> F::Ending
         ensures { MatchResult ended
-            (λ status. result ≡ status)
+            (λ status. F.Ending.from_gives status result)
             (λ fault. result ≡ F.status_of fault) }
     {
         match ended {
-            Ok(status) => status,
+            Ok(status) => F::Ending::from(status),
             Err(fault) => {
                 fault.report(self.format, &mut self.err);
                 fault.status()

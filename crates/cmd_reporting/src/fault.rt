@@ -1,11 +1,11 @@
-//! What ends a command before it is done.
+//! Faults that end a command before it is done.
 
 ghost use Rattle.std.specs.Prelude.{◌≡◌};
 
 use crate::cause::Cause;
 use crate::options::OutputFormat;
 use crate::outputs::{OutputFault, is_standard};
-use crate::status::Status;
+use crate::status::{ExitStatus, Status};
 use cmd_quoting::OneLine;
 use its_gnvalue::NoMemory;
 use its_words::frames::Explanation;
@@ -18,21 +18,22 @@ use thiserror::Error;
 
 /// Why a command ended before it was done: it has an exit status, and a line on standard error.
 pub trait CommandFault {
-    ghost use Rattle.cmd_reporting.specs.declared.status.Status.{Status};
+    /// The type of the exit status: `ExitStatus` if arguments may be at fault, otherwise `Status`.
+    type Ending: From<Status>;
 
     /// The exit status of a command that it ends.
-    ghost status_of: { Self → Status };
+    ghost status_of: { Self → Self.Ending };
 
-    /// The exit status of a command that it ends.
-    fn status(&self) -> Status
+    /// Returns the exit status of a command that it ends.
+    fn status(&self) -> Self::Ending
         ensures { result ≡ status_of self.now };
 
-    /// Writes its line on standard error, if it has one. With `explain` the line goes on with the
+    /// Writes its line on standard error, if it has one. With `explain` the line ends with the
     /// reason in parentheses, if there is one. A failed write changes nothing.
     fn report<E: Write>(&self, format: OutputFormat, err: &mut E);
 }
 
-/// Why a command ended before it was done, whatever it is. Its text is the line on standard error.
+/// Why any command may end before it is done. It prints as its line on standard error.
 #[derive(Debug, Drop, Error)]
 pub enum Fault<'a> {
     /// The file could not be opened, or a read of it failed.
@@ -41,7 +42,7 @@ pub enum Fault<'a> {
     /// The file could not be created, or a write of it failed.
     #[error("geostation: cannot write {}", OneLine(*.0))]
     CannotWrite(&'a str),
-    /// The same, and why.
+    /// The file could not be opened, or a read of it failed, and why.
     #[error("geostation: cannot read {}", OneLine(*.0))]
     NotRead(&'a str, Cause),
     /// The file could not be created, or a write of it failed, and why.
@@ -56,7 +57,8 @@ pub enum Fault<'a> {
 }
 
 impl Fault<'_> {
-    /// The fault of a failed call on the file that is read. Out of memory is a fault of its own.
+    /// Returns the fault of a failed call on the file that is read. Out of memory is a fault of its
+    /// own.
     pub fn of_read<'a>(error: &io::Error, file: &'a str) -> Fault<'a> {
         match (error.kind(), Cause::of(error)) {
             (io::ErrorKind::OutOfMemory, _) => Fault::OutOfMemory(AllocError),
@@ -65,7 +67,8 @@ impl Fault<'_> {
         }
     }
 
-    /// The fault of a failed call on the file that is written. Out of memory is a fault of its own.
+    /// Returns the fault of a failed call on the file that is written. Out of memory is a fault of
+    /// its own.
     pub fn of_write<'a>(error: &io::Error, file: &'a str) -> Fault<'a> {
         match (error.kind(), Cause::of(error)) {
             (io::ErrorKind::OutOfMemory, _) => Fault::OutOfMemory(AllocError),
@@ -74,8 +77,8 @@ impl Fault<'_> {
         }
     }
 
-    /// The fault of a failed write to the file of this name: for standard output, `-`, there is no
-    /// line.
+    /// Returns the fault of a failed write to the file with this name. For standard output, `-`,
+    /// there is no line.
     pub fn of_target(file: &str) -> Fault<'_> {
         if is_standard(file) {
             Fault::no_output()
@@ -84,12 +87,12 @@ impl Fault<'_> {
         }
     }
 
-    /// The fault of standard output, if the error isn't known.
+    /// Returns the fault of standard output, if the error isn't known.
     pub fn no_output<'a>() -> Fault<'a> {
         Fault::NoOutput(io::Error::from(io::ErrorKind::Other))
     }
 
-    /// The system's reason, where it gave one.
+    /// Returns the system's reason, if there is one.
     fn cause(&self) -> Option<Cause> {
         match self {
             Fault::NotRead(_, cause) | Fault::NotWritten(_, cause) => Some(*cause),
@@ -99,6 +102,8 @@ impl Fault<'_> {
 }
 
 impl CommandFault for Fault<'_> {
+    type Ending = Status;
+
     ghost use Rattle.cmd_reporting.specs.declared.status.Status.TheVariants.{Failed};
 
     ghost status_of = { λ _. Failed };
@@ -107,7 +112,7 @@ impl CommandFault for Fault<'_> {
         Status::Failed
     }
 
-    /// The line of a file goes on with the system's reason.
+    /// Adds the system's reason to the line of a file.
     fn report<E: Write>(&self, format: OutputFormat, err: &mut E) {
         if !matches!(self, Fault::NoOutput(_)) {
             let cause = if format.explain { self.cause() } else { None };
@@ -132,11 +137,11 @@ impl From<JsonFault> for Fault<'_> {
     }
 }
 
-/// Why a command that writes a file ended before it was done: by a fault that would end it without
-/// one, or because of that file.
+/// Why a command that writes a file ended before it was done: by any other fault, or because of
+/// that file.
 #[derive(Debug, Drop, Error)]
 pub enum WriterFault<'a, F: Display> {
-    /// What would end it if it wrote none.
+    /// A fault that is not about the file that it writes.
     #[error("{0}")]
     Stopped(F),
     /// The file is not written.
@@ -144,14 +149,16 @@ pub enum WriterFault<'a, F: Display> {
     Output(OutputFault<'a>),
 }
 
-impl<F: CommandFault + Display> CommandFault for WriterFault<'_, F> {
+impl<F: CommandFault<Ending = Status> + Display> CommandFault for WriterFault<'_, F> {
+    type Ending = ExitStatus;
+
     ghost use Rattle.cmd_reporting.specs.Statuses.{writer_fault_status};
 
     ghost status_of = { writer_fault_status F.status_of };
 
-    fn status(&self) -> Status {
+    fn status(&self) -> ExitStatus {
         match self {
-            WriterFault::Stopped(fault) => fault.status(),
+            WriterFault::Stopped(fault) => ExitStatus::Ended(fault.status()),
             WriterFault::Output(fault) => fault.status(),
         }
     }

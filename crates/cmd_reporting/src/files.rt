@@ -14,7 +14,7 @@ use std::{fs, io};
 /// How many octets of a file are read or written at a time.
 const FILE_BUFFER: usize = 32 * 1024;
 
-/// The system's number of the error that a folder was to be read.
+/// The system's number of the error for reading a folder.
 const IS_A_FOLDER: i32 = 21;
 
 /// What a command reads.
@@ -60,7 +60,7 @@ impl<F: Write, W: Write> Write for Destination<F, W> {
     }
 }
 
-/// Refuses the file to be written if it is the one that is read. Standard output never is.
+/// Refuses the file to write if it is the one that is read. Standard output never is.
 pub fn keep_apart<'a, R: Files>(
     rt: &R,
     written: &'a str,
@@ -74,8 +74,8 @@ pub fn keep_apart<'a, R: Files>(
     refuse_same(&[NamedFile::of(rt, written)], &[NamedFile::of(rt, read)])
 }
 
-/// Opens a file for reading, with a buffer. `input` is standard input. `NotRead` or `CannotRead`
-/// where it can't be opened, `OutOfMemory` where an allocation failed.
+/// Opens a file for reading, with a buffer. `input` is standard input. `NotRead` or `CannotRead` if
+/// it can't be opened, `OutOfMemory` if an allocation failed.
 pub fn open<'a, R: Files + AllocGlobal, I: Read + Drop>(
     rt: &R,
     file: &'a str,
@@ -94,8 +94,8 @@ where
     }
 }
 
-/// What the name stands for, opened for reading. A folder is refused here, and not by its first
-/// read, so that the system's reason is at hand.
+/// Opens the file with this name, or standard input, for reading. A folder is refused here, and not
+/// at its first read, so that the system's reason is known.
 fn named<R: Files, I: Read + Drop>(rt: &R, file: &str, input: I) -> io::Result<Opened<R::File, I>>
 where
     R::File: Read + Drop,
@@ -110,8 +110,8 @@ where
     Ok(Opened::File(opened))
 }
 
-/// Creates a file, with a buffer. `NotWritten` or `CannotWrite` where it can't be created,
-/// `OutOfMemory` where an allocation failed.
+/// Creates a file, with a buffer. `NotWritten` or `CannotWrite` if it can't be created,
+/// `OutOfMemory` if an allocation failed.
 pub fn create<'a, R: Files + AllocGlobal>(
     rt: &R,
     file: &'a str,

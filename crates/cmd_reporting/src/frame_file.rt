@@ -1,7 +1,6 @@
-//! A file of frames, written as they are given.
+//! A file of frames, to which each frame is written when it is sent.
 
 ghost use Rattle.std.specs.Prelude.{◌≡◌, ◌^◌, ◌<◌, IfOk, IfSome, None, Ok, is_ok};
-ghost use Rattle.cmd_reporting.specs.Statuses.{IsCommandStatus};
 ghost use Rattle.cmd_reporting.specs.FrameFiles.{HasNewInterface, IsBegun, IsNoted, IsEnded};
 
 use crate::fault::Fault;
@@ -18,13 +17,13 @@ use std::io::{BufWriter, Write};
 use std::marker::Model;
 use std::rt::Files;
 
-/// A file of the frames that stations give, one by one.
+/// A file of the frames that stations send, one by one.
 #[derive(Drop)]
 pub struct FrameFile<'a, W: Write + Drop> {
     alloc: Global,
     sink: AnySink<Counted<W>>,
     target: &'a str,
-    /// How many frames were given so far.
+    /// How many frames were sent up to now.
     frames: u64,
     /// Whether one of them was left out.
     left_out: bool,
@@ -47,10 +46,9 @@ impl<'a, W: Write + Drop> Model for FrameFile<'a, W> {
 }
 
 impl<'a, W: Write + Drop> FrameFile<'a, W> {
-    /// Begins the file `target`, in this format. One of pcapng has an interface for each of so many
-    /// stations, `station 0` and on; what their names say is printed, and no
-    /// clause speaks of it. `CannotWrite` where the file failed, `OutOfMemory` where there was none
-    /// for a name.
+    /// Begins the file `target`, in this format. In pcapng there is an interface for each of this
+    /// number of stations, from `station 0` on. No clause says what their names are. `CannotWrite`
+    /// if the file failed, `OutOfMemory` if a name could not be allocated.
     pub fn start(
         alloc: Global,
         writer: W,
@@ -80,12 +78,12 @@ impl<'a, W: Write + Drop> FrameFile<'a, W> {
         })
     }
 
-    /// Adds the interface of the station of this number, which a run made: one of pcapng has it
-    /// here, behind the packets before. The station's number has to be how many there were before
+    /// Adds the interface of the station with this number, which a run made. In pcapng it comes
+    /// here, after the packets before. The station's number has to be the number of stations before
     /// it.
     ///
-    /// An error of the kind `OutOfMemory` says that there was none for its name; any other that the
-    /// file failed, which `end` tells then.
+    /// An error of the kind `OutOfMemory` says that its name could not be allocated. Any other
+    /// error says that the file failed, which `end` then reports.
     pub fn add_station(&mut self, station: usize) -> io::Result<()>
         ensures { IfOk result (λ _. HasNewInterface self.old self.new) }
     {
@@ -99,15 +97,15 @@ impl<'a, W: Write + Drop> FrameFile<'a, W> {
         }
     }
 
-    /// Writes the next frame, which a station gave at this moment, as one of that station's
-    /// interface. A frame whose moment or length has no place in the format is left out, with a
-    /// line on standard error.
+    /// Writes the next frame, which a station sent at this time, for the interface of that station.
+    /// A frame whose time or length doesn't fit the format is left out, with a line on standard
+    /// error.
     ///
-    /// An error says that the file failed, which `end` tells then.
+    /// An error says that the file failed, which `end` then reports.
     ///
     /// - its clause: the frame's record is written after all others, on its station's interface; or
     ///   it is left out, if and only if classic pcap cannot hold its time; or the file has failed,
-    ///   and the answer is an error.
+    ///   and the result is an error.
     pub fn put<E: Write>(
         &mut self,
         station: usize,
@@ -140,11 +138,9 @@ impl<'a, W: Write + Drop> FrameFile<'a, W> {
         }
     }
 
-    /// Ends the file after a run that ended so. `Refused` where a frame was left out of a run that
-    /// is done; `CannotWrite` where the file failed.
+    /// Ends the file after a run that ended as `ran` says. `Refused` if a frame of a run that is
+    /// done was left out. `CannotWrite` if the file failed.
     pub fn end(self, ran: Result<Status, Fault<'a>>) -> Result<Status, Fault<'a>>
-        requires { IfOk ran IsCommandStatus }
-        ensures status { IfOk result IsCommandStatus }
         ensures ended { IfOk result (IsEnded self.entry ran.entry) }
         ensures done { result ≡ Ok Status.Done → ran.entry ≡ Ok Status.Done }
     {
@@ -187,8 +183,9 @@ where
     Ok(Some(FrameFile::start(rt.alloc(), created, name, format, stations)?))
 }
 
-/// Ends the file of frames of a run that ended so, if there is one. Returns how the run ends then:
-/// `Refused` if a frame was left out of a run that is done, `CannotWrite` if the file failed.
+/// Ends the file of frames of a run that ended as `ended` says, if there is one. Returns how the run
+/// then ends: `Refused` if a frame of a run that is done was left out, `CannotWrite` if the file
+/// failed.
 ///
 /// - `ended`: a run that is done ends with `Refused` if and only if a frame was left out of its
 ///   file.
@@ -196,8 +193,6 @@ pub fn end_frames<'a, F: Write + Drop>(
     frames: Option<FrameFile<'a, F>>,
     ended: Result<Status, Fault<'a>>,
 ) -> Result<Status, Fault<'a>>
-    requires { IfOk ended IsCommandStatus }
-    ensures status { IfOk result IsCommandStatus }
     ensures none { frames.entry ≡ None → result ≡ ended.entry }
     ensures ended { IfSome frames.entry (λ file. IfOk result (IsEnded file ended.entry)) }
     ensures done { result ≡ Ok Status.Done → ended.entry ≡ Ok Status.Done }

@@ -1,11 +1,13 @@
-//! What all commands of the program have in common: how they end, what they tell then, and the files
-//! that they read and write.
+//! What all commands of the program have in common: how they end, what they report then, and the
+//! files that they read and write.
 //!
 //! # What is proved
 //!
-//! By their types `open`, `create`, `create_output` and `create_frames` end with `Failed` or not at
-//! all, `keep_apart` with refused arguments. Files that exist are the same by device and inode,
-//! others by those of their folder and the last part of their name (`NamedFile::is`: `same_file`).
+//! By its type a `Status` is never that of refused arguments. `CommandFault::Ending` says which
+//! faults may refuse them. By their types `open`, `create`, `create_output` and `create_frames` end
+//! with `Failed` or not at all, `keep_apart` with refused arguments. Files that exist are the same
+//! by device and inode, others by those of their folder and the last part of their name
+//! (`NamedFile::is`: `same_file`).
 //!
 //! # Only tested
 //!
@@ -36,4 +38,4 @@ pub use named_file::{NamedFile, refuse_same};
 pub use options::OutputFormat;
 pub use outputs::{FrameTarget, OutputFault, Target, frame_target, is_standard};
 pub use progress::{ProgressWriter, RunProgress};
-pub use status::Status;
+pub use status::{ExitStatus, Status};

@@ -3,9 +3,9 @@
 /// How the lines of a command are printed.
 #[derive(Clone, Copy, Debug, Default, PartialEq, Eq)]
 pub struct OutputFormat {
-    /// As objects in JSON, in place of words. Lines on standard error stay words.
+    /// Whether lines are JSON objects instead of text. Lines on standard error are always text.
     pub json: bool,
-    /// Each line that ends in a code or a word of a fault goes on with its sentence in parentheses.
-    /// An object in JSON has that sentence anyway.
+    /// Whether each line that ends in a code or a keyword of a fault has its sentence after it, in
+    /// parentheses. A JSON object always has that sentence.
     pub explain: bool,
 }

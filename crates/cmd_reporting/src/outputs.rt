@@ -1,4 +1,4 @@
-//! The files that a command writes: what their names say, and why one isn't written.
+//! The files that a command writes: their formats by their names, and why one isn't written.
 
 ghost use Rattle.std.specs.Prelude.{◌≡◌, IfSome, IsErr, MatchResult, None, Ok, Some};
 ghost use Rattle.std.specs.Str.{str_eq_ignore_ascii_case};
@@ -9,38 +9,38 @@ ghost use Rattle.cmd_reporting.specs.FileNames.{is_standard as names_standard};
 
 use crate::fault::CommandFault;
 use crate::options::OutputFormat;
-use crate::status::Status;
+use crate::status::ExitStatus;
 use cap_pcap::Format;
 use cmd_quoting::OneLine;
 use std::io::Write;
 use thiserror::Error;
 
 /// The name of standard input among the files that are read, and of standard output among those
-/// that are written. A file of that name is `./-`.
+/// that are written. A file with this name is `./-`.
 const STANDARD: &str = "-";
 
 /// A file that is to be written.
 #[derive(Clone, Copy, Debug, PartialEq, Eq)]
 pub struct Target<'a> {
-    /// Its name. `-` is standard output, where the command takes it.
+    /// Its name. `-` is standard output, if the command allows it.
     pub name: &'a str,
-    /// Its format, where one is given in place of what its name says.
+    /// Its format, if one is given. Otherwise its name says it.
     pub to: Option<Format>,
 }
 
 impl<'a> Target<'a> {
-    /// The file of this name, in the format that the name says.
+    /// Returns the file with this name, in the format that the name says.
     pub fn named(name: &'a str) -> Target<'a>
         ensures { result ≡ record { name = name.entry; to = None } }
     {
         Target { name, to: None }
     }
 
-    /// The format in which it is written: the one that is given, else by the end of its name, in
-    /// either case of letters: pcapng where that is `.pcapng`, classic pcap where it is `.pcap`,
-    /// and a capture where it is `.cap` or the name is `-`.
+    /// Returns the format in which it is written: the given one, and without one by the end of its
+    /// name, in upper or lower case. `.pcapng` is pcapng, `.pcap` is classic pcap, and `.cap` or
+    /// the name `-` is a capture.
     ///
-    /// `NoFormat` where nothing says one.
+    /// `NoFormat` if nothing says a format.
     pub fn format(self) -> Result<Format, OutputFault<'a>>
         ensures { MatchResult result
             (λ format. format_of_output self.entry.to self.entry.name.now ≡ Some format)
@@ -53,7 +53,7 @@ impl<'a> Target<'a> {
         format.ok_or(OutputFault::NoFormat(self.name))
     }
 
-    /// The same for a file beside standard output, whose name may not be `-`.
+    /// Returns the format as `format` does, for a file whose name may not be `-`.
     pub fn file_format(self) -> Result<Format, OutputFault<'a>>
         ensures { MatchResult result
             (λ format. format_of_file self.entry.to self.entry.name.now ≡ Some format)
@@ -98,7 +98,7 @@ pub fn frame_target<'a>(
     }))
 }
 
-/// The format that a name says, if it says one.
+/// Returns the format that a name says, if it says one.
 fn format_named(name: &str) -> Option<Format>
     ensures { result ≡ format_of_name name.now }
 {
@@ -122,7 +122,7 @@ fn has_ending(name: &str, ending: &str) -> bool
     are_alike(&name[start..], ending)
 }
 
-/// Whether these are the same letters, each in either case.
+/// Whether these are the same letters, in upper or lower case.
 fn are_alike(some: &[u8], others: &[u8]) -> bool
     ensures { result ≡ str_eq_ignore_ascii_case some.now others.now }
 {
@@ -136,7 +136,7 @@ pub fn is_standard(name: &str) -> bool
     name == STANDARD
 }
 
-/// Why a file is not written. Its text is the line on standard error.
+/// Why a file is not written. It prints as its line on standard error.
 #[derive(Clone, Copy, Debug, PartialEq, Eq, Error)]
 pub enum OutputFault<'a> {
     /// Neither its name nor an argument says a format.
@@ -148,12 +148,14 @@ pub enum OutputFault<'a> {
 }
 
 impl CommandFault for OutputFault<'_> {
-    ghost use Rattle.cmd_reporting.specs.declared.status.Status.TheVariants.{BadArguments};
+    type Ending = ExitStatus;
+
+    ghost use Rattle.cmd_reporting.specs.declared.status.ExitStatus.TheVariants.{BadArguments};
 
     ghost status_of = { λ _. BadArguments };
 
-    fn status(&self) -> Status {
-        Status::BadArguments
+    fn status(&self) -> ExitStatus {
+        ExitStatus::BadArguments
     }
 
     fn report<E: Write>(&self, _format: OutputFormat, err: &mut E) {

@@ -1,8 +1,5 @@
 //! The command `stats`.
 
-ghost use Rattle.std.specs.Prelude.{IfOk};
-ghost use Rattle.cmd_reporting.specs.Statuses.{IsCommandStatus};
-
 use crate::kinds::Kinds;
 use crate::ports::Ports;
 use crate::printing::{Counted, print_object, print_tables};
@@ -19,7 +16,7 @@ use std::alloc::{AllocError, Global};
 use std::io::{Read, Write};
 use std::rt::Files;
 
-/// What is counted of the records of a capture.
+/// The counts of a capture's records.
 #[derive(Drop)]
 pub(crate) struct Counts {
     pub(crate) kinds: Kinds,
@@ -30,7 +27,7 @@ pub(crate) struct Counts {
 }
 
 impl Counts {
-    /// Nothing yet.
+    /// Returns the counts before the first record.
     fn new(alloc: Global) -> Counts {
         Counts {
             kinds: Kinds::new(),
@@ -50,7 +47,7 @@ impl Counts {
         self.add_traffic(place, octets, traits_of(frame).port)
     }
 
-    /// Counts the frame outside the profile of a record.
+    /// Counts the frame of a record that is outside the profile.
     fn add_outside(
         &mut self,
         place: &RecordPlace,
@@ -63,7 +60,7 @@ impl Counts {
         self.add_traffic(place, octets, frame.port())
     }
 
-    /// Counts a frame of so many octets by its port, its PSID and its second.
+    /// Counts a frame of this many octets by its port, its PSID and its second.
     fn add_traffic(
         &mut self,
         place: &RecordPlace,
@@ -80,8 +77,8 @@ impl Counts {
     }
 }
 
-/// How many octets a frame of this length has: of a secured one the whole frame. No record has
-/// 2^32.
+/// Returns the length of a frame, or of the whole secured frame if it was inside one. No record has
+/// 2^32 octets.
 fn octets_of(place: &RecordPlace, length: usize) -> u32 {
     let length = match place.secured {
         Some(secured) => secured.length,
@@ -90,7 +87,7 @@ fn octets_of(place: &RecordPlace, length: usize) -> u32 {
     u32::try_from(length).unwrap_or(u32::MAX)
 }
 
-/// The PSID of a record, if its frame is a signed one.
+/// Returns the PSID of a record, if its frame is signed.
 fn psid_of(place: &RecordPlace) -> Option<u64> {
     Some(place.secured?.info?.psid)
 }
@@ -111,21 +108,21 @@ impl RecordVisitor for Counts {
     }
 }
 
-/// What `stats` prints of sources.
+/// How `stats` prints sources.
 #[derive(Clone, Copy, Debug, PartialEq, Eq)]
 pub struct PrintedSources {
-    /// How many are printed at most: those with the most frames.
+    /// How many sources are printed at most. Those with the most frames are printed.
     pub top: Option<u64>,
-    /// Whether their own frames are counted apart from those that others forwarded.
+    /// Whether their own frames are counted separately from those that others forwarded.
     pub own: bool,
 }
 
-/// Prints what the selected records of the file are, and the traffic of their frames: by source, by
-/// port, and the second with the most air time. `input` is standard input. The output is one object,
-/// or tables.
+/// Prints the counts of the file's selected records by kind, and the traffic of their frames by
+/// source, by port and by PSID, and the second with the most air time. `input` is standard input.
+/// The output is one object, or tables.
 ///
-/// `Refused` if the file was refused, `Failed` if it could not be read or standard output not
-/// written, or memory ran out.
+/// `Refused` if the file was refused. `Failed` if it could not be read, standard output could not
+/// be written, or memory ran out.
 pub fn stats_file<R: Files + AllocGlobal, I: Read + Drop, W: Write, E: Write>(
     rt: &R,
     file: &str,
@@ -136,13 +133,13 @@ pub fn stats_file<R: Files + AllocGlobal, I: Read + Drop, W: Write, E: Write>(
 ) -> Status
 where
     R::File: Read + Drop,
-    ensures { IsCommandStatus result }
 {
     let ended = count(rt, file, input, selection, printed, io);
     io.status_of(ended)
 }
 
-/// Counts the records of the file. The fault is what ends the command before it is done.
+/// Counts the records of the file, and prints the counts. Returns the fault that ends the command
+/// before it is done.
 fn count<'a, R: Files + AllocGlobal, I: Read + Drop, W: Write, E>(
     rt: &R,
     file: &'a str,
@@ -153,7 +150,6 @@ fn count<'a, R: Files + AllocGlobal, I: Read + Drop, W: Write, E>(
 ) -> Result<Status, Fault<'a>>
 where
     R::File: Read + Drop,
-    ensures { IfOk result IsCommandStatus }
 {
     let alloc = rt.alloc();
     let reader = open(rt, file, input)?;

@@ -1,4 +1,4 @@
-//! How many records there are of each kind of packet, and of each code of those that are refused.
+//! Counts the records of each kind of packet, and the rejected records of each code.
 
 ghost use Rattle.std.specs.Prelude.{◌<◌};
 
@@ -17,7 +17,7 @@ use std::fmt;
 /// How many rows there are.
 const ROWS: usize = 44;
 
-/// The names of frames outside the profile, behind the kinds of packet.
+/// The names of the rows of frames outside the profile, which follow the kinds of packet.
 const OUTSIDE: [&str; 8] = [
     "outside beacon",
     "outside guc",
@@ -29,14 +29,14 @@ const OUTSIDE: [&str; 8] = [
     "outside ls-reply",
 ];
 
-/// The names of those behind them, in the order in which they are printed.
+/// The names of the further rows, in the order in which they are printed.
 const CODES: [&str; 32] = [
     "P3", "P4", "L1", "L2", "L3", "L4", "L5 G1", "L5 G2", "L5 G3", "L5 G4", "L5 G5", "L5 G6",
     "L5 G7", "L5 G8", "L5 G9", "L5 G10", "L5 G11", "L5 G12", "L6 G1", "L6 G2", "L6 G3", "L6 G4",
     "L6 G5", "L6 G6", "L6 G7", "L6 G8", "L6 G9", "L6 G10", "L6 G11", "L6 G12", "E1", "E2",
 ];
 
-/// The first row of each.
+/// The first row of each group.
 const OUTSIDE_ROW: usize = 4;
 
 const CODE_ROW: usize = 12;
@@ -46,7 +46,7 @@ const PACKET_ROW: usize = 18;
 
 const INNER_ROW: usize = 30;
 
-/// The name of a row.
+/// Returns the name of a row.
 fn name_of(row: usize) -> &'static str
     requires { row < 44 }
 {
@@ -63,11 +63,11 @@ fn name_of(row: usize) -> &'static str
 #[derive(Clone, Copy)]
 pub(crate) struct Kinds {
     counts: [u64; ROWS],
-    /// The first fault of each row of refused records.
+    /// The first fault of each row of rejected records.
     faults: [Option<RecordFault>; ROWS],
 }
 
-/// The name of a row, and behind it what its code means, if codes are explained.
+/// The name of a row, followed by the meaning of its code, if codes are explained.
 #[derive(Clone, Copy)]
 struct RowName {
     name: &'static str,
@@ -80,7 +80,7 @@ impl fmt::Display for RowName {
     }
 }
 
-/// A fault, of a packet or a message without its place.
+/// A fault. For a packet or a message it prints without the position.
 #[derive(Clone, Copy)]
 struct Reason(RecordFault);
 
@@ -102,7 +102,7 @@ impl fmt::Display for Reason {
 }
 
 impl Kinds {
-    /// None yet.
+    /// Returns the counts before the first record.
     pub(crate) fn new() -> Kinds {
         Kinds {
             counts: [0; ROWS],
@@ -120,7 +120,7 @@ impl Kinds {
         self.add(row_of_outside(kind));
     }
 
-    /// Counts a record that is refused.
+    /// Counts a record that is rejected.
     pub(crate) fn add_refused(&mut self, fault: RecordFault) {
         let row = row_of_fault(fault);
         self.faults[row] = self.faults[row].or(Some(fault));
@@ -134,7 +134,8 @@ impl Kinds {
         self.counts[row] = self.counts[row].saturating_add(1);
     }
 
-    /// The table of the rows that occur, with what each code means if codes are explained.
+    /// Returns the table of the rows that occur, with the meaning of each code if codes are
+    /// explained.
     pub(crate) fn table(&self, alloc: Global, explain: bool) -> Result<Table, AllocError> {
         let mut table = Table::new(alloc, &["kind", "records"])?;
         for row in 0..ROWS {
@@ -166,7 +167,7 @@ impl Serialize for Kinds {
     }
 }
 
-/// The row of a kind of packet.
+/// Returns the row of a kind of packet.
 fn row_of_kind(kind: Kind) -> usize
     ensures { result < 44 }
 {
@@ -178,7 +179,7 @@ fn row_of_kind(kind: Kind) -> usize
     }
 }
 
-/// The row of a kind of packet outside the profile.
+/// Returns the row of a kind of packet outside the profile.
 fn row_of_outside(kind: StandardKind) -> usize
     ensures { result < 44 }
 {
@@ -194,7 +195,7 @@ fn row_of_outside(kind: StandardKind) -> usize
     }
 }
 
-/// The row of why a record is refused.
+/// Returns the row of a record's fault.
 fn row_of_fault(fault: RecordFault) -> usize
     ensures { result < 44 }
 {
@@ -210,7 +211,7 @@ fn row_of_fault(fault: RecordFault) -> usize
     }
 }
 
-/// The row of why octets are no secured frame, or its plain part no packet.
+/// Returns the row of a secured frame's fault.
 fn row_of_secured(fault: SecuredFault) -> usize
     ensures { result < 44 }
 {
@@ -224,7 +225,7 @@ fn row_of_secured(fault: SecuredFault) -> usize
     }
 }
 
-/// The row of why octets are no frame.
+/// Returns the row of a frame's fault.
 fn row_of_frame(fault: FrameFault) -> usize
     ensures { result < 44 }
 {
@@ -237,7 +238,7 @@ fn row_of_frame(fault: FrameFault) -> usize
     }
 }
 
-/// The place, among the codes of packets, of why octets are no packet.
+/// Returns the number of a packet's fault among the codes of packets.
 fn place_of_packet(kind: FaultKind) -> usize
     ensures { result < 12 }
 {

@@ -1,5 +1,5 @@
-//! The command `stats`: what the records of a capture are, and the traffic of its frames by source,
-//! by port and by second.
+//! The commands `stats` and `replay`: counts of a capture's records and of the traffic by source,
+//! by port and by second, and what a station would have done with the frames.
 //!
 //! # What is proved
 //!
@@ -7,19 +7,19 @@
 //!
 //! The octets that the unit receives (`AreHeard`) are the record's own in a capture of this
 //! program, otherwise the frame that its link layer gives (`IsFrameIn`), without padding. A record
-//! without a frame is reported with the first rule that doesn't hold (`HasNothing`). A record is
+//! without a frame is reported with the first rule that is broken (`HasNothing`). A record is
 //! received if and only if the choice selects it (`TellsHeard`, `TellsPassed`).
 //!
 //! With `--signed`, a secured frame is a step of `Unit::receive_verified`.
 //!
-//! The unit begins with the limits of `Limits::CHANNEL` (`BeginsUnit`). Each step is within them with
-//! `--limits`, otherwise past them (`step_by`). Each move is made at its time, before the first
+//! The unit begins with the limits of `Limits::CHANNEL` (`BeginsUnit`). Each step applies them with
+//! `--limits`, and otherwise doesn't (`step_by`). Each move is made at its time, before the first
 //! selected record that is not earlier (`moved`).
 //!
 //! With `--against`, a frame from the link address of the station under test is not received
-//! (`is_sent`, `Tells`). What it sent answers the first frame that waits and equals it but for the
-//! link source, otherwise the first of the same packet (`IsCompared`). A frame waits until its time
-//! is over (`missed_place`).
+//! (`is_sent`, `Tells`). What it sent answers the first waiting frame that is equal except for the
+//! link source, and otherwise the first with the same packet (`IsCompared`). A frame waits until
+//! its time is over (`missed_place`).
 //!
 //! # Only tested
 //!

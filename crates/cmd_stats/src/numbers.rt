@@ -1,33 +1,35 @@
-//! The sequence numbers of a source, laid on a line.
+//! The sequence numbers of a source, counted on without wrapping.
 
 use std::alloc::{AllocError, Global};
 use std::collections::BTreeMap;
 
-/// How many numbers there are: 0 follows the last one.
+/// How many sequence numbers there are. 0 follows the last one.
 const NUMBERS: i64 = 65_536;
 
-/// How far below the greatest place a number may be laid.
+/// How far below the greatest place a number may be put.
 const BELOW: i64 = 32_768;
 
-/// How many places stand in a word.
+/// How many places a word has.
 const PLACES: i64 = 64;
 
-/// The places that the numbers of a source take: the first number takes its own, each other the one
-/// place, from 32768 below the greatest so far to 32767 above it, that is the same modulo 65536.
+/// The places of the numbers of a source. The first number is its own place. Each further number
+/// has the one place that is equal to it modulo 65536 and from 32768 below the greatest place so
+/// far to 32767 above it.
 #[derive(Drop)]
 pub(crate) struct Numbers {
-    /// The least and the greatest place, where there is a number.
+    /// The least and the greatest place, if there is a number.
     ends: Option<(i64, i64)>,
     /// How many places are taken.
     taken: u64,
-    /// How many numbers met a place that was.
+    /// How many numbers had a place that was already taken.
     repeated: u64,
-    /// The places that are taken, 64 to a word, by the word's own: those that a number may meet.
+    /// The places that are taken and that a number may still have, 64 per word, by the word's
+    /// number.
     words: BTreeMap<i64, u64>,
 }
 
 impl Numbers {
-    /// None yet.
+    /// Returns the places before the first number.
     pub(crate) fn new(alloc: Global) -> Numbers {
         Numbers {
             ends: None,
@@ -37,7 +39,7 @@ impl Numbers {
         }
     }
 
-    /// Lays the next number.
+    /// Adds the next number.
     pub(crate) fn add(&mut self, number: u16) -> Result<(), AllocError> {
         let Some((least, greatest)) = self.ends else {
             let place = i64::from(number);
@@ -51,7 +53,7 @@ impl Numbers {
         Ok(())
     }
 
-    /// Takes a place.
+    /// Marks a place as taken.
     fn take(&mut self, place: i64) -> Result<(), AllocError> {
         let bit = 1u64 << place.rem_euclid(PLACES) as u32;
         let word = self.words.entry(place.div_euclid(PLACES))?.or_insert(0);
@@ -64,7 +66,7 @@ impl Numbers {
         Ok(())
     }
 
-    /// Forgets the words that no number meets any more, where this is the greatest place.
+    /// Forgets the words whose places no further number can have, if this is the greatest place.
     fn forget(&mut self, greatest: i64) {
         let least = greatest.saturating_sub(BELOW).div_euclid(PLACES);
         // A number moves the greatest place by fewer words than this.
@@ -77,7 +79,7 @@ impl Numbers {
         }
     }
 
-    /// How many places between the least and the greatest aren't taken.
+    /// Returns how many places between the least and the greatest aren't taken.
     pub(crate) fn missing(&self) -> u64 {
         match self.ends {
             Some((least, greatest)) => {
@@ -89,13 +91,13 @@ impl Numbers {
         }
     }
 
-    /// How many numbers met a place that was taken.
+    /// Returns how many numbers had a place that was already taken.
     pub(crate) fn repeated(&self) -> u64 {
         self.repeated
     }
 }
 
-/// The place of a number, where this is the greatest so far.
+/// Returns the place of a number, if this is the greatest place so far.
 fn place_of(number: u16, greatest: i64) -> i64 {
     let ahead = i64::from(number)
         .saturating_sub(greatest)

@@ -4,19 +4,21 @@ use cmd_table::{Hyphened, Table};
 use serde::Serialize;
 use std::alloc::AllocError;
 
-/// How a frame came to be sent.
+/// Which station sent a frame, and why.
 #[derive(Clone, Copy, Debug, PartialEq, Eq)]
 pub(crate) enum Sending {
-    /// By its source: no hop is used up.
+    /// Its source sent it: no hop is used up.
     Own,
-    /// By its source, again, since it was not acknowledged: it has the retry bit of IEEE 802.11.
+    /// Its source sent it again, since it was not acknowledged: it has the retry bit of IEEE
+    /// 802.11.
     Retry,
-    /// By another station, which forwarded it: hops are used up.
+    /// Another station forwarded it: hops are used up.
     Forwarded,
 }
 
 impl Sending {
-    /// How a frame was sent that has so many hops left, and had so many at most.
+    /// Finds how a frame was sent, by its remaining hop limit (`left`), its maximum hop limit
+    /// (`most`) and its retry bit.
     pub(crate) fn of(left: u8, most: u8, retry: bool) -> Sending {
         if left < most {
             Sending::Forwarded
@@ -28,7 +30,7 @@ impl Sending {
     }
 }
 
-/// What is counted of the frames that a source sent itself.
+/// The counts of the frames that a source sent itself.
 #[derive(Clone, Copy, Drop)]
 pub(crate) struct OwnFrames {
     frames: u64,
@@ -44,7 +46,7 @@ pub(crate) struct OwnFrames {
 }
 
 impl OwnFrames {
-    /// No frame yet.
+    /// Returns the counts before the first frame.
     pub(crate) fn none() -> OwnFrames {
         OwnFrames {
             frames: 0,
@@ -57,7 +59,7 @@ impl OwnFrames {
         }
     }
 
-    /// Counts a frame at this moment.
+    /// Counts a frame at this time.
     pub(crate) fn add(&mut self, moment: u64, sending: Sending) {
         match sending {
             Sending::Own => self.add_own(moment),
@@ -78,7 +80,7 @@ impl OwnFrames {
         self.previous = moment;
     }
 
-    /// Its keys.
+    /// Returns its keys.
     pub(crate) fn keys(&self) -> OwnKeys {
         let between = self.last.saturating_sub(self.first);
         OwnKeys {
@@ -110,7 +112,7 @@ pub(crate) struct OwnKeys {
     own_greatest: Option<u64>,
 }
 
-/// The heads of their columns.
+/// The heads of the columns of these keys.
 pub(crate) const OWN_HEADS: [&str; 6] = [
     "own",
     "forwarded",
@@ -121,7 +123,7 @@ pub(crate) const OWN_HEADS: [&str; 6] = [
 ];
 
 impl OwnKeys {
-    /// Adds them to a row of a table.
+    /// Adds the keys to a row of a table.
     pub(crate) fn add_to(&self, table: &mut Table) -> Result<(), AllocError> {
         table.add(&self.own)?;
         table.add(&self.forwarded)?;

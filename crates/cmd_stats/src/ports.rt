@@ -22,7 +22,7 @@ pub(crate) struct Ports {
 }
 
 impl Ports {
-    /// None yet.
+    /// Returns the counts before the first frame.
     pub(crate) fn new(alloc: Global) -> Ports {
         Ports {
             alloc,
@@ -30,14 +30,14 @@ impl Ports {
         }
     }
 
-    /// Counts a frame of so many octets to a port.
+    /// Counts a frame of this many octets to a port.
     pub(crate) fn add(&mut self, port: u16, octets: u64) -> Result<(), AllocError> {
         let traffic = self.ports.entry(port)?.or_insert(Traffic::none());
         traffic.add(octets);
         Ok(())
     }
 
-    /// The rows, in order.
+    /// Returns the rows, in the order of ports.
     pub(crate) fn rows(&self) -> Result<Vec<PortRow>, AllocError> {
         let mut rows = Vec::new(self.alloc);
         for (port, traffic) in self.ports.iter() {
@@ -51,7 +51,7 @@ impl Ports {
     }
 }
 
-/// The table of these rows.
+/// Returns the table of these rows.
 pub(crate) fn port_table(alloc: Global, rows: &[PortRow]) -> Result<Table, AllocError> {
     let mut table = Table::new(alloc, &["port", "frames", "octets"])?;
     for row in rows {

@@ -1,4 +1,4 @@
-//! What was counted, as tables and as an object in JSON.
+//! Prints the counts as tables and as an object in JSON.
 
 use crate::counting::Counts;
 use crate::kinds::Kinds;
@@ -14,22 +14,22 @@ use serde::Serialize;
 use std::alloc::Global;
 use std::io::Write;
 
-/// What there is to print.
+/// The counts to print.
 #[derive(Clone, Copy)]
 pub(crate) struct Counted<'c> {
     pub(crate) counts: &'c Counts,
-    /// How far the file was read.
+    /// The result of reading the file.
     pub(crate) walked: &'c Walked,
     /// How many sources are printed at most.
     pub(crate) top: Option<u64>,
     /// Whether PSIDs are printed.
     pub(crate) signed: bool,
-    /// Which columns the rows of sources have besides those that all have.
+    /// Which additional columns the rows of sources have.
     pub(crate) columns: SourceColumns,
 }
 
-/// Prints the four tables, and that of PSIDs if it is wanted, an empty line between them, and why
-/// the file was refused, with `explain` as a sentence too.
+/// Prints the four tables, and that of PSIDs if it is wanted, with empty lines between them. Then
+/// prints why the file was refused, with a sentence if `explain` is set.
 pub(crate) fn print_tables<'f, W: Write>(
     alloc: Global,
     counted: Counted<'_>,
@@ -57,7 +57,7 @@ pub(crate) fn print_tables<'f, W: Write>(
     Ok(())
 }
 
-/// All that was counted: its keys in this order.
+/// All counts: the keys of the object, in this order.
 #[derive(Clone, Copy, Serialize)]
 struct Everything<'a> {
     records: Kinds,
@@ -70,7 +70,7 @@ struct Everything<'a> {
     fault: Option<RefusedCapture>,
 }
 
-/// Prints it as one object.
+/// Prints the counts as one object.
 pub(crate) fn print_object<'f, W: Write>(
     alloc: Global,
     counted: Counted<'_>,

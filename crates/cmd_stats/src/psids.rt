@@ -6,7 +6,7 @@ use serde::Serialize;
 use std::alloc::{AllocError, Global};
 use std::collections::BTreeMap;
 
-/// What is printed of a PSID: its keys in this order.
+/// The row of a PSID: its keys in this order.
 #[derive(Clone, Copy, Drop, Serialize)]
 pub(crate) struct PsidRow {
     psid: u64,
@@ -22,7 +22,7 @@ pub(crate) struct Psids {
 }
 
 impl Psids {
-    /// None yet.
+    /// Returns the counts before the first frame.
     pub(crate) fn new(alloc: Global) -> Psids {
         Psids {
             alloc,
@@ -30,14 +30,14 @@ impl Psids {
         }
     }
 
-    /// Counts a frame of so many octets with a PSID.
+    /// Counts a frame of this many octets with a PSID.
     pub(crate) fn add(&mut self, psid: u64, octets: u64) -> Result<(), AllocError> {
         let traffic = self.psids.entry(psid)?.or_insert(Traffic::none());
         traffic.add(octets);
         Ok(())
     }
 
-    /// The rows, lowest PSID first.
+    /// Returns the rows, lowest PSID first.
     pub(crate) fn rows(&self) -> Result<Vec<PsidRow>, AllocError> {
         let mut rows = Vec::new(self.alloc);
         for (psid, traffic) in self.psids.iter() {
@@ -51,7 +51,7 @@ impl Psids {
     }
 }
 
-/// The table of these rows.
+/// Returns the table of these rows.
 pub(crate) fn psid_table(alloc: Global, rows: &[PsidRow]) -> Result<Table, AllocError> {
     let mut table = Table::new(alloc, &["PSID", "frames", "octets"])?;
     for row in rows {

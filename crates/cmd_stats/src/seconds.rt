@@ -6,7 +6,7 @@ use serde::Serialize;
 use std::alloc::{AllocError, Global};
 use std::collections::BTreeMap;
 
-/// What is counted of the frames of a second.
+/// The counts of the frames of a second.
 #[derive(Clone, Copy, Drop)]
 struct Load {
     frames: u64,
@@ -24,21 +24,21 @@ pub(crate) struct SecondRow {
     busy: u64,
 }
 
-/// The seconds in which frames were taken.
+/// The seconds in which frames were captured.
 #[derive(Drop)]
 pub(crate) struct Seconds {
     seconds: BTreeMap<u64, Load>,
 }
 
 impl Seconds {
-    /// None yet.
+    /// Returns the counts before the first frame.
     pub(crate) fn new(alloc: Global) -> Seconds {
         Seconds {
             seconds: BTreeMap::new(alloc),
         }
     }
 
-    /// Counts a frame of so many octets at a moment.
+    /// Counts a frame of this many octets at a time.
     pub(crate) fn add(&mut self, moment: u64, octets: u32) -> Result<(), AllocError> {
         let none = Load {
             frames: 0,
@@ -52,7 +52,7 @@ impl Seconds {
         Ok(())
     }
 
-    /// The second of the most air time, the first of such, if there is any.
+    /// Returns the first of the seconds with the most air time, if there are any.
     pub(crate) fn busiest(&self) -> Option<SecondRow> {
         let mut busiest: Option<SecondRow> = None;
         for (second, load) in self.seconds.iter() {
@@ -69,7 +69,7 @@ impl Seconds {
     }
 }
 
-/// The table of that second.
+/// Returns the table of that second.
 pub(crate) fn second_table(alloc: Global, row: Option<SecondRow>) -> Result<Table, AllocError> {
     let mut table = Table::new(alloc, &["second", "frames", "octets", "busy"])?;
     if let Some(row) = row {

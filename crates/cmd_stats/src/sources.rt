@@ -12,13 +12,13 @@ use std::alloc::{AllocError, Global};
 use std::collections::BTreeMap;
 use std::fmt;
 
-/// What is counted of one frame.
+/// What is counted about one frame.
 #[derive(Clone, Copy)]
 pub(crate) struct SourceFrame {
     address: u64,
     moment: u64,
     octets: u64,
-    /// The hops left.
+    /// The remaining hop limit.
     hops: u8,
     sending: Sending,
     /// The sequence number, if the packet has one.
@@ -28,7 +28,7 @@ pub(crate) struct SourceFrame {
 }
 
 impl SourceFrame {
-    /// What is counted of a frame of the profile of so many octets.
+    /// Returns what is counted about a frame of the profile with this many octets.
     pub(crate) fn of(place: &RecordPlace, octets: u32, frame: &FrameView<'_>) -> SourceFrame {
         let packet = &frame.packet;
         let hops = packet.hops();
@@ -43,7 +43,7 @@ impl SourceFrame {
         }
     }
 
-    /// What is counted of a frame outside the profile of so many octets.
+    /// Returns what is counted about a frame outside the profile with this many octets.
     pub(crate) fn of_outside(
         place: &RecordPlace,
         octets: u32,
@@ -62,7 +62,7 @@ impl SourceFrame {
     }
 }
 
-/// The sequence number of a packet outside the profile, if it has one.
+/// Returns the sequence number of a packet outside the profile, if it has one.
 fn number_of(fields: &ExtendedFields) -> Option<u16> {
     match fields {
         ExtendedFields::Beacon | ExtendedFields::Shb(_) => None,
@@ -75,30 +75,30 @@ fn number_of(fields: &ExtendedFields) -> Option<u16> {
     }
 }
 
-/// What is counted of the frames of a source.
+/// The counts of the frames of a source.
 #[derive(Drop)]
 struct Source {
     frames: u64,
     /// How many of them are outside the profile.
     outside: u64,
     octets: u64,
-    /// The least and the greatest moment.
+    /// The least and the greatest time.
     first: u64,
     last: u64,
-    /// The moment of the last frame that came.
+    /// The time of the last frame in the file.
     previous: u64,
-    /// The most that a moment was above the one before.
+    /// The greatest difference of a frame's time and that of the frame before.
     greatest: u64,
     numbers: Numbers,
-    /// Those that it sent itself.
+    /// The frames that it sent itself.
     own: OwnFrames,
-    /// The least and the most hops left.
+    /// The least and the greatest remaining hop limit.
     fewest: u8,
     most: u8,
 }
 
 impl Source {
-    /// No frame yet, of which the first has this moment and so many hops left.
+    /// Returns the counts before the first frame, which has this time and this remaining hop limit.
     fn new(alloc: Global, moment: u64, hops: u8) -> Source {
         Source {
             frames: 0,
@@ -134,7 +134,7 @@ impl Source {
         }
     }
 
-    /// Its row in the table.
+    /// Returns its row in the table.
     fn row(&self, address: u64, columns: SourceColumns) -> SourceRow {
         let between = self.last.saturating_sub(self.first);
         SourceRow {
@@ -169,14 +169,14 @@ pub(crate) struct SourceRow {
     missing: u64,
     repeated: u64,
     hops: [u8; 2],
-    /// How many frames are outside the profile, if all kinds are chosen.
+    /// How many frames are outside the profile, if all kinds are selected.
     #[serde(skip_serializing_if = "Option::is_none")]
     outside: Option<u64>,
     #[serde(flatten)]
     own: Option<OwnKeys>,
 }
 
-/// Which columns rows of sources have besides those that all have.
+/// Which additional columns the rows of sources have.
 #[derive(Clone, Copy)]
 pub(crate) struct SourceColumns {
     /// How many frames are outside the profile.
@@ -185,7 +185,7 @@ pub(crate) struct SourceColumns {
     pub(crate) own: bool,
 }
 
-/// The hops left, as a table has them.
+/// A range of remaining hop limits, as a table shows it.
 #[derive(Clone, Copy)]
 struct Hops([u8; 2]);
 
@@ -227,7 +227,7 @@ pub(crate) struct Sources {
 }
 
 impl Sources {
-    /// None yet.
+    /// Returns the counts before the first frame.
     pub(crate) fn new(alloc: Global) -> Sources {
         Sources {
             alloc,
@@ -244,8 +244,8 @@ impl Sources {
         source.add(frame)
     }
 
-    /// The rows, those of the most frames first, and of as many of the lower address; so many of
-    /// them at most.
+    /// Returns at most `top` rows. Sources with more frames come first, and of equal ones that with
+    /// the lower address.
     pub(crate) fn rows(
         &self,
         top: Option<u64>,
@@ -269,7 +269,7 @@ const SOURCE_HEADS: [&str; 10] = [
     "hops",
 ];
 
-/// The table of these rows, which have these columns besides.
+/// Returns the table of these rows, which have these additional columns.
 pub(crate) fn source_table(
     alloc: Global,
     rows: &[SourceRow],

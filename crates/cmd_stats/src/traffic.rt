@@ -8,7 +8,7 @@ pub(crate) struct Traffic {
 }
 
 impl Traffic {
-    /// No frame yet.
+    /// Returns the counts before the first frame.
     pub(crate) fn none() -> Traffic {
         Traffic {
             frames: 0,
@@ -16,7 +16,7 @@ impl Traffic {
         }
     }
 
-    /// Counts a frame of so many octets.
+    /// Counts a frame of this many octets.
     pub(crate) fn add(&mut self, octets: u64) {
         self.frames = self.frames.saturating_add(1);
         self.octets = self.octets.saturating_add(octets);

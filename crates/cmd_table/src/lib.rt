@@ -1,4 +1,4 @@
-//! Tables, as commands print them: in words, and their rows as JSON.
+//! Tables, as commands print them: as text, and their rows as JSON.
 //!
 //! # Only tested
 //!

@@ -1,4 +1,4 @@
-//! Tables of words, whose columns are as wide as their widest word.
+//! Tables of texts, whose columns are as wide as their widest cell.
 
 use std::alloc::{AllocError, Global};
 use std::fmt::{Display, Write as _};
@@ -10,11 +10,11 @@ use std::io::Write;
 pub struct Table {
     /// The width of each column.
     widths: Vec<usize>,
-    /// The words, row by row, one behind the other.
+    /// The cells, row by row, one after the other.
     text: String,
-    /// Where each of them ends.
+    /// The end of each cell.
     ends: Vec<usize>,
-    /// The column of the next word.
+    /// The column of the next cell.
     column: usize,
 }
 
@@ -34,14 +34,14 @@ impl Table {
         Ok(table)
     }
 
-    /// Adds the next word, of the next column. `AllocError` if an allocation failed.
+    /// Adds the next cell, in the next column. `AllocError` if an allocation failed.
     pub fn add<T: Display>(&mut self, word: &T) -> Result<(), AllocError> {
         let start = self.text.len();
         write!(self.text, "{word}").map_err(|_| AllocError)?;
         self.end(start)
     }
 
-    /// Adds octets as the next word, as hexadecimal digits in lower case.
+    /// Adds octets as the next cell, as hexadecimal digits in lower case.
     pub fn add_digits(&mut self, octets: &[u8]) -> Result<(), AllocError> {
         let start = self.text.len();
         for octet in octets {
@@ -50,7 +50,7 @@ impl Table {
         self.end(start)
     }
 
-    /// Ends a word that began there.
+    /// Ends the cell that began at this octet.
     fn end(&mut self, start: usize) -> Result<(), AllocError> {
         let end = self.text.len();
         if let Some(width) = self.widths.get_mut(self.column) {
@@ -77,7 +77,7 @@ impl Table {
         Ok(())
     }
 
-    /// Writes a word of a column, and returns the next one.
+    /// Writes a cell of a column, and returns the next one.
     fn write_word<W: Write>(&self, word: &str, column: usize, out: &mut W) -> io::Result<usize> {
         let width = self.widths.get(column).copied().unwrap_or(0);
         if column == 0 {

@@ -2,9 +2,9 @@
 //!
 //! # What is proved
 //!
-//! The octets of a line are kept in a buffer that never has to grow (`Line::add`). What is known of
-//! further octets: whether there are any, whether their number is odd, and whether one is no
-//! hexadecimal digit (`Passed::add`).
+//! The octets of a line are kept in a buffer that never has to grow (`Line::add`). For further
+//! octets it only keeps whether there are any, whether their number is odd, and whether one is not
+//! a hexadecimal digit (`Passed::add`).
 //!
 //! # Only tested
 //!

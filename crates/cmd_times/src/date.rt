@@ -7,8 +7,8 @@ use std::fmt;
 /// Days from the first of March of the year 0 to the first of January of 1970.
 const EPOCH: u64 = 719_468;
 
-/// The days of 400 years, of 100 that aren't the last of these, of 4 that aren't the last of those,
-/// and of a year.
+/// The days of 400 years, of 100 years that aren't the last of these, of 4 years that aren't the
+/// last of those, and of a year without a leap day.
 const ERA: u64 = 146_097;
 
 const CENTURY: u64 = 36_524;
@@ -28,8 +28,8 @@ pub struct Date {
 }
 
 impl Date {
-    /// How many days this date is after the first of January of 1970; `None` if it is before it, or
-    /// if the year has more than nine digits. Month and day are counted from 1.
+    /// Returns how many days this date is after the first of January of 1970. `None` if it is
+    /// before that day, or if the year has more than nine digits. Month and day are counted from 1.
     pub fn days_of(year: u64, month: u64, day: u64) -> Option<u64> {
         if year == 0 || year > 999_999_999 || month == 0 || month > 12 || day > 31 {
             return None;
@@ -45,8 +45,8 @@ impl Date {
         (YEAR * years + leaps + in_year).checked_sub(EPOCH + 1)
     }
 
-    /// The day that is so many after the first of January of 1970, at most 2^40 of them. Years are
-    /// counted from March on here, so that a leap day is the last of its year.
+    /// Returns the date that is this many days after the first of January of 1970, at most 2^40.
+    /// Years are counted from March on here, so that a leap day is the last day of its year.
     pub fn of(days: u64) -> Date
         requires { days < 2 ^ 40 }
     {
@@ -76,7 +76,7 @@ impl Date {
     }
 }
 
-/// How many days a month has, which is counted from 1; none if there is no such month.
+/// Returns how many days a month has, which is counted from 1. 0 if there is no such month.
 pub fn days_in_month(year: u64, month: u64) -> u64 {
     let is_leap = year % 4 == 0 && (year % 100 != 0 || year % 400 == 0);
     match month {

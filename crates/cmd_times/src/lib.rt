@@ -1,4 +1,4 @@
-//! Times as commands print them: milliseconds, dates of UTC, seconds since another time.
+//! Times as commands print them: milliseconds, dates in UTC, seconds since another time.
 //!
 //! # Only tested
 //!

@@ -11,11 +11,11 @@ pub enum Time {
     Raw,
     /// In milliseconds, with the decimals that the file has.
     Exact,
-    /// As date and time of UTC.
+    /// As date and time in UTC.
     Utc,
     /// In seconds since the first record of the file.
     Relative,
-    /// In seconds since the record before, of those that are chosen.
+    /// In seconds since the selected record before.
     Delta,
 }
 
@@ -28,12 +28,12 @@ pub struct Instant {
 }
 
 impl Instant {
-    /// The time of so many milliseconds, and nanoseconds below them.
+    /// Returns the time with this many milliseconds, and nanoseconds below them.
     pub fn new(millis: u64, nanos: u32) -> Instant {
         Instant { millis, nanos }
     }
 
-    /// The time of so many nanoseconds.
+    /// Returns the time with this many nanoseconds.
     pub fn of_nanos(nanos: u64) -> Instant {
         Instant {
             millis: nanos / 1_000_000,
@@ -41,7 +41,7 @@ impl Instant {
         }
     }
 
-    /// In nanoseconds.
+    /// Returns it in nanoseconds.
     fn in_nanos(self) -> u128 {
         u128::from(self.millis) * NANOS_OF_MILLI + u128::from(self.nanos)
     }
@@ -102,7 +102,7 @@ fn write_exact<W: fmt::Write>(time: Instant, f: &mut fmt::Formatter<W>) -> fmt::
     }
 }
 
-/// Date and time, as RFC 3339 has them.
+/// Date and time, as in RFC 3339.
 fn write_utc<W: fmt::Write>(time: Instant, f: &mut fmt::Formatter<W>) -> fmt::Result {
     let seconds = time.millis / 1000;
     let millis = (time.millis % 1000) as u32;
@@ -151,7 +151,7 @@ impl Serialize for Moment {
     }
 }
 
-/// Tells the moments of the records of a file, one after the other.
+/// Returns the times of the records of a file as they are printed, one after the other.
 #[derive(Clone, Copy)]
 pub struct Clock {
     time: Time,
@@ -160,12 +160,13 @@ pub struct Clock {
 }
 
 impl Clock {
-    /// No record was printed yet.
+    /// Returns a clock before the first record.
     pub fn new(time: Time) -> Clock {
         Clock { time, last: None }
     }
 
-    /// The moment of the next record, at this time of a file whose first record has that one.
+    /// Returns how the time of the next record is printed. `first` is the time of the file's first
+    /// record.
     pub fn at(&mut self, first: Instant, time: Instant) -> Moment {
         let last = self.last.unwrap_or(time);
         self.last = Some(time);

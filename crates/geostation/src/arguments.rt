@@ -22,9 +22,9 @@ fn whole<'a>(alloc: Global) -> Result<Command<'a>, AllocError> {
     add_commands(alloc, program)
 }
 
-/// Reads the arguments, the program's own name first, of a program whose streams are these. An
-/// error is help or the version, where these were asked for, or why the arguments were refused. That
-/// shows each argument on one line.
+/// Reads the arguments, the program's own name first, for a program with these streams. An error is
+/// help or the version, if these were asked for, or why the arguments were refused. It shows each
+/// argument on one line.
 pub fn read<'a>(
     alloc: Global,
     arguments: &'a [String],
@@ -36,8 +36,8 @@ pub fn read<'a>(
     }
 }
 
-/// Returns the error of these arguments, with each of them as a line shows it. `error` is theirs as
-/// they are.
+/// Returns the error of these arguments, with each of them as a line shows it. `error` shows them
+/// unchanged.
 fn shown_error(
     alloc: Global,
     arguments: &[String],
@@ -57,7 +57,7 @@ fn shown_error(
     })
 }
 
-/// Reads the arguments. An error shows them as they are.
+/// Reads the arguments. An error shows them unchanged.
 fn read_as_given<'a>(
     alloc: Global,
     arguments: &'a [String],
@@ -74,7 +74,7 @@ fn read_as_given<'a>(
     }
 }
 
-/// The refusal of an argument's value, with the usage of the command that was matched.
+/// Returns the refusal of an argument's value, with the usage of the command that was matched.
 fn refusal(
     alloc: Global,
     program: &mut Command<'_>,
@@ -90,7 +90,7 @@ fn refusal(
     Ok(program.error(ErrorKind::InvalidValue, sentence.as_str())?)
 }
 
-/// What is wrong with an argument's value, and which one is similar, where one is.
+/// Returns what is wrong with an argument's value, and a similar value, if there is one.
 fn sentence_of(alloc: Global, bad: BadArgument<'_>) -> Result<String, AllocError> {
     match bad.tip(alloc)? {
         Some(word) => { format!(in alloc; "{bad}\n\n  tip: a similar value exists: '{word}'") }

@@ -12,7 +12,7 @@
 //!
 //! # By review
 //!
-//! `main` ends with the code of a `Status`, 0 to 3.
+//! `main` ends with the code of an `ExitStatus`, 0 to 3.
 #![tactic(auto)]
 
 mod arguments;

@@ -1,4 +1,4 @@
-//! The program over the runtime: arguments are read, and their command is run.
+//! The program over the runtime: reads the arguments, and runs their command.
 
 ghost use Rattle.std.specs.Prelude.{IfOk};
 ghost use Rattle.cmd_stats.specs.Units.{IsUnit};
@@ -14,9 +14,9 @@ use cmd_captures::{check_file, convert_file, import_file, show_file};
 use cmd_follow::follow_files;
 use cmd_mesh::mesh_file;
 use cmd_page::{Viewing, view_file};
-use cmd_pipe::{Ended, run_contending_station};
+use cmd_pipe::run_contending_station;
 use cmd_quoting::Quoted;
-use cmd_reporting::{CommandFault, Fault, Io, OutputFormat, ProgressWriter, Status};
+use cmd_reporting::{ExitStatus, Fault, Io, OutputFormat, ProgressWriter, Status};
 use cmd_stats::replay::{PortList, ReplayOptions, ReplayUnit, replay_file};
 use cmd_stats::stats_file;
 use cmd_verdict::verdict_file;
@@ -33,12 +33,12 @@ use std::io::{BufWriter, Eprint, ErrorKind, Read, Write};
 use std::net::Net;
 use std::rt::{Clock, Files};
 
-/// Runs the command that the arguments name, the program's own name being the first of them, and
-/// writes out all that it prints. `input` is standard input, which is read where a file is `-`.
-/// `console` says who looks at what `out` and `err` take. Returns the exit status: that of the
-/// command, or 141 if the reader of standard output has closed it.
+/// Runs the command that the arguments name, and flushes all that it prints. The first argument is
+/// the program's own name. `input` is standard input, which is read if a file is `-`. `console`
+/// says whether `out` and `err` are terminals. Returns the exit status: that of the command, or 141
+/// if the reader of standard output has closed it.
 ///
-/// Arguments that could not be taken are refused where one is not UTF-8; else memory ran out.
+/// If the arguments could not be collected, one is not UTF-8, which is refused, or memory ran out.
 pub fn run<
     R: Files + Net + Clock + Eprint + AllocGlobal,
     I: Read + Drop,
@@ -53,7 +53,7 @@ where
             let mut pipe = Pipe::new(out);
             let arguments = arguments.as_slice();
             let status = run_buffered(rt, arguments, input, &mut pipe, err, console);
-            if pipe.is_closed() && status == Status::Failed {
+            if pipe.is_closed() && status == ExitStatus::Ended(Status::Failed) {
                 CLOSED_STATUS
             } else {
                 status.code()
@@ -63,7 +63,7 @@ where
     }
 }
 
-/// The arguments.
+/// Collects the arguments.
 fn collected<'f, R: AllocGlobal>(
     rt: &R,
     arguments: io::Result<Args>,
@@ -77,8 +77,8 @@ fn collected<'f, R: AllocGlobal>(
     }
 }
 
-/// Ends before any command, by this fault.
-fn refuse<F: CommandFault + Drop, E: Write>(fault: F, err: &mut E) -> Status {
+/// Ends the program before any command, with this fault.
+fn refuse<E: Write>(fault: ArgumentFault<'_>, err: &mut E) -> ExitStatus {
     let mut io = Io {
         out: (),
         err,
@@ -93,21 +93,21 @@ fn run_buffered<
     I: Read + Drop,
     W: Write + Drop,
     E: Write,
->(rt: &R, arguments: &[String], input: I, out: W, err: &mut E, console: Console) -> Status
+>(rt: &R, arguments: &[String], input: I, out: W, err: &mut E, console: Console) -> ExitStatus
 where
     R::File: Read + Write + Drop,
 {
     let Ok(mut out) = BufWriter::new(rt.alloc(), out) else {
-        return refuse(Fault::OutOfMemory(AllocError), err);
+        return refuse(ArgumentFault::from(Fault::OutOfMemory(AllocError)), err);
     };
     let status = dispatch(rt, arguments, input, &mut out, err, console);
     match out.flush() {
         Ok(()) => status,
-        Err(_) => Status::Failed,
+        Err(_) => ExitStatus::Ended(Status::Failed),
     }
 }
 
-/// Runs the command that the arguments name, or answers arguments that name none.
+/// Runs the command that the arguments name, or prints help or a refusal if they name none.
 fn dispatch<R: Files + Net + Clock + Eprint + AllocGlobal, I: Read + Drop, W: Write, E: Write>(
     rt: &R,
     arguments: &[String],
@@ -115,7 +115,7 @@ fn dispatch<R: Files + Net + Clock + Eprint + AllocGlobal, I: Read + Drop, W: Wr
     out: &mut W,
     err: &mut E,
     console: Console,
-) -> Status
+) -> ExitStatus
 where
     R::File: Read + Write + Drop,
 {
@@ -125,8 +125,8 @@ where
     }
 }
 
-/// Runs a subcommand, its lines under heads and in colours where they are, and its progress shown
-/// where someone looks.
+/// Runs a subcommand, with column heads and colours if its lines have them, and with its progress
+/// on a terminal.
 fn run_shown<R: Files + Net + Clock + Eprint + AllocGlobal, I: Read + Drop, W: Write, E: Write>(
     rt: &R,
     subcommand: &Subcommand<'_>,
@@ -134,7 +134,7 @@ fn run_shown<R: Files + Net + Clock + Eprint + AllocGlobal, I: Read + Drop, W: W
     input: I,
     out: &mut W,
     err: &mut E,
-) -> Status
+) -> ExitStatus
 where
     R::File: Read + Write + Drop,
 {
@@ -160,7 +160,7 @@ fn run_subcommand<
     input: I,
     out: &mut W,
     err: &mut E,
-) -> Status
+) -> ExitStatus
 where
     R::File: Read + Write + Drop,
 {
@@ -168,20 +168,25 @@ where
         Subcommand::Show(show) => show_records(rt, show, input, &mut Io { out, err, format }),
         Subcommand::Check(records) => {
             let mut io = Io { out, err, format };
-            check_file(rt, records.file, input, &records.selection, &mut io)
+            let ended = check_file(rt, records.file, input, &records.selection, &mut io);
+            ExitStatus::Ended(ended)
         }
         Subcommand::Stats(records, printed) => {
             let mut io = Io { out, err, format };
-            stats_file(
+            let ended = stats_file(
                 rt,
                 records.file,
                 input,
                 &records.selection,
                 *printed,
                 &mut io,
-            )
+            );
+            ExitStatus::Ended(ended)
         }
-        Subcommand::Follow(what) => { follow_files(rt, what, input, &mut Io { out, err, format }) }
+        Subcommand::Follow(what) => {
+            let mut io = Io { out, err, format };
+            ExitStatus::Ended(follow_files(rt, what, input, &mut io))
+        }
         Subcommand::Convert(convert) => {
             convert_records(rt, convert, input, &mut Io { out, err, format })
         }
@@ -200,7 +205,10 @@ where
         Subcommand::Replay(replay) => {
             replay_records(rt, replay, input, &mut Io { out, err, format })
         }
-        Subcommand::Verdict(what) => { verdict_file(rt, what, input, &mut Io { out, err, format }) }
+        Subcommand::Verdict(what) => {
+            let mut io = Io { out, err, format };
+            ExitStatus::Ended(verdict_file(rt, what, input, &mut io))
+        }
         Subcommand::Station(station, rule) => {
             serve(
                 rt.alloc(),
@@ -222,7 +230,7 @@ fn show_records<R: Files + AllocGlobal, I: Read + Drop, W: Write, E: Write>(
     show: &Show<'_>,
     input: I,
     io: &mut Io<W, E>,
-) -> Status
+) -> ExitStatus
 where
     R::File: Read + Drop,
 {
@@ -237,13 +245,13 @@ where
     )
 }
 
-/// `convert`, which shows how far it is.
+/// `convert`, which shows its progress.
 fn convert_records<R: Files + Clock + Eprint + AllocGlobal, I: Read + Drop, W: Write, E: Write>(
     rt: &R,
     convert: &Convert<'_>,
     input: I,
     io: &mut Io<W, E>,
-) -> Status
+) -> ExitStatus
 where
     R::File: Read + Write + Drop,
 {
@@ -251,13 +259,13 @@ where
     convert_file(&reading, convert.conversion, &convert.selection, input, io)
 }
 
-/// `import`, which shows how far it is.
+/// `import`, which shows its progress.
 fn import_lines<R: Files + Clock + Eprint + AllocGlobal, I: Read + Drop, W: Write, E: Write>(
     rt: &R,
     import: &Import<'_>,
     input: I,
     io: &mut Io<W, E>,
-) -> Status
+) -> ExitStatus
 where
     R::File: Read + Write + Drop,
 {
@@ -271,7 +279,7 @@ fn replay_records<R: Files + AllocGlobal, I: Read + Drop, W: Write, E: Write>(
     replay: &Replay<'_>,
     input: I,
     io: &mut Io<W, &mut E>,
-) -> Status
+) -> ExitStatus
 where
     R::File: Read + Write + Drop,
 {
@@ -291,25 +299,24 @@ where
     }
 }
 
-/// Is the station that these arguments describe, driven by the lines of standard input.
+/// Runs the station that these arguments describe, on the lines of standard input.
 fn serve<I: Read + Drop, W: Write, E: Write>(
     alloc: Global,
     station: &StationArguments<'_>,
     rule: Option<ContentionRule>,
     input: I,
     io: &mut Io<&mut W, &mut E>,
-) -> Status {
+) -> ExitStatus {
     match config_of(station) {
-        Ok(config) => match run_contending_station(alloc, &config, rule, input, io.out, io.err) {
-            Ended::Done => Status::Done,
-            Ended::Refused => Status::Refused,
-            Ended::Failed => Status::Failed,
-        },
+        Ok(config) => {
+            let ended = run_contending_station(alloc, &config, rule, input, io.out, io.err);
+            ExitStatus::Ended(ended)
+        }
         Err(fault) => refuse(fault, io.err),
     }
 }
 
-/// The station that these arguments describe, with these ports open from its start.
+/// Returns the station that these arguments describe, with these ports open from its start.
 fn unit_of<'f>(
     station: &'f StationArguments<'_>,
     ports: PortList,
@@ -326,7 +333,8 @@ fn unit_of<'f>(
     })
 }
 
-/// The station that these arguments describe. The fault is the first key that describes none.
+/// Returns the configuration of the station that these arguments describe. The fault has the first
+/// invalid key.
 fn config_of<'f>(station: &'f StationArguments<'_>) -> Result<Config, ArgumentFault<'f>>
     ensures { IfOk result IsConfig }
 {
@@ -341,8 +349,8 @@ fn config_of<'f>(station: &'f StationArguments<'_>) -> Result<Config, ArgumentFa
     }
 }
 
-/// The refusal of a value of the air that was given beside a scenario, with its reason where codes
-/// are explained.
+/// Returns the refusal of a value of the radio model that was given in addition to a scenario, with
+/// its reason if codes are explained.
 fn setting_fault<'a>(alloc: Global, fault: SettingFault<'a>, explain: bool) -> ArgumentFault<'a> {
     if !explain {
         return ArgumentFault::Setting(fault, None);
@@ -353,17 +361,18 @@ fn setting_fault<'a>(alloc: Global, fault: SettingFault<'a>, explain: bool) -> A
     }
 }
 
-/// Answers arguments that named no command: help on standard output, a refusal on standard error.
-fn answer<W: Write, E: Write>(error: &clap::Error, out: &mut W, err: &mut E) -> Status {
+/// Prints the result for arguments that named no command: help on standard output, a refusal on
+/// standard error.
+fn answer<W: Write, E: Write>(error: &clap::Error, out: &mut W, err: &mut E) -> ExitStatus {
     if error.kind() == clap::error::ErrorKind::OutOfMemory {
-        return refuse(Fault::OutOfMemory(AllocError), err);
+        return refuse(ArgumentFault::from(Fault::OutOfMemory(AllocError)), err);
     }
     if error.use_stderr() {
         let _ = write!(err, "{error}");
-        return Status::BadArguments;
+        return ExitStatus::BadArguments;
     }
     match write!(out, "{error}") {
-        Ok(()) => Status::Done,
-        Err(_) => Status::Failed,
+        Ok(()) => ExitStatus::Ended(Status::Done),
+        Err(_) => ExitStatus::Ended(Status::Failed),
     }
 }

@@ -1,4 +1,4 @@
-//! What the arguments ask for.
+//! The subcommands, and how arguments are read as them.
 
 ghost use Rattle.std.specs.Prelude.{◌≡◌, is_some};
 ghost use Rattle.geostation.specs.Subcommands.{has_progress, is_headed, painter_of as painter_in};
@@ -31,13 +31,13 @@ pub enum Subcommand<'a> {
     Show(Show<'a>),
     /// To check records.
     Check(ChosenRecords<'a>),
-    /// To count records, and to tell of so many sources at most.
+    /// To count records, and to print at most this many sources.
     Stats(ChosenRecords<'a>, PrintedSources),
     /// To follow packets over captures.
     Follow(FollowOptions<'a>),
     /// To write records to another file.
     Convert(Convert<'a>),
-    /// To make a capture of lines.
+    /// To make a capture from lines.
     Import(Import<'a>),
     /// To run a scenario.
     Sim(Sim<'a>),
@@ -45,18 +45,18 @@ pub enum Subcommand<'a> {
     View(Viewing<'a>),
     /// To run a scenario over sockets.
     Mesh(MeshRun<'a>),
-    /// To give records to one station.
+    /// To replay records to one station.
     Replay(Replay<'a>),
-    /// To judge a station by a capture.
+    /// To find rules that a station breaks in a capture.
     Verdict(VerdictOptions<'a>),
-    /// To be one station, which these arguments describe, and which contends by this rule, if one is
-    /// given.
+    /// To run one station, which these arguments describe, and which contends by this rule, if one
+    /// is given.
     Station(StationArguments<'a>, Option<ContentionRule>),
-    /// To refuse a value of the air that was given beside a scenario.
+    /// To refuse a value of the radio model that was given in addition to a scenario.
     BadSetting(SettingFault<'a>),
 }
 
-/// The records of a capture that are chosen.
+/// The selected records of a capture.
 #[derive(Clone, Copy)]
 pub struct ChosenRecords<'a> {
     /// The capture's file.
@@ -70,7 +70,7 @@ pub struct ChosenRecords<'a> {
 pub struct Show<'a> {
     pub records: ChosenRecords<'a>,
     pub showing: Showing,
-    /// How lines in words are coloured, where they are.
+    /// How lines of text are coloured, if they are.
     pub painter: Option<Painter>,
 }
 
@@ -79,7 +79,7 @@ pub struct Show<'a> {
 pub struct Convert<'a> {
     pub conversion: Conversion<'a>,
     pub selection: Selection,
-    /// Whether it shows how far it is.
+    /// Whether it shows its progress.
     pub progress: bool,
 }
 
@@ -90,7 +90,7 @@ pub struct Import<'a> {
     pub file: &'a str,
     /// The capture that is made.
     pub target: Target<'a>,
-    /// Whether it shows how far it is.
+    /// Whether it shows its progress.
     pub progress: bool,
 }
 
@@ -99,7 +99,7 @@ pub struct Import<'a> {
 pub struct Sim<'a> {
     pub files: RunFiles<'a>,
     pub options: RunOptions,
-    /// How lines in words are coloured, where they are.
+    /// How lines of text are coloured, if they are.
     pub painter: Option<Painter>,
 }
 
@@ -108,10 +108,10 @@ pub struct Sim<'a> {
 pub struct MeshRun<'a> {
     /// The scenario.
     pub file: &'a str,
-    /// The file of frames, where they are written.
+    /// The file of frames, if they are written.
     pub frames: Option<Target<'a>>,
     pub options: MeshOptions,
-    /// Whether a line of column heads stands before the lines.
+    /// Whether a line of column heads comes before the lines.
     pub heads: bool,
 }
 
@@ -123,7 +123,7 @@ pub struct Replay<'a> {
     pub station: StationArguments<'a>,
     /// Its ports.
     pub ports: PortList,
-    /// The file of the frames that it passes on, where they are written.
+    /// The file of the frames that it forwards, if they are written.
     pub frames: Option<Target<'a>>,
     /// Whether the limits of a unit apply.
     pub limiting: Limiting,
@@ -134,7 +134,7 @@ pub struct Replay<'a> {
 }
 
 impl Subcommand<'_> {
-    /// The column heads before its lines, where there are any that it doesn't print by itself.
+    /// Returns the column heads before its lines, if there are any that it doesn't print itself.
     pub fn heads(&self) -> Option<&'static str>
         ensures { is_some result ≡ is_headed self.now }
     {
@@ -144,7 +144,7 @@ impl Subcommand<'_> {
         }
     }
 
-    /// How its lines in words are coloured, where they are.
+    /// Returns how its lines of text are coloured, if they are.
     pub fn painter(&self) -> Option<Painter>
         ensures { result ≡ painter_in self.now }
     {
@@ -155,7 +155,7 @@ impl Subcommand<'_> {
         }
     }
 
-    /// Whether it shows on standard error how far it is.
+    /// Whether it shows its progress on standard error.
     pub fn shows_progress(&self) -> bool
         ensures { result ≡ has_progress self.now }
     {
@@ -169,8 +169,8 @@ impl Subcommand<'_> {
     }
 }
 
-/// The subcommand that was matched, of a program whose streams are these. One is required, as are
-/// its arguments, so there is an answer. The fault is that of the first bad value.
+/// Returns the subcommand that was matched, for a program with these streams. A subcommand and its
+/// arguments are required, so there is one. Returns the fault of the first invalid value.
 pub(crate) fn subcommand_of<'a>(
     alloc: Global,
     matches: &ArgMatches<'a>,
@@ -200,7 +200,7 @@ pub(crate) fn subcommand_of<'a>(
     }
 }
 
-/// How the lines of the subcommand that was matched are printed.
+/// Returns how the lines of the subcommand that was matched are printed.
 pub(crate) fn matched_format(matches: &ArgMatches<'_>, console: Console) -> OutputFormat {
     match matches.subcommand() {
         Some((name, inner)) => output_format_of(name, inner, console),
@@ -208,9 +208,10 @@ pub(crate) fn matched_format(matches: &ArgMatches<'_>, console: Console) -> Outp
     }
 }
 
-/// How the lines of the command of this name are printed. Codes are explained where that is asked
-/// for and, unless it is refused, where someone looks: at both streams, or at standard error alone
-/// where a command writes a file and no lines. An option that a command doesn't have was not given.
+/// Returns how the lines of the command with this name are printed. Codes are explained with
+/// `--explain` and, except in JSON, on a terminal: both streams have to be one, or only standard
+/// error if the command writes a file and no lines. With `--no-explain` they never are. An option
+/// that a command doesn't have counts as not given.
 fn output_format_of(name: &str, matches: &ArgMatches<'_>, console: Console) -> OutputFormat {
     let json = matches.get_flag("json");
     let is_watched = match name {
@@ -224,7 +225,7 @@ fn output_format_of(name: &str, matches: &ArgMatches<'_>, console: Console) -> O
     }
 }
 
-/// How the lines in words of a command are coloured, where they are.
+/// Returns how a command's lines of text are coloured, if they are.
 fn painter_of(matches: &ArgMatches<'_>, console: Console, painter: Painter) -> Option<Painter> {
     let coloring = match matches.get_str("color") {
         Some("always") => Coloring::Always,
@@ -282,7 +283,7 @@ fn showing<'a>(
     })
 }
 
-/// The name of the file that is made: an option, or in its place.
+/// Returns the name of the file that is made, by an option or by position.
 fn output_of<'a>(matches: &ArgMatches<'a>) -> Option<&'a str> {
     matches.get_str("output").or_else(|| matches.get_str("OUT"))
 }
@@ -322,7 +323,7 @@ fn importing<'a>(file: &'a str, matches: &ArgMatches<'a>, console: Console) -> O
     })
 }
 
-/// Whether a command that writes the file of this name shows how far it is.
+/// Whether a command that writes the file with this name shows its progress.
 fn shows_progress(matches: &ArgMatches<'_>, console: Console, target: &str) -> bool {
     !matches.get_flag("quiet") && console.shows_progress(is_standard(target))
 }
@@ -365,7 +366,7 @@ fn judging<'a>(matches: &ArgMatches<'a>) -> Result<Option<Subcommand<'a>>, BadAr
     })))
 }
 
-/// The file of frames, if one is asked for.
+/// Returns the file of frames, if one is asked for.
 fn frames_of<'a>(matches: &ArgMatches<'a>) -> Option<Target<'a>> {
     let to = format_of(matches, "to");
     matches.get_str("frames").map(|name| Target { name, to })
@@ -416,8 +417,8 @@ fn viewing<'a>(
     })))
 }
 
-/// The file of moves, if there is one. Either it or the file that is run is standard input, not
-/// both: `wanted` says so.
+/// Returns the file of moves, if there is one. It is refused if both it and the file that is run
+/// are standard input. `wanted` says this in the message.
 fn moves_of<'a>(
     matches: &ArgMatches<'a>,
     file: &str,
@@ -430,8 +431,8 @@ fn moves_of<'a>(
     Ok(moves)
 }
 
-/// `sim`, or the refusal of the first bad value of its air. Of the scenario and the moves one at
-/// most is standard input.
+/// `sim`, or the refusal of the first invalid value of its radio model. At most one of the scenario
+/// and the moves is standard input.
 fn simulating<'a>(
     matches: &ArgMatches<'a>,
     console: Console,
@@ -468,7 +469,7 @@ fn files_of<'a>(
     }
 }
 
-/// How a scenario is run.
+/// Returns the options of a run.
 fn options_of(matches: &ArgMatches<'_>, settings: AirSettings, console: Console) -> RunOptions {
     let summary = matches.get_flag("summary");
     let quiet = matches.get_flag("quiet");
@@ -483,7 +484,7 @@ fn options_of(matches: &ArgMatches<'_>, settings: AirSettings, console: Console)
     }
 }
 
-/// The values of the air that are given beside the scenario.
+/// Returns the values of the radio model that are given in addition to the scenario.
 fn settings_of<'a>(matches: &ArgMatches<'a>) -> Result<AirSettings, SettingFault<'a>> {
     let mut settings = AirSettings::default();
     for setting in matches.get_strs("set").unwrap_or(&[]) {
@@ -492,7 +493,7 @@ fn settings_of<'a>(matches: &ArgMatches<'a>) -> Result<AirSettings, SettingFault
     Ok(settings)
 }
 
-/// The format that is given by the option of this name, if one is.
+/// Returns the format that the option with this name gives, if it is given.
 fn format_of(matches: &ArgMatches<'_>, option: &str) -> Option<Format> {
     match matches.get_str(option)? {
         "pcap" => Some(Format::Pcap),
@@ -501,7 +502,7 @@ fn format_of(matches: &ArgMatches<'_>, option: &str) -> Option<Format> {
     }
 }
 
-/// The file that a command is over: each has one, by one of these names.
+/// Returns the file that a command reads. Each command has one, with one of these names.
 fn file_of<'a>(matches: &ArgMatches<'a>) -> Option<&'a str> {
     ["FILE", "IN", "SCENARIO", "RUN"]
         .iter()

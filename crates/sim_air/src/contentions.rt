@@ -23,9 +23,9 @@ enum LastStep {
     Nothing,
     /// It holds the frame that it would send until this time, in milliseconds.
     Holds(u64),
-    /// It holds those in `left` no more, since enough others have sent them.
+    /// It no longer holds those in `left`, since enough other stations have sent them.
     Cancels,
-    /// It holds those in `left` no more, since it restarted.
+    /// It no longer holds those in `left`, since it restarted.
     Drops,
 }
 
@@ -34,14 +34,15 @@ enum LastStep {
 pub(crate) struct Contentions {
     alloc: Global,
     rule: ContentionRule,
-    /// Those of each station, by its number: the numbers of frames. `None` if it doesn't contend.
+    /// The numbers of the frames that each station holds, by its number. `None` if it doesn't
+    /// contend.
     stations: Vec<Option<HeldFrames<usize>>>,
-    /// All of them, and some that are held no more, of which the first is held.
+    /// All held frames, and some that are no longer held. The first one is held.
     due: BinaryHeap<DueFrame>,
     kept: KeptFrames,
     last: LastStep,
-    /// The frames that the station of the last event holds no more, in the order in which they were
-    /// held.
+    /// The frames that the station of the last event no longer holds, in the order in which they
+    /// were held.
     left: Vec<usize>,
     ghost ordered: { IsHeap (then_cmp (flip_args (on (λ d. d.moment) nat_cmp))
         (flip_args (on (λ d. d.frame) nat_cmp))) (heap_items due) } by { Prim.hlevel props },
@@ -211,7 +212,7 @@ impl Contentions {
         Ok(())
     }
 
-    /// Takes those that are held no more out of the front of those that are due.
+    /// Removes frames that are no longer held from the front of those that are due.
     fn skip_left(&mut self) {
         for _ in 0..self.due.len() {
             match self.due.peek() {
@@ -298,8 +299,8 @@ fn held_of(
     stations.as_mut_slice().get_mut(station)?.as_mut()
 }
 
-/// When the frame is due in which a packet goes on, whose frame a station received with an event and
-/// accepted. `None` if it goes at once.
+/// Returns when a station has to forward a packet whose frame it received with an event and
+/// accepted. `None` if it is forwarded at once.
 fn due_at(rule: ContentionRule, world: &World, event: &Event, received: usize) -> Option<u64> {
     let station = world.station(event.station)?;
     let packet = view_of(world, received)?;

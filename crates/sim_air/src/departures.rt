@@ -13,7 +13,7 @@ use std::alloc::{AllocError, Global};
 use std::cmp::Ordering;
 use std::collections::BinaryHeap;
 
-/// When a station leaves. The greatest is the first one: the one with the earlier time, and at one
+/// When a station departs. The greatest is the first one: the one with the earlier time, and at one
 /// time the one with the lower number.
 #[derive(Clone, Copy, Debug)]
 pub(crate) struct Departure {
@@ -70,7 +70,7 @@ impl PartialOrd for Departure {
 /// What is known of a station.
 #[derive(Clone, Copy, Debug, Default)]
 struct Seen {
-    /// When it leaves, if no row of it comes before that.
+    /// When it departs, if no row of it comes before that.
     due: u64,
     /// Whether it is among the departures that wait.
     waits: bool,
@@ -79,7 +79,7 @@ struct Seen {
 /// When each station leaves, if no row of it comes before that.
 #[derive(Drop)]
 pub(crate) struct Departures {
-    /// How long after its last row a station leaves, in milliseconds.
+    /// How long after its last row a station departs, in milliseconds.
     gone: u32,
     /// What is known of each station, by its number.
     seen: Vec<Seen>,

@@ -55,17 +55,18 @@ use std::alloc::{AllocError, Global};
 /// - A move that is not refused makes an absent station present. Its first tick and its first sends
 ///   are put as at the start, if none of them waits.
 ///
-/// - A station that contends, by `contend`, may hold the frame in which a geobroadcast goes on. It is
-///   released when it is due, after all that is done up to that time: its receivers are found then.
-///   Copies of it cancel it, and a restart drops it.
+/// - A station that contends, by `contend`, may hold the frame in which it forwards a geobroadcast.
+///   It is released when it is due, after all that is done up to that time: its receivers are found
+///   then. Copies of it cancel it, and a restart drops it.
 ///
 /// The run ends when nothing waits up to the last time. Frames are released some time after their
 /// deliveries are done, except those from the first on that an event of the file delivers.
 ///
-/// There is a list of events by which the world stands at the end, by the written rules. The laws
-/// over every schedule hold of that end. The sink took exactly these events and their entries.
-/// Those of the file up to the last time are among them, in their order. One of these laws: where
-/// deliveries come, a geobroadcast reaches (`what_is_delivered_reaches` of `its_model`).
+/// By the written rules, there is a list of events after which the world is as at the end. The laws
+/// over every schedule hold for that end. The sink took exactly these events and their entries.
+/// Those of the file up to the last time are among them, in their order. One of these laws is that
+/// a geobroadcast reaches its stations if its deliveries are made (`what_is_delivered_reaches` of
+/// `its_model`).
 ///
 /// The numbers of each config have to be in their ranges. At most 65535 stations are possible, no
 /// two with the same MID. The speed of each `MoveTo` has to be in its range. `present` has, by

@@ -1,5 +1,5 @@
-//! The air between stations: frames that are heard in reach, late and with losses, and the run of a
-//! world in it.
+//! The radio model between stations: frames are received in range, with a delay and with losses. It
+//! does the run of a world with it.
 //!
 //! # What is proved
 //!

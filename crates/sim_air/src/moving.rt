@@ -1,5 +1,5 @@
-//! A run with a radio model in which stations move by the rows of a file. A station comes with its
-//! first row and leaves some time after its last one.
+//! A run with a radio model in which stations move by the rows of a file. A station arrives with
+//! its first row and departs some time after its last one.
 
 ghost use Rattle.std.specs.Prelude.{[], ◌∷◌, ℕ, List, Some, None, map, ◌≡◌, ◌≤◌, ◌<◌, ◌+◌, ◌^◌};
 ghost use Rattle.std.specs.Prelude.{All};
@@ -54,12 +54,12 @@ use std::alloc::{AllocError, Global};
 use std::io::BufRead;
 
 /// Runs a scenario of at most 65535 stations with this timeline, while stations move by the rows of
-/// a file, and passes each event to a sink as it is done. Returns the world that the last one left.
+/// a file, and passes each event to a sink when it is done. Returns the world after the last event.
 ///
 /// - A row moves the station of its id, with an accurate position.
 /// - The first row of an id makes the station, with the next number. The station is moved, opens
 ///   the ports that the scenario gives it, and is present from then on.
-/// - A station of an id leaves when it had no row for the time that the scenario gives.
+/// - A station of an id departs after the scenario's time without a row.
 /// - At one time, rows come first, in the order of the file. Then come departures by number, the
 ///   events of the scenario in their order, and what the radio model planned, as in `run_air`.
 /// - An event for an id of which no station is present isn't run. The sink gets a note of it.

@@ -16,18 +16,18 @@ use sim_scenario::events::AddressedEvent;
 use sim_settings::Moves;
 use std::alloc::Global;
 
-/// What comes to a run from outside.
+/// What a run takes from outside.
 #[derive(Clone, Copy, Debug)]
 pub(crate) enum Outside {
     /// The next row.
     Row,
-    /// The station of this number leaves, if no row of it came since.
+    /// The station with this number departs, if no row of it came since.
     Departure(usize),
     /// The next event of the scenario.
     Event,
 }
 
-/// What comes to a run from outside, and when.
+/// What a run takes from outside, and when.
 #[derive(Clone, Copy, Debug)]
 pub(crate) struct Coming {
     pub(crate) moment: u64,

@@ -492,7 +492,8 @@ impl<'a> Run<'a> {
         }
     }
 
-    /// The frame that goes out with the last event, if one does. One that is held goes out later.
+    /// The frame that is sent with the last event, if there is one. A frame that is held is sent
+    /// later.
     #[inline(always)]
     fn sent_frame(&self, entry: &Entry) -> Option<usize>
         ensures none { self.now.contentions ≡ None → (answer : Answer ℕ) →
@@ -826,7 +827,7 @@ pub(crate) fn place_of(world: &World, number: usize) -> Option<Place>
     }
 }
 
-/// Whether the place where a station stood is this one.
+/// Whether the position of a station was this one.
 #[inline(always)]
 fn stood_at(stood: &Option<Place>, place: Place) -> bool
     ensures { IsTrue result → stood.now ≡ Some place }

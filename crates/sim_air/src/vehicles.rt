@@ -43,7 +43,7 @@ pub(crate) struct Vehicles<'a> {
 }
 
 impl<'a> Vehicles<'a> {
-    /// No station yet, in addition to these.
+    /// Returns the list before the first row. These are the other stations.
     pub(crate) fn beside(
         alloc: Global,
         stations: &[Config],

@@ -1,4 +1,5 @@
-//! Laws of the runs of an air. Each is a function that does nothing and proves what it ensures.
+//! Laws of the runs of a radio model. Each is a function that does nothing and proves what it
+//! ensures.
 
 ghost use Rattle.std.specs.Prelude.{◌≡◌, ℕ, List};
 ghost use Rattle.its_model.specs.World.{Config};
@@ -12,8 +13,8 @@ ghost use Rattle.sim_air_model.specs.Carried.{StationsInRangeHear};
 ghost use Rattle.sim_air_model.specs.Carried.{ReachesInAir};
 ghost use Rattle.sim_air_model.specs.Timetable.{Rules, Filed, IsOver, air_opening, air_run};
 
-/// The run of an air is one: where two numbers of steps leave nothing that waits up to the last
-/// moment, they leave the same.
+/// A radio model has one run: if two numbers of steps leave nothing that waits up to the last time,
+/// they leave the same state.
 pub fn one_run()
     ensures { (rules : Rules) (configs : List Config) (file : List Filed) (m n : ℕ) →
         IsOver rules (air_run rules configs m (air_opening rules configs file)) →
@@ -22,13 +23,13 @@ pub fn one_run()
         ≡ air_run rules configs n (air_opening rules configs file) }
 {}
 
-/// What a step does is the next of the events done.
+/// What a step does is the next of the events that are done.
 pub fn steps_do_events()
     ensures { (rules : Rules) (configs : List Config) (file : List Filed) →
         StepsDoEvents rules configs file }
 {}
 
-/// The moments of the events that an air does never fall.
+/// The times of the events that a radio model does never fall.
 pub fn moments_never_fall()
     ensures { (rules : Rules) (configs : List Config) (file : List Filed) →
         MomentsNeverFall rules configs file }
@@ -57,42 +58,42 @@ pub fn deliveries_come_once()
         DeliversOnce rules configs file }
 {}
 
-/// In a run that is over, the next tick of a station whose tick of the air's own wasn't refused is
-/// taken by one of the steps after, and done if the station is present then: at that moment or,
-/// where that is later, when its beacon is due by the jitter that is drawn then, unless that is
-/// past the last moment.
+/// In a run that is over, after a tick that the radio model planned and that wasn't refused, the
+/// next tick of the station is taken by a later step, and done if the station is present then. Its
+/// time is that of the tick before or, if that is later, the time at which the station's beacon is
+/// due by a new random jitter. A tick after the last time is not taken.
 pub fn ticks_go_on()
     ensures { (rules : Rules) (configs : List Config) (file : List Filed) →
         TicksGoOn rules configs file }
 {}
 
-/// Each tick of the air's own that is done is the first of a station that is present at the start,
-/// where there are beacons, or so follows a tick of the air's own at that station, by an earlier
-/// step, that wasn't refused, or is that of a station that came by an earlier step, later by its
-/// jitter.
+/// Each tick that the radio model planned and that is done has a reason. It is the first tick of a
+/// station that is present at the start, if there are beacons. Or it follows an earlier planned
+/// tick of that station that wasn't refused, at the time that `ticks_go_on` has. Or the station
+/// arrived by an earlier step, and the tick is later by its jitter.
 pub fn ticks_are_due()
     ensures { (rules : Rules) (configs : List Config) (file : List Filed) →
         TicksAreDue rules configs file }
 {}
 
-/// In a run that is over, the next send of a station that sent of its own traffic, refused or not,
-/// is taken by one of the steps after, and done if the station is present then: a period later,
-/// unless that is past the last moment.
+/// In a run that is over, after a send of a station's own traffic, refused or not, the next one is
+/// taken a period later by a later step, and done if the station is present then. A send after the
+/// last time is not taken.
 pub fn sends_go_on()
     ensures { (rules : Rules) (configs : List Config) (file : List Filed) →
         SendsGoOn rules configs file }
 {}
 
-/// Each send of traffic that is done is the first of it by a station that is present at the start,
-/// at a draw modulo the period, or comes a period after one of the same by that station, by an
-/// earlier step, or is that of a station that came by an earlier step, later by a draw modulo the
-/// period. The traffic is one of the rules'.
+/// Each send of traffic that is done has a reason. It is the first by a station that is present at
+/// the start, at a random time below the period. Or it is a period after an earlier send of the
+/// same traffic by that station. Or the station arrived by an earlier step, and the send is later
+/// by a random time below the period. The traffic is one of the rules.
 pub fn sends_are_due()
     ensures { (rules : Rules) (configs : List Config) (file : List Filed) →
         SendsAreDue rules configs file }
 {}
 
-/// The moments of the lines of an air's log never fall.
+/// The times of the lines of a radio model's log never fall.
 pub fn logs_never_fall()
     ensures { (rules : Rules) (configs : List Config) (file : List Filed) →
         LogsNeverFall rules configs file }
@@ -106,7 +107,7 @@ pub fn stations_in_range_hear()
         StationsInRangeHear rules configs file }
 {}
 
-/// In an air no frame overtakes another, where the file delivers none by itself.
+/// In a radio model no frame overtakes another, if the file itself delivers none.
 pub fn frames_come_in_order()
     ensures { (rules : Rules) (configs : List Config) (file : List Filed) →
         FramesComeInOrder rules configs file }

@@ -11,7 +11,7 @@ use crate::fault::Word;
 /// A column that has a meaning. Others are ignored.
 #[derive(Clone, Copy, Debug, PartialEq, Eq)]
 pub enum Column {
-    /// The moment, in milliseconds: 0 to 2^62.
+    /// The time, in milliseconds: 0 to 2^62.
     At,
     /// The id of what moves.
     Id,
@@ -25,7 +25,7 @@ pub enum Column {
     Heading,
 }
 
-/// Whose names the columns have.
+/// The notation of the columns.
 #[derive(Clone, Copy, Debug, PartialEq, Eq)]
 pub enum Notation {
     /// This project's own: whole numbers of its units.
@@ -34,29 +34,29 @@ pub enum Notation {
     Sumo,
 }
 
-/// Where the columns stand in each row, counted from 0.
+/// The positions of the columns in each row, from 0.
 #[derive(Clone, Copy, Debug, PartialEq, Eq)]
 pub struct Columns {
-    /// Whose names they have.
+    /// Their notation.
     pub notation: Notation,
     /// How many fields there are, ignored ones included.
     pub count: usize,
-    /// The moment's.
+    /// The position of the time.
     pub at: usize,
-    /// The id's.
+    /// The position of the id.
     pub id: usize,
-    /// The latitude's.
+    /// The position of the latitude.
     pub lat: usize,
-    /// The longitude's.
+    /// The position of the longitude.
     pub lon: usize,
-    /// The speed's, which may be absent.
+    /// The position of the speed, which may be absent.
     pub speed: Option<usize>,
-    /// The heading's, which may be absent.
+    /// The position of the heading, which may be absent.
     pub heading: Option<usize>,
 }
 
 impl Column {
-    /// Its name.
+    /// Returns its name.
     pub fn word(self, notation: Notation) -> &'static str
         ensures { result.now ≡ word_of notation self }
     {
@@ -76,7 +76,7 @@ impl Column {
         }
     }
 
-    /// How many decimal places of SUMO's unit the own unit has.
+    /// Returns how many decimal places of SUMO's unit this project's unit has.
     pub(crate) fn places(self) -> u32
         ensures value { result ≡ places_of self }
         ensures few { places_of self ≤ 7 }
@@ -90,7 +90,7 @@ impl Column {
         }
     }
 
-    /// The least number that it takes.
+    /// Returns the least number that it may have.
     pub(crate) fn least(self) -> i128
         ensures { result ≡ least_of self }
     {
@@ -102,7 +102,7 @@ impl Column {
         }
     }
 
-    /// The greatest number that it takes.
+    /// Returns the greatest number that it may have.
     pub(crate) fn most(self) -> i128
         ensures { result ≡ most_of self }
     {
@@ -118,7 +118,7 @@ impl Column {
 }
 
 impl Columns {
-    /// Where the column stands that a word refuses. `None` for a word that refuses no column.
+    /// Returns the position of the column that a keyword is about. `None` if it is about no column.
     pub(crate) fn place_of(&self, word: Word) -> Option<usize> {
         match word {
             Word::At => Some(self.at),
@@ -132,18 +132,18 @@ impl Columns {
     }
 }
 
-/// How often a name stands among others.
+/// How often a name occurs among others.
 #[derive(Clone, Copy, Debug, PartialEq, Eq)]
 pub(crate) enum Occurrence {
     /// Nowhere.
     Nowhere,
-    /// At this place alone.
+    /// Only at this position.
     Once(usize),
     /// Twice, or more often.
     Twice,
 }
 
-/// How often a column's name stands among these.
+/// Finds how often a column's name occurs among these.
 pub(crate) fn find(names: &[Vec<u8>], word: &str) -> Occurrence
     ensures { IsFound (texts names.now) word.now result }
 {
@@ -166,7 +166,7 @@ fn is_named(name: &[u8], word: &str) -> bool
     name == word.as_bytes()
 }
 
-/// The place of a column that has to be there: `None` where it isn't, or stands twice.
+/// Returns the position of a column that has to be there. `None` if it is missing or occurs twice.
 fn required(names: &[Vec<u8>], notation: Notation, column: Column) -> Option<usize>
     ensures some { IfSome result (HasOnce (texts names.now) (word_of notation column)) }
     ensures none { IfNone result ((place : ℕ) →
@@ -178,7 +178,7 @@ fn required(names: &[Vec<u8>], notation: Notation, column: Column) -> Option<usi
     }
 }
 
-/// The place of a column that may be absent: `None` where it stands twice.
+/// Returns the position of a column that may be absent. `None` if it occurs twice.
 fn optional(names: &[Vec<u8>], notation: Notation, column: Column) -> Option<Option<usize>>
     ensures some { IfSome result (MayStand (texts names.now) (word_of notation column)) }
     ensures none { IfNone result ((place : Option ℕ) →
@@ -213,7 +213,7 @@ fn is_absent(names: &[Vec<u8>], notation: Notation, column: Column) -> bool
     }
 }
 
-/// The columns of these names in this notation; `None` where one stands twice or is missing.
+/// Returns the columns with these names in this notation. `None` if one occurs twice or is missing.
 fn columns_in(names: &[Vec<u8>], notation: Notation) -> Option<Columns>
     ensures some { IfSome result (IsHeaderIn notation (texts names.now)) }
     ensures none { IfNone result ((columns : Columns) →
@@ -231,8 +231,8 @@ fn columns_in(names: &[Vec<u8>], notation: Notation) -> Option<Columns>
     })
 }
 
-/// The columns of these names, in one notation; `None` where a name of it stands twice, one is
-/// missing, or there are names of both.
+/// Returns the columns with these names, in one notation. `None` if one occurs twice or is missing,
+/// or there are names of both notations.
 pub(crate) fn columns_of(names: &[Vec<u8>]) -> Option<Columns>
     ensures some { IfSome result (IsHeader (texts names.now)) }
     ensures none { IfNone result ((columns : Columns) → ¬ IsHeader (texts names.now) columns) }

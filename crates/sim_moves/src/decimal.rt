@@ -12,7 +12,7 @@ const MOST_DIGITS: usize = 19;
 /// The most digits of a decimal.
 const MOST_DECIMAL_DIGITS: usize = 18;
 
-/// The whole number that octets write: a minus, or none, and 1 to 19 digits. `None` for others.
+/// Reads a whole number: an optional minus sign, and 1 to 19 digits. `None` for other octets.
 pub(crate) fn whole(octets: &[u8]) -> Option<i128>
     ensures some { IfSome result (WritesWhole octets.now) }
     ensures none { IfNone result ((number : ℤ) → ¬ WritesWhole octets.now number) }
@@ -26,9 +26,9 @@ pub(crate) fn whole(octets: &[u8]) -> Option<i128>
 }
 
 #[tactic(auto, using(crate::proofs::Numbers::small_power, crate::proofs::Numbers::some_power))]
-/// How many units of 10 to the minus `places` are nearest to the decimal that octets write, halves
-/// away from zero: a minus, or none, and 1 to 18 digits with at most one point among or behind
-/// them. `None` for others.
+/// Reads a decimal number, rounded to units of 10 to the minus `places`, halves away from zero: an
+/// optional minus sign, and 1 to 18 digits with at most one point between or after them. `None` for
+/// other octets.
 pub(crate) fn decimal(places: u32, octets: &[u8]) -> Option<i128>
     requires { places ≤ 7 }
     ensures some { IfSome result (WritesDecimal places octets.now) }
@@ -47,8 +47,8 @@ pub(crate) fn decimal(places: u32, octets: &[u8]) -> Option<i128>
 }
 
 #[tactic(auto, using(crate::proofs::Numbers::value_of_both, crate::proofs::Numbers::both_fit))]
-/// The number that the digits on both sides of a point write; `unit` is what the last of those
-/// behind it goes into one.
+/// Returns the number of the digits on both sides of a point, in units of the last digit. `unit` is
+/// how many of these units make 1.
 fn joined(whole: &[u8], fraction: &[u8], unit: u64) -> u64
     requires whole { AllDigits 10 whole.now }
     requires fraction { AllDigits 10 fraction.now }
@@ -70,7 +70,7 @@ fn nearest_to(digits: u64, scale: u64, unit: u64) -> u128
     (2 * (digits * scale) + unit) / (2 * unit)
 }
 
-/// The octets behind a minus that they may begin with.
+/// Returns the octets after a minus sign, if they begin with one.
 fn unsigned(octets: &[u8]) -> &[u8]
     ensures { result.now ≡ unsigned_part octets.now }
 {
@@ -80,7 +80,7 @@ fn unsigned(octets: &[u8]) -> &[u8]
     }
 }
 
-/// This magnitude with the sign that octets begin with.
+/// Returns this magnitude with the sign at the beginning of the octets.
 fn signed(octets: &[u8], magnitude: u128) -> i128
     requires { magnitude < 2 ^ 127 }
     ensures { result ≡ signed_by octets.now magnitude }
@@ -92,7 +92,7 @@ fn signed(octets: &[u8], magnitude: u128) -> i128
 }
 
 #[tactic(auto, using(crate::proofs::Numbers::before_at, crate::proofs::Numbers::behind_here, crate::proofs::Numbers::before_none, crate::proofs::Numbers::behind_none))]
-/// The octets before the first point, and those behind it.
+/// Returns the octets before the first point, and those after it.
 fn pointed(octets: &[u8]) -> (&[u8], &[u8])
     ensures before { result.0.now ≡ before_point octets.now }
     ensures behind { result.1.now ≡ behind_point octets.now }
@@ -106,7 +106,7 @@ fn pointed(octets: &[u8]) -> (&[u8], &[u8])
 }
 
 #[tactic(auto, using(std::proofs::lemmas::Int::Digits::digits_more, std::proofs::lemmas::Str::Parse::digit_at))]
-/// Whether there are digits alone.
+/// Whether all octets are digits.
 fn are_digits(octets: &[u8]) -> bool
     ensures { IsTrue result ↔ AllDigits 10 octets.now }
 {
@@ -119,7 +119,7 @@ fn are_digits(octets: &[u8]) -> bool
 }
 
 #[tactic(auto, using(crate::proofs::Numbers::next_digit, std::proofs::lemmas::Int::Digits::digits_value_more, std::proofs::lemmas::Str::Parse::digit_at))]
-/// The number that digits write, of which there are at most 19.
+/// Returns the number of at most 19 digits.
 fn value(digits: &[u8]) -> u64
     requires digits { AllDigits 10 digits.now }
     requires few { length digits.now ≤ 19 }
@@ -133,7 +133,7 @@ fn value(digits: &[u8]) -> u64
 }
 
 #[tactic(auto, using(crate::proofs::Numbers::digit_more, std::proofs::lemmas::Int::Digits::digits_more, std::proofs::lemmas::Int::Digits::digits_value_more, std::proofs::lemmas::Str::Parse::digit_at))]
-/// The number that octets write, of which there are at most 19. `None` where one is no digit.
+/// Returns the number of at most 19 digits. `None` if an octet is not a digit.
 fn value_of(octets: &[u8]) -> Option<u64>
     requires few { length octets.now ≤ 19 }
     ensures digits { IfSome result (λ _. AllDigits 10 octets.now) }

@@ -1,4 +1,4 @@
-//! Why moves can't be read on.
+//! Why no more moves can be read.
 
 use crate::columns::{Column, Notation};
 use cmd_text::lines::GzipFile;
@@ -42,30 +42,30 @@ impl fmt::Display for HeaderFault {
     }
 }
 
-/// The first that is wrong with a line, in the order in which it is judged.
+/// The first fault of a line, in the order of the checks. It prints as a keyword.
 #[derive(Clone, Copy, Debug, PartialEq, Eq)]
 pub enum Word {
     /// It has more octets than 4096 before its line feed.
     Length,
-    /// It is the first, and a name of the columns stands twice or is missing, or there are names of
-    /// both notations.
+    /// It is the first line, and a column occurs twice or is missing, or there are names of both
+    /// notations.
     Header(HeaderFault),
     /// It has more fields than the first line, or fewer.
     Fields,
-    /// Its moment is no number in its range, or is below that of the row before.
+    /// Its time is not a number in its range, or is below that of the row before.
     At,
-    /// Its id is no text of 1 to 64 octets without control characters.
+    /// Its id is not a text of 1 to 64 octets without control characters.
     Id,
-    /// Its latitude is no number in its range.
+    /// Its latitude is not a number in its range.
     Lat,
-    /// Its longitude is no number in its range.
+    /// Its longitude is not a number in its range.
     Lon,
-    /// Its speed is no number in its range.
+    /// Its speed is not a number in its range.
     Speed,
-    /// Its heading is no number in its range.
+    /// Its heading is not a number in its range.
     Heading,
-    /// Its id is new, and there is no place for one more station. `Rows` doesn't tell this: it is
-    /// for whoever makes stations of ids.
+    /// Its id is new, and there can't be one more station. `Rows` doesn't return this: it is for
+    /// callers that make stations from ids.
     TooManyStations,
 }
 
@@ -119,14 +119,14 @@ pub struct MovesReadFault {
 }
 
 impl MovesReadFault {
-    /// Returns that of an error.
+    /// Returns the fault of an error.
     pub(crate) fn of(error: &io::Error) -> MovesReadFault {
         MovesReadFault {
             number: error.raw_os_error(),
         }
     }
 
-    /// Returns the error: the system's, or one of no known kind.
+    /// Returns the error: the system's, or one of an unknown kind.
     pub fn error(self) -> io::Error {
         match self.number {
             Some(number) => io::Error::from_raw_os_error(number),
@@ -135,10 +135,11 @@ impl MovesReadFault {
     }
 }
 
-/// Why moves can't be read on. After one each call answers the same.
+/// Why no more moves can be read. After such a fault each call returns the same.
 #[derive(Clone, Copy, Debug)]
 pub enum MovesFault {
-    /// The line of this number, from 1, is refused by this word: the first of an empty file too.
+    /// The line with this number, from 1, has this fault. The first line of an empty file has one
+    /// too.
     Line(u64, Word),
     /// The reader failed, by this error.
     Read(MovesReadFault),
@@ -158,17 +159,17 @@ impl fmt::Display for MovesFault {
 
 impl Error for MovesFault {}
 
-/// Why a line gives no row.
+/// Why a line has no row.
 #[derive(Clone, Copy, Debug, PartialEq, Eq)]
 pub(crate) enum MovesLineFault {
-    /// It is refused by this word.
+    /// It has this fault.
     Refused(Word),
     /// An allocation failed.
     NoMemory,
 }
 
 impl MovesLineFault {
-    /// The fault of the line of this number.
+    /// Returns the fault of the line with this number.
     pub(crate) fn at_line(self, number: u64) -> MovesFault {
         match self {
             MovesLineFault::Refused(word) => MovesFault::Line(number, word),

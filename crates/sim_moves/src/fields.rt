@@ -1,4 +1,5 @@
-//! The fields of a line (RFC 4180, but that a row is one line: an open quotation ends with it).
+//! Splits a line into fields (RFC 4180, except that a row is one line: an open quotation ends with
+//! it).
 
 ghost use Rattle.std.specs.Prelude.{◌≡◌, IfOk, OnOk, Ok, true, slice_range};
 ghost use Rattle.sim_moves.specs.Columns.{texts};
@@ -7,31 +8,31 @@ ghost use Rattle.sim_moves.specs.Fields.{cut, effect_of, effect_outside, fields_
 use std::alloc::{AllocError, Global};
 use std::mem;
 
-/// Where in a field an octet stands.
+/// The position of an octet in a field.
 #[derive(Clone, Copy, Debug, PartialEq, Eq)]
 pub(crate) enum FieldPart {
-    /// At its begin.
+    /// At its beginning.
     Begin,
-    /// Behind that, in no quotation.
+    /// After that, outside a quotation.
     Open,
-    /// In a quotation.
+    /// Inside a quotation.
     Quoted,
-    /// Behind a mark in a quotation.
+    /// After a mark inside a quotation.
     Marked,
 }
 
-/// What an octet does.
+/// The effect of an octet.
 #[derive(Clone, Copy, Debug, PartialEq, Eq)]
 pub(crate) enum Effect {
-    /// It is one of the field, which goes on so.
+    /// It belongs to the field, which continues with this part.
     Stays(FieldPart),
-    /// It is a mark: the field goes on so without it.
+    /// It is a mark, which is left out. The field continues with this part.
     Goes(FieldPart),
     /// It ends the field.
     Ends,
 }
 
-/// What an octet does in a part of a field.
+/// Returns the effect of an octet in a part of a field.
 fn effect_in(separator: u8, part: FieldPart, octet: u8) -> Effect
     ensures { result ≡ effect_of separator part octet }
 {
@@ -44,7 +45,7 @@ fn effect_in(separator: u8, part: FieldPart, octet: u8) -> Effect
     }
 }
 
-/// What an octet does outside quotation marks.
+/// Returns the effect of an octet outside quotation marks.
 fn outside(separator: u8, octet: u8) -> Effect
     ensures { result ≡ effect_outside separator octet }
 {
@@ -55,9 +56,9 @@ fn outside(separator: u8, octet: u8) -> Effect
     }
 }
 
-/// The fields of a line between these separators. A field that begins with a quotation mark is
-/// quoted: in it two marks are one, and one alone ends that part; what stands between it and the
-/// separator is added as it is.
+/// Returns the fields of a line between these separators. A field that begins with a quotation mark
+/// is quoted. Inside it two marks stand for one, and a single mark ends the quotation. What is
+/// between that mark and the separator is added as it is.
 pub(crate) fn split(alloc: Global, separator: u8, line: &[u8]) -> Result<Vec<Vec<u8>>, AllocError>
     ensures { IfOk result (λ fields.
         texts fields.items ≡ fields_of separator line.now) }
@@ -82,14 +83,14 @@ pub(crate) fn split(alloc: Global, separator: u8, line: &[u8]) -> Result<Vec<Vec
     Ok(fields)
 }
 
-/// Where a field stands in octets: from here up to there.
+/// The bounds of a field in octets: its start and its end.
 #[derive(Clone, Copy, Debug, PartialEq, Eq)]
 pub(crate) struct Bound {
     pub(crate) begin: usize,
     pub(crate) end: usize,
 }
 
-/// The octets within a bound.
+/// Returns the octets within these bounds.
 pub(crate) fn within(octets: &[u8], bound: Bound) -> &[u8]
     ensures { result.now ≡ slice_range octets.now bound.begin bound.end }
 {
@@ -98,8 +99,8 @@ pub(crate) fn within(octets: &[u8], bound: Bound) -> &[u8]
     &octets[begin..end]
 }
 
-/// Finds the bounds of the fields of a line without a quotation mark, in place of others, so that no
-/// field takes memory of its own. `false` where the line has a mark.
+/// Finds the bounds of the fields of a line without a quotation mark, which replace those in the
+/// list. So no field needs memory of its own. `false` if the line has a mark.
 pub(crate) fn find_bounds(
     separator: u8,
     line: &[u8],
@@ -123,7 +124,7 @@ pub(crate) fn find_bounds(
     Ok(true)
 }
 
-/// Joins fields to one text, in place of another, and notes the bounds of each.
+/// Joins fields into one text, whose content is replaced, and notes the bounds of each.
 pub(crate) fn join(
     fields: &[Vec<u8>],
     text: &mut Vec<u8>,

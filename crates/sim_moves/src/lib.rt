@@ -8,7 +8,7 @@
 //! - The columns are those of the first line. It is refused if and only if one is missing or occurs
 //!   twice, or names are of both kinds (`columns_of`, `IsHeader`).
 //! - Numbers are those that the fields write, a decimal's the nearest of its unit, halves away from
-//!   zero (`AreNumbers`). A word that refuses a row is the first that does (`IsFirstWord`).
+//!   zero (`AreNumbers`). The fault of a row is its first one (`IsFirstWord`).
 //!
 //! # Only tested
 //!

@@ -18,19 +18,19 @@ use its_words::ids::is_id;
 /// Where something moved.
 #[derive(Debug, PartialEq, Eq, Drop)]
 pub struct Row {
-    /// When, in milliseconds: its `at` less the begin.
+    /// The time, in milliseconds: its `at` minus the begin.
     pub moment: u64,
     /// Its id: 1 to 64 octets of UTF-8, without control characters.
     pub id: String,
-    /// Where to.
+    /// The new position.
     pub place: Place,
-    /// How fast, in 0.01 m/s: -16384 to 16383.
+    /// The speed, in 0.01 m/s: -16384 to 16383.
     pub speed: i16,
-    /// Heading where, in 0.1 degree clockwise from north: below 3600.
+    /// The heading, in 0.1 degree clockwise from north: below 3600.
     pub heading: u16,
 }
 
-/// The number of a column that octets write, in the own unit and in its range. `None` for others.
+/// Reads the number of a column, in this project's unit and in its range. `None` for other octets.
 fn number(notation: Notation, column: Column, octets: &[u8]) -> Option<i128>
     ensures some { IfSome result (IsNumber notation column octets.now) }
     ensures none { IfNone result ((number : ℤ) → ¬ IsNumber notation column octets.now number) }
@@ -45,7 +45,7 @@ fn number(notation: Notation, column: Column, octets: &[u8]) -> Option<i128>
     Some(number)
 }
 
-/// The moment that a field writes, not below this one.
+/// Reads a time that is not below this one.
 fn moment_of(columns: &Columns, before: u64, octets: &[u8]) -> Option<u64>
     ensures some { IfSome result (IsMoment columns.now.notation before octets.now) }
     ensures none { IfNone result ((at : ℕ) → ¬ IsMoment columns.now.notation before octets.now at) }
@@ -54,7 +54,7 @@ fn moment_of(columns: &Columns, before: u64, octets: &[u8]) -> Option<u64>
     if at < before { None } else { Some(at) }
 }
 
-/// The number of a column, which is refused by its word where it isn't one in its range.
+/// Reads the number of a column. If it isn't one in its range, returns this keyword.
 fn required(columns: &Columns, column: Column, octets: &[u8], word: Word) -> Result<i128, Word>
     ensures ok { IfOk result (IsNumber columns.now.notation column octets.now) }
     ensures word { IfErr result (λ refused. refused ≡ word) }
@@ -67,7 +67,7 @@ fn required(columns: &Columns, column: Column, octets: &[u8], word: Word) -> Res
     }
 }
 
-/// The place of a row.
+/// Reads the position of a row.
 fn place_of(columns: &Columns, lat: &[u8], lon: &[u8]) -> Result<Place, Word>
     ensures ok { IfOk result (λ place.
         IsNumber columns.now.notation Column.Lat lat.now place.latitude
@@ -79,7 +79,7 @@ fn place_of(columns: &Columns, lat: &[u8], lon: &[u8]) -> Result<Place, Word>
     Ok(Place::within(lat as i32, lon as i32))
 }
 
-/// The speed of a row: 0 where the column is absent.
+/// Reads the speed of a row. 0 if the column is absent.
 fn speed_of(columns: &Columns, octets: Option<&[u8]>) -> Result<i16, Word>
     ensures ok { IfOk result (MayBeNumber columns.now.notation Column.Speed
         (option_map (λ octets. octets.now) octets.entry)) }
@@ -95,7 +95,7 @@ fn speed_of(columns: &Columns, octets: Option<&[u8]>) -> Result<i16, Word>
     }
 }
 
-/// The heading of a row as it is written, up to a whole turn: 0 where the column is absent.
+/// Reads the heading of a row, up to a whole turn. 0 if the column is absent.
 fn turn_of(columns: &Columns, octets: Option<&[u8]>) -> Result<u16, Word>
     ensures ok { IfOk result (λ turn. MayBeNumber columns.now.notation Column.Heading
         (option_map (λ octets. octets.now) octets.entry) (pos turn)) }
@@ -113,9 +113,9 @@ fn turn_of(columns: &Columns, octets: Option<&[u8]>) -> Result<u16, Word>
 /// The numbers of a row.
 #[derive(Clone, Copy, Debug, PartialEq, Eq)]
 pub(crate) struct RowNumbers {
-    /// The moment, of the file's own clock.
+    /// The time, by the file's own clock.
     pub(crate) at: u64,
-    /// The place.
+    /// The position.
     pub(crate) place: Place,
     /// The speed, in 0.01 m/s.
     pub(crate) speed: i16,
@@ -123,8 +123,8 @@ pub(crate) struct RowNumbers {
     pub(crate) heading: u16,
 }
 
-/// The numbers of a row of the fields within these bounds, whose moment isn't below this one; or the
-/// first word that refuses it.
+/// Reads the numbers of a row with the fields within these bounds, whose time isn't below this one.
+/// Otherwise returns the keyword of the first fault.
 pub(crate) fn numbers_of(
     columns: &Columns,
     octets: &[u8],
@@ -160,7 +160,7 @@ pub(crate) fn numbers_of(
     })
 }
 
-/// The octets of the field of a place.
+/// Returns the octets of the field at a position.
 pub(crate) fn field<'a>(octets: &'a [u8], bounds: &[Bound], place: usize) -> &'a [u8]
     ensures { result.now ≡ field_at (cut octets.now bounds.now) place }
 {
@@ -170,7 +170,7 @@ pub(crate) fn field<'a>(octets: &'a [u8], bounds: &[Bound], place: usize) -> &'a
     }
 }
 
-/// The octets of a field that may be absent.
+/// Returns the octets of a field that may be absent.
 fn optional_field<'a>(octets: &'a [u8], bounds: &[Bound], place: Option<usize>) -> Option<&'a [u8]>
     ensures { option_map (λ octets. octets.now) result
         ≡ may_field (cut octets.now bounds.now) place }

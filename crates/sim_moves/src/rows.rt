@@ -29,27 +29,27 @@ pub struct Rows<R: BufRead> {
     columns: Columns,
     begin: u64,
     line: Vec<u8>,
-    /// The fields of a line with quotation marks, side by side without them.
+    /// The fields of a line with quotation marks, one after the other without the marks.
     text: Vec<u8>,
-    /// Where the fields stand, in the line or in that text.
+    /// The bounds of the fields, in the line or in that text.
     bounds: Vec<Bound>,
     number: u64,
     before: u64,
     state: State,
 }
 
-/// How reading goes on.
+/// The state of the reader.
 #[derive(Clone, Copy, Debug)]
 enum State {
-    /// By the next line.
+    /// The next line is read.
     Reading,
-    /// No more: the end was reached.
+    /// The end was reached.
     Ended,
-    /// No more: by this fault.
+    /// This fault ended the reading.
     Failed(MovesFault),
 }
 
-/// What a line gives.
+/// What was read from a line.
 #[derive(Drop)]
 enum LineContent {
     /// A row.
@@ -61,10 +61,11 @@ enum LineContent {
 }
 
 impl<R: BufRead + Drop> Rows<R> {
-    /// Reads the first line, which names the columns. A row's moment is its `at` less `begin`, and
-    /// rows before that are skipped after their check. Refused for a first line that is
-    /// longer than 4096 octets (`length`), or names columns twice, not all or in both notations
-    /// (`header`), as an empty file does; where the reader failed; and where an allocation failed.
+    /// Reads the first line, which names the columns. The time of a row is its `at` minus `begin`.
+    /// Earlier rows are checked and skipped. Returns a fault for a first line of more than 4096
+    /// octets (`length`), for one that names a column twice, lacks one or mixes the notations
+    /// (`header`), as that of an empty file does, if the reader failed, and if an allocation
+    /// failed.
     pub fn open(alloc: Global, begin: u64, reader: R) -> Result<Rows<R>, MovesFault> {
         let mut reader = reader.take(0);
         let mut line = line_room(alloc)?;
@@ -87,13 +88,13 @@ impl<R: BufRead + Drop> Rows<R> {
         }
     }
 
-    /// The next row, whose moment is no earlier than that of the row before. `None` at the end, and
-    /// from then on. Empty lines, and SUMO's rows without an id, are skipped. After a fault each call
-    /// returns the same fault.
+    /// Returns the next row, whose time is not before that of the row before. `None` at the end,
+    /// and from then on. Empty lines, and SUMO's rows without an id, are skipped. After a fault
+    /// each call returns the same fault.
     ///
     /// - `row` (`IsRow`): each number of a row is in its range.
-    /// - `order`, `begin`: no row comes before one that was given, by the clock of the file, whose
-    ///   begin stays.
+    /// - `order`, `begin`: no row is earlier than one that was returned, by the clock of the file.
+    ///   The begin stays.
     pub fn next(&mut self) -> Result<Option<Row>, MovesFault>
         ensures begin { self.new.begin ≡ self.old.begin }
         ensures row { IfOk result (λ row. IfSome row IsRow) }
@@ -114,22 +115,23 @@ impl<R: BufRead + Drop> Rows<R> {
         reached
     }
 
-    /// The number of the line that was read last, from 1: that of the row that `next` gave.
+    /// Returns the number of the last line, from 1. It is that of the row that `next` returned.
     pub fn line(&self) -> u64
         ensures { result ≡ self.now.number }
     {
         self.number
     }
 
-    /// The time of the file in the row that was read last, before `begin` too. 0 before the first row.
+    /// Returns the time of the file in the last row, also of one before `begin`. 0 before the first
+    /// row.
     pub fn clock(&self) -> u64
         ensures { result ≡ self.now.before }
     {
         self.before
     }
 
-    /// The field of the line that was read last that a word refuses, without its quotation marks.
-    /// `None` for a word that refuses no field.
+    /// Returns the field of the last line that is refused with this keyword, without its quotation
+    /// marks. `None` for a keyword that is about no field.
     pub fn refused(&self, word: Word) -> Option<&[u8]> {
         let place = self.columns.place_of(word)?;
         let octets = if self.line.contains(&b'"') {
@@ -140,7 +142,7 @@ impl<R: BufRead + Drop> Rows<R> {
         Some(field(octets, &self.bounds, place))
     }
 
-    /// Reads lines to the next that gives a row.
+    /// Reads lines up to the next one with a row.
     fn read_row(&mut self) -> Result<Option<Row>, MovesFault>
         ensures begin { self.new.begin ≡ self.old.begin }
         ensures row { IfOk result (λ row. IfSome row IsRow) }
@@ -175,7 +177,7 @@ impl<R: BufRead + Drop> Rows<R> {
         }
     }
 
-    /// The row of the line that was read.
+    /// Returns the row of the line that was read.
     fn row_of_line(&mut self) -> Result<LineContent, MovesLineFault>
         ensures begin { self.new.begin ≡ self.old.begin }
         ensures row { IfOk result ReachesRow }
@@ -210,8 +212,8 @@ impl<R: BufRead + Drop> Rows<R> {
     }
 }
 
-/// The row of the fields within these bounds, of a file whose clock shows so much at the begin and
-/// showed so much in the row before.
+/// Returns the row of the fields within these bounds, for a file with this begin and with this time
+/// in the row before.
 fn row_of(
     alloc: Global,
     columns: &Columns,
@@ -244,7 +246,7 @@ fn row_of(
     }))
 }
 
-/// The id of a row of these fields.
+/// Returns the id of a row with these fields.
 fn id_of(
     alloc: Global,
     columns: &Columns,
@@ -261,14 +263,15 @@ fn id_of(
     }
 }
 
-/// Whether a row of these fields is skipped: SUMO writes one without an id if there is no vehicle.
+/// Whether a row with these fields is skipped. SUMO writes one without an id if there is no
+/// vehicle.
 fn is_passed_over(columns: &Columns, octets: &[u8], bounds: &[Bound]) -> bool {
     columns.notation == Notation::Sumo
         && bounds.len() == columns.count
         && field(octets, bounds, columns.id).is_empty()
 }
 
-/// Room for a line.
+/// Allocates the buffer for a line.
 fn line_room(alloc: Global) -> Result<Vec<u8>, MovesFault> {
     match Vec::with_capacity(alloc, LONGEST_LINE + 1) {
         Ok(line) => Ok(line),
@@ -276,7 +279,7 @@ fn line_room(alloc: Global) -> Result<Vec<u8>, MovesFault> {
     }
 }
 
-/// Reads the next line in place of this one, with its line feed, and at most 4097 octets of it.
+/// Reads the next line, with its line feed and at most 4097 octets, which replaces this one.
 /// `false` at the end of the file.
 fn read_line<R: BufRead>(reader: &mut Take<R>, line: &mut Vec<u8>) -> Result<bool, MovesFault> {
     line.clear();
@@ -288,7 +291,7 @@ fn read_line<R: BufRead>(reader: &mut Take<R>, line: &mut Vec<u8>) -> Result<boo
     }
 }
 
-/// A line without its line feed and the carriage return before that.
+/// Returns a line without its line feed and the carriage return before that.
 fn trimmed(line: &[u8]) -> Result<&[u8], MovesLineFault> {
     let octets = line.strip_suffix(b"\n").unwrap_or(line);
     if octets.len() > LONGEST_LINE {
@@ -297,7 +300,7 @@ fn trimmed(line: &[u8]) -> Result<&[u8], MovesLineFault> {
     Ok(octets.strip_suffix(b"\r").unwrap_or(octets))
 }
 
-/// The separator and the columns of a first line.
+/// Returns the separator and the columns of a first line.
 fn header_of(alloc: Global, line: &[u8]) -> Result<(u8, Columns), MovesLineFault> {
     let octets = trimmed(line)?;
     let octets = octets.strip_prefix(BYTE_ORDER_MARK).unwrap_or(octets);
@@ -309,7 +312,8 @@ fn header_of(alloc: Global, line: &[u8]) -> Result<(u8, Columns), MovesLineFault
     }
 }
 
-/// What is wrong with a first line, which has these fields and names the columns of no notation.
+/// Returns what is wrong with a first line that has these fields and names the columns of no
+/// notation.
 fn header_fault(octets: &[u8], names: &[Vec<u8>]) -> HeaderFault {
     if octets.starts_with(&GZIP) {
         return HeaderFault::Gzip;
@@ -325,8 +329,8 @@ fn header_fault(octets: &[u8], names: &[Vec<u8>]) -> HeaderFault {
     }
 }
 
-/// What is wrong with the names of a notation: the first column that is missing, else one that
-/// stands twice.
+/// Returns what is wrong with the names of a notation: the first column that is missing, and
+/// otherwise one that occurs twice.
 fn fault_in(names: &[Vec<u8>], notation: Notation) -> HeaderFault {
     let needed = [Column::At, Column::Id, Column::Lat, Column::Lon];
     let missing = needed.iter().find(|column| {
@@ -338,7 +342,8 @@ fn fault_in(names: &[Vec<u8>], notation: Notation) -> HeaderFault {
     }
 }
 
-/// A column of a notation that stands twice among these names; the heading, if no other does.
+/// Returns a column of a notation that occurs twice among these names. The heading, if no other
+/// does.
 fn twice_in(names: &[Vec<u8>], notation: Notation) -> Column {
     let others = [
         Column::At,

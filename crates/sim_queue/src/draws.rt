@@ -1,4 +1,4 @@
-//! The random numbers of a radio model: losses, jitters of beacons, and when traffic begins.
+//! The random numbers of a radio model: losses, jitters of beacons, and the start of traffic.
 
 ghost use Rattle.std.specs.Prelude.{◌≡◌, ◌≤◌, ◌<◌, ◌%◌, ℕ, List, IsTrue, ◌↔◌};
 ghost use Rattle.rand_core.specs.Stream.{next_u64};
@@ -22,7 +22,7 @@ impl Model for Draws {
 }
 
 impl Draws {
-    /// The random numbers of a seed: `next_u64` of `Xoshiro256PlusPlus::seed_from_u64`.
+    /// Returns the random numbers of a seed: `next_u64` of `Xoshiro256PlusPlus::seed_from_u64`.
     pub fn of_seed(seed: u64) -> Draws
         ensures { draws_at result ≡ draws_of seed }
     {
@@ -38,7 +38,7 @@ impl Draws {
         self.0.next_u64() % 100 < u64::from(loss)
     }
 
-    /// A jitter in milliseconds, 0 to 750. Uses one random number.
+    /// Returns a jitter in milliseconds, 0 to 750. Uses one random number.
     pub fn jitter(&mut self) -> u16
         ensures value { result ≡ (next_u64 (draws_at self.old)).0 % 751 }
         ensures rest { draws_at self.new ≡ (next_u64 (draws_at self.old)).1 }
@@ -46,7 +46,7 @@ impl Draws {
         (self.0.next_u64() % JITTERS) as u16
     }
 
-    /// A random time in milliseconds below a period. Uses one random number.
+    /// Returns a random time in milliseconds below a period. Uses one random number.
     pub fn within(&mut self, period: u32) -> u64
         requires { 1 ≤ period }
         ensures value { result ≡ (next_u64 (draws_at self.old)).0 % period }

@@ -43,7 +43,7 @@ pub(crate) struct Counts {
 }
 
 impl Counts {
-    /// Counts of 0, for this number of kinds.
+    /// Returns counts of 0, for this number of kinds.
     pub(crate) fn new(alloc: Global, kinds: usize) -> Counts
         ensures { AreCounted result.kinds result.each.items [] }
     {

@@ -1,5 +1,5 @@
-//! What a radio model has waiting: ticks, sends and deliveries, in the order of time and then of
-//! putting. And the random numbers that set the times.
+//! The waiting events of a radio model: ticks, sends and deliveries, in the order of time and then
+//! of putting. It also has the random numbers that set their times.
 //!
 //! # What is proved
 //!

@@ -47,7 +47,7 @@ impl Model for OwnEvents {
 }
 
 impl OwnEvents {
-    /// No events. This number of kinds is counted.
+    /// Returns an empty set of events. This number of kinds is counted.
     pub fn new(alloc: Global, kinds: usize) -> OwnEvents
         ensures { result ≡ [] }
     {
@@ -104,8 +104,8 @@ impl OwnEvents {
         }
     }
 
-    /// The stations that receive the frame of a delivery that was just taken: its own, and those
-    /// that come next in line.
+    /// Returns the stations that receive the frame of a delivery that was just taken: its own, and
+    /// those of the deliveries that come next in line.
     pub fn receivers(&self, delivery: &Delivery) -> Receivers {
         let mut receivers = Receivers::none();
         receivers.add(delivery.station);
@@ -167,7 +167,7 @@ impl OwnEvents {
         self.has_none(Kind::Tick, station)
     }
 
-    /// Whether no send of the traffic of a number waits at a station.
+    /// Whether no send of the traffic with this number waits at a station.
     pub fn has_no_send(&self, number: usize, station: usize) -> bool
         ensures { result ≡ (count_by (is_send_at number station) self.now == 0) }
     {

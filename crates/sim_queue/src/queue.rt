@@ -1,4 +1,4 @@
-//! What the radio model has waiting: ticks, deliveries and sends.
+//! The waiting events of the radio model: ticks, deliveries and sends.
 
 ghost use Rattle.std.specs.Prelude.{◌≡◌, ◌≤◌, ◌<◌, ◌+◌, ◌∷◌, [], All};
 ghost use Rattle.std.specs.Prelude.{IfSome, IfNone, OnOk, ◌==◌, count_by};
@@ -12,8 +12,8 @@ use crate::receivers::Receivers;
 use crate::scheduled::{AirAction, Delivery, Scheduled};
 use std::alloc::Global;
 
-/// What the radio model has waiting. It is taken by time, and at one time in the order in which it
-/// was put.
+/// The waiting events of the radio model. They are taken in the order of their times, and at one
+/// time in the order in which they were put.
 #[derive(Debug, Drop)]
 pub struct Queue {
     own: OwnEvents,
@@ -22,7 +22,7 @@ pub struct Queue {
 }
 
 impl Queue {
-    /// An empty queue, for a radio model with this number of traffics.
+    /// Returns an empty queue, for a radio model with this number of traffics.
     pub fn new(alloc: Global, traffics: usize) -> Queue
         ensures { (result.own ≡ []) × (result.pushed ≡ 0) }
     {
@@ -81,8 +81,8 @@ impl Queue {
         Ok(())
     }
 
-    /// The stations that receive the frame of a delivery that was just taken: its own, and those
-    /// that come next.
+    /// Returns the stations that receive the frame of a delivery that was just taken: its own, and
+    /// those of the deliveries that come next.
     pub fn receivers(&self, delivery: &Delivery) -> Receivers {
         self.own.receivers(delivery)
     }
@@ -94,15 +94,15 @@ impl Queue {
         self.own.has_no_tick(station)
     }
 
-    /// Whether no send of the traffic of a number waits at a station.
+    /// Whether no send of the traffic with this number waits at a station.
     pub fn has_no_send(&self, number: usize, station: usize) -> bool
         ensures { result ≡ (count_by (is_send_at number station) self.now.own == 0) }
     {
         self.own.has_no_send(number, station)
     }
 
-    /// Takes the first if it is a delivery in the line, and its time is before this one. `pop_before`
-    /// takes any other.
+    /// Takes the first event if it is a delivery in the line, and its time is before this one.
+    /// `pop_before` takes any event.
     #[inline(always)]
     pub fn pop_delivery_before(&mut self, moment: u64) -> Option<Delivery>
         ensures put { self.new.pushed ≡ self.old.pushed }
@@ -116,7 +116,7 @@ impl Queue {
         self.own.pop_delivery_before(moment)
     }
 
-    /// Takes the first, if its time is before this one.
+    /// Takes the first event, if its time is before this one.
     pub fn pop_before(&mut self, moment: u64) -> Option<Scheduled>
         ensures put { self.new.pushed ≡ self.old.pushed }
         ensures before { IfSome result (λ waiting. waiting.moment < moment) }

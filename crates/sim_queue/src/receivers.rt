@@ -16,7 +16,7 @@ pub struct Receivers {
 }
 
 impl Receivers {
-    /// No station.
+    /// Returns an empty list.
     pub(crate) fn none() -> Receivers {
         Receivers {
             stations: [0; MOST_RECEIVERS],
@@ -32,7 +32,7 @@ impl Receivers {
         }
     }
 
-    /// The stations, in order.
+    /// Returns the stations, in order.
     pub fn as_slice(&self) -> &[usize] {
         &self.stations[..self.count]
     }

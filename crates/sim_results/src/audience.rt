@@ -1,4 +1,4 @@
-//! The stations that packets for an area are for, and how far these came there.
+//! The stations that packets for an area are for, and how far the packets came there.
 
 ghost use Rattle.std.specs.Prelude.{◌≡◌, ◌+◌, ◌<◌, ◌↔◌, IfOk, OnOk, IsSome, true, false};
 ghost use Rattle.std.specs.Prelude.{count_by, vec_len};
@@ -20,12 +20,12 @@ use std::alloc::Global;
 struct IntendedStation {
     station: usize,
     reach: Reach,
-    /// The milliseconds from the send to the first delivery, where there was one.
+    /// The milliseconds from the send to the first delivery, if there was one.
     after: u64,
 }
 
 impl IntendedStation {
-    /// Whether the packet was delivered to its port: where a limit is given, at most so many
+    /// Whether the packet was delivered to its port. If a limit is given, at most that many
     /// milliseconds after it was sent.
     fn was_reached(&self, limit: Option<u64>) -> bool
         ensures { result ≡ was_reached limit self.now }
@@ -37,8 +37,8 @@ impl IntendedStation {
     }
 }
 
-/// The stations that a packet for an area is for, and how far it came at each: those that stand in
-/// its area when it is sent, with its port open, in the order of their numbers.
+/// The stations that a packet for an area is for, in the order of their numbers, and how far it
+/// came at each. These are the stations inside its area when it is sent whose port for it is open.
 #[derive(Drop)]
 pub struct Audience {
     moment: u64,
@@ -47,7 +47,7 @@ pub struct Audience {
 }
 
 impl Audience {
-    /// That of a packet that an event sends.
+    /// Returns the audience of a packet that an event sends.
     pub(crate) fn new(
         alloc: Global,
         world: &World,
@@ -62,7 +62,7 @@ impl Audience {
         })
     }
 
-    /// Takes the delivery of a frame of the packet, and what came of it.
+    /// Notes the delivery of a frame of the packet, with its outcome.
     pub(crate) fn take(&mut self, world: &World, done: &EventRecord<'_>) {
         let is_inside = stands_in(world, done.station, &self.area);
         self.note(done.station, done.moment, Reach::of(done.entry, is_inside));
@@ -75,11 +75,11 @@ impl Audience {
         self.targets.len()
     }
 
-    /// At how many of them the packet was delivered to its port: where `within` is given, at most
-    /// so many milliseconds after it was sent.
+    /// Returns at how many of these stations the packet was delivered to its port. If `within` is
+    /// given, at most that many milliseconds after it was sent.
     ///
-    /// - its clause: at how many of these it was delivered to its port, and in time where a limit
-    ///   is given (`was_reached`).
+    /// - its clause: at how many of these stations it was delivered to its port, and in time if a
+    ///   limit is given (`was_reached`).
     pub fn reached(&self, within: Option<u64>) -> usize
         ensures { result ≡ count_by (was_reached within) self.now.targets.items }
     {
@@ -87,11 +87,11 @@ impl Audience {
         targets.filter(|target| target.was_reached(within)).count()
     }
 
-    /// The numbers of the stations to which the packet wasn't delivered, in order, each with how
-    /// far it came there. `NoMemory` where an allocation failed.
+    /// Returns the numbers of the stations at which the packet wasn't delivered to its port, in
+    /// order, each with how far it came there. `NoMemory` if an allocation failed.
     ///
-    /// - its clause: just those at which it wasn't, in order, each with how far the packet came
-    ///   there (`missed_of`).
+    /// - its clause: exactly the stations at which it wasn't delivered, in order, each with how far
+    ///   the packet came there (`missed_of`).
     pub fn missed(&self, alloc: Global) -> Result<Vec<(usize, Reach)>, NoMemory>
         ensures { IfOk result (λ missed. missed.items ≡ missed_of self.now.targets.items) }
     {
@@ -104,7 +104,7 @@ impl Audience {
         )
     }
 
-    /// The station of this number, where the packet is for it.
+    /// Returns the entry of the station with this number, if the packet is for it.
     fn target(&mut self, station: usize) -> Option<&mut IntendedStation> {
         let place = self
             .targets
@@ -116,7 +116,7 @@ impl Audience {
         }
     }
 
-    /// Notes that the packet came so far at a station.
+    /// Notes how far the packet came at a station. Only the furthest is kept.
     fn note(&mut self, station: usize, moment: u64, reach: Reach) {
         let after = moment.saturating_sub(self.moment);
         let Some(target) = self.target(station) else {
@@ -129,12 +129,12 @@ impl Audience {
     }
 }
 
-/// The audiences of the packets for an area of a run. Of their frames it keeps those that still
-/// have deliveries to come.
+/// The audiences of a run's packets for an area. It keeps those of their frames that still have
+/// deliveries to come.
 #[derive(Drop)]
 pub struct Audiences {
     alloc: Global,
-    /// Whether they are wanted: else none is kept.
+    /// Whether they are wanted. Otherwise none is kept.
     are_wanted: bool,
     sends: Vec<Audience>,
     frames: WaitingFrames,
@@ -142,8 +142,8 @@ pub struct Audiences {
 }
 
 impl Audiences {
-    /// Those of a run of a scenario that has not begun. Where they aren't wanted none is kept.
-    /// `NoMemory` where an allocation failed.
+    /// Returns the audiences of a run that has not begun: none. If they aren't wanted, none will be
+    /// kept. `NoMemory` if an allocation failed.
     pub fn new(alloc: Global, scenario: &Scenario, are_wanted: bool) -> Result<Audiences, NoMemory>
         ensures none { IfOk result (λ audiences. vec_len audiences.sends ≡ 0) }
         ensures wanted { IfOk result (λ audiences. audiences.are_wanted ≡ are_wanted) }
@@ -165,16 +165,15 @@ impl Audiences {
         self.are_wanted
     }
 
-    /// The audience of a packet, by its place among those for an area that were sent, from 0.
-    /// `None` where so many weren't sent, or audiences aren't wanted.
+    /// Returns the audience of a packet, by its number among the sent packets for an area, from 0.
+    /// `None` if fewer were sent, or audiences aren't wanted.
     pub fn get(&self, send: usize) -> Option<&Audience>
         ensures { IsSome result ↔ send < vec_len self.now.sends }
     {
         self.sends.as_slice().get(send)
     }
 
-    /// Takes an event that was done, with the world as it stands after it. `NoMemory` where an
-    /// allocation failed.
+    /// Takes an event that was done, with the world after it. `NoMemory` if an allocation failed.
     pub fn take(&mut self, world: &World, done: &EventRecord<'_>) -> Result<(), NoMemory>
         ensures unwanted { self.old.are_wanted ≡ false → self.new ≡ self.old }
         ensures wanted { self.new.are_wanted ≡ self.old.are_wanted }
@@ -198,8 +197,8 @@ impl Audiences {
         self.frames.take(done, carried)
     }
 
-    /// Takes a note of the run, of this moment in milliseconds: who comes and leaves, and whether a
-    /// frame is heard by a station or lost on the way to it. `NoMemory` where an allocation failed.
+    /// Takes a note of the run at this time in milliseconds: a station arrives or departs, or a
+    /// frame is received by a station or lost on the way to it. `NoMemory` if an allocation failed.
     pub fn take_note(&mut self, moment: u64, note: &Note<'_>) -> Result<(), NoMemory>
         ensures unwanted { self.old.are_wanted ≡ false → self.new ≡ self.old }
         ensures wanted { self.new.are_wanted ≡ self.old.are_wanted }
@@ -222,7 +221,8 @@ impl Audiences {
         self.presence.take(note)
     }
 
-    /// Takes the send of a packet for an area, where it was sent: what its frame carries.
+    /// Takes the send of a packet for an area. Returns what its frame carries, if the packet was
+    /// sent.
     fn take_send(
         &mut self,
         world: &World,
@@ -243,7 +243,7 @@ impl Audiences {
         Ok(Some(CarriedPacket { send, depth: 0 }))
     }
 
-    /// Takes what came of a frame that was delivered: what a relay of it carries.
+    /// Takes the outcome of a frame's delivery. Returns what a forwarded copy of the frame carries.
     fn take_delivery(
         &mut self,
         world: &World,
@@ -260,7 +260,7 @@ impl Audiences {
         Some(carried.relayed())
     }
 
-    /// Notes that a draw lost the delivery of a frame that was just given to a station.
+    /// Notes that the frame which was just sent is lost on the way to this station.
     fn note_lost(&mut self, station: usize, moment: u64, frame: usize)
         ensures wanted { self.new.are_wanted ≡ self.old.are_wanted }
         ensures sends { vec_len self.new.sends ≡ vec_len self.old.sends }
@@ -274,7 +274,7 @@ impl Audiences {
     }
 }
 
-/// Whether a station stands in an area.
+/// Whether a station is inside an area.
 fn stands_in(world: &World, number: usize, area: &Area) -> bool {
     match world.station(number) {
         Some(station) => contains(area, station.vector().place()),
@@ -282,7 +282,7 @@ fn stands_in(world: &World, number: usize, area: &Area) -> bool {
     }
 }
 
-/// The stations that a packet of this sender is for.
+/// Returns the stations that a packet from this sender is for.
 fn targets_of(
     alloc: Global,
     world: &World,

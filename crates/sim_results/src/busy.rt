@@ -3,8 +3,8 @@
 use cap_linklayers::airtime::air_time;
 use its_world::World;
 
-/// The air time of a frame of a world, in microseconds; 0 where there is no such frame, or it was
-/// let go.
+/// Returns the air time of a frame of a world, in microseconds. 0 if there is no such frame, or it
+/// was released.
 pub(crate) fn frame_time(world: &World, frame: usize) -> u64 {
     match world.kept_frame(frame) {
         Some(octets) => octets_time(octets),
@@ -12,7 +12,7 @@ pub(crate) fn frame_time(world: &World, frame: usize) -> u64 {
     }
 }
 
-/// The air time of a frame of these octets, in microseconds.
+/// Returns the air time of a frame with these octets, in microseconds.
 pub(crate) fn octets_time(octets: &[u8]) -> u64 {
     air_time(u32::try_from(octets.len()).unwrap_or(u32::MAX))
 }

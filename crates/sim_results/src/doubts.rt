@@ -24,17 +24,17 @@ use sim_simulation::{EventRecord, Note};
 use std::alloc::Global;
 use std::io::Write;
 
-/// How many of them have a line.
+/// How many doubts are printed.
 const MOST_LINES: usize = 20;
 
-/// From so many vehicles on it is doubtful that all are in range of one point.
+/// From this many vehicles on, it is doubtful that all are in range of one point.
 const MANY: usize = 10;
 
-/// From so many percent of the channel on the traffic of one sender is doubtful.
+/// From this percentage of the channel on, the traffic of one sender is doubtful.
 const BUSY: u64 = 3;
 
-/// The octets of the frame of an SHB without its payload: 14 of Ethernet, 4, 8 and 28 of headers,
-/// and 4 of BTP-B.
+/// The octets of an SHB frame without its payload: 14 of Ethernet, 4, 8 and 28 of the headers, and
+/// 4 of BTP-B.
 const SHB_FRAME: u32 = 58;
 
 /// How far a file of moves was read.
@@ -46,7 +46,7 @@ pub struct MovesRead {
     pub clock: u64,
 }
 
-/// What is doubtful about a run with a radio model, and what is seen of it until its end.
+/// What is doubtful about a run with a radio model, and what was observed up to its end.
 #[derive(Drop)]
 pub struct Doubts {
     alloc: Global,
@@ -64,7 +64,7 @@ pub struct Doubts {
 }
 
 impl Doubts {
-    /// Those of a run of the scenario that has not begun. `NoMemory` if an allocation failed.
+    /// Returns the doubts of a run that has not begun: none. `NoMemory` if an allocation failed.
     pub fn new(alloc: Global, scenario: &Scenario) -> Result<Doubts, NoMemory> {
         let mut bounds = Bounds::none();
         for config in &scenario.stations {
@@ -86,7 +86,7 @@ impl Doubts {
         })
     }
 
-    /// Whether it uses `Note::Heard` of the frame that was just sent.
+    /// Whether it needs `Note::Heard` for the frame that was just sent.
     #[inline(always)]
     pub fn wants_heard_notes(&self) -> bool {
         self.warnings.is_late()
@@ -143,7 +143,7 @@ impl Doubts {
             .take_send(world, present, done, request, event)
     }
 
-    /// Takes a note of the run, of this time in milliseconds, with the world as it stands then.
+    /// Takes a note of the run at this time in milliseconds, with the world at that time.
     /// `NoMemory` if an allocation failed.
     pub fn take_note(
         &mut self,
@@ -173,7 +173,7 @@ impl Doubts {
         }
     }
 
-    /// A row made a station.
+    /// Notes that a row made a station.
     fn take_made(&mut self, id: &str) -> Result<(), NoMemory> {
         self.present.push(false)?;
         match &mut self.vehicles {
@@ -182,7 +182,7 @@ impl Doubts {
         }
     }
 
-    /// A station comes or leaves.
+    /// Notes that a station arrives or departs.
     fn set_present(&mut self, station: usize, is_present: bool) {
         if let Some(present) = self.present.get_mut(station) {
             *present = is_present;
@@ -250,13 +250,13 @@ impl Doubts {
         Ok(())
     }
 
-    /// What is doubtful, once the run has ended.
+    /// Returns what is doubtful, once the run has ended.
     pub fn found(&self) -> &[Doubt] {
         self.found.as_slice()
     }
 
-    /// Whether the end of the run cut off deliveries of a warning, by its place among those that
-    /// were sent, from 0.
+    /// Whether the end of the run cut off deliveries of a warning, by its number among the sent
+    /// warnings, from 0.
     pub fn is_cut(&self, send: usize) -> bool {
         self.is_over && self.warnings.is_cut(send)
     }
@@ -289,7 +289,7 @@ impl Doubts {
     }
 }
 
-/// The last time of a run, if it is known before the run, and the delay of its frames.
+/// Returns the last time of a run, if it is known before the run, and the delay of its frames.
 fn end_and_delay(timeline: &Timeline) -> (Option<u64>, u16) {
     match timeline {
         Timeline::Plain(_) => (None, 0),
@@ -301,7 +301,7 @@ fn end_and_delay(timeline: &Timeline) -> (Option<u64>, u16) {
     }
 }
 
-/// What stations send periodically.
+/// Returns what stations send periodically.
 fn traffic_of(timeline: &Timeline) -> &[Traffic] {
     match timeline {
         Timeline::Plain(_) => &[],
@@ -310,13 +310,13 @@ fn traffic_of(timeline: &Timeline) -> &[Traffic] {
     }
 }
 
-/// How many percent of the channel one sender takes, rounded down.
+/// Returns the percentage of the channel that one sender takes, rounded down.
 fn busy_percent(traffic: &Traffic) -> u64 {
     let octets = SHB_FRAME + u32::from(traffic.octets);
     air_time(octets) / (10 * u64::from(traffic.period))
 }
 
-/// The first time at which an event of a scenario with moves sends a warning.
+/// Returns the first time at which an event of a scenario with moves sends a warning.
 fn first_warning(scenario: &Scenario) -> Option<u64> {
     let Timeline::Moves(timeline) = &scenario.timeline else {
         return None;

@@ -21,17 +21,17 @@ use std::alloc::Global;
 use std::io::Write;
 use std::{fmt, io};
 
-/// How many of them have a line.
+/// How many events are printed.
 const MOST_LINES: usize = 20;
 
-/// What is known of a vehicle that isn't there.
+/// What is known about a vehicle that isn't there.
 #[derive(Clone, Copy)]
 enum MissingVehicle {
     /// It was there before, and has left.
     HasLeft,
-    /// It comes first at this moment, in milliseconds.
+    /// It first arrives at this time, in milliseconds.
     Comes(u64),
-    /// It doesn't come in the run.
+    /// It doesn't arrive in the run.
     NeverComes,
 }
 
@@ -48,9 +48,9 @@ impl fmt::Display for MissingVehicle {
 /// Why an event wasn't run, or its packet wasn't sent.
 #[derive(Drop)]
 enum Failure {
-    /// The vehicle of its id isn't there.
+    /// The vehicle with its id isn't there.
     NoVehicle(String, MissingVehicle),
-    /// The run doesn't come to it.
+    /// The run doesn't reach it.
     Late(WhyLate),
     /// The station refused to send.
     Refused(EntryFault),
@@ -92,7 +92,7 @@ impl fmt::Display for FailedEvent {
 }
 
 impl FailedEvent {
-    /// Prints its line, with `explain` with more about it in parentheses.
+    /// Prints its line. With `explain` it ends with an explanation in parentheses.
     fn write<E: Write>(&self, explain: bool, err: &mut E) -> io::Result<()> {
         write!(err, "geostation: {self}")?;
         match &self.why {
@@ -121,7 +121,7 @@ impl FailedEvent {
     }
 }
 
-/// Whether a station sends a packet with a payload by this word.
+/// Whether a station sends a packet with a payload by this keyword.
 fn is_send(verb: Verb) -> bool
     ensures { result ≡ is_send verb }
 {
@@ -139,7 +139,7 @@ struct AskedSend {
 }
 
 impl AskedSend {
-    /// The event of the world of this number.
+    /// Returns the send of this event of the world, which has this number.
     fn of_event(number: usize, event: &Event) -> AskedSend {
         AskedSend {
             number,
@@ -149,7 +149,7 @@ impl AskedSend {
         }
     }
 
-    /// The event of a scenario with moves.
+    /// Returns the send of this event of a scenario with moves.
     fn of_addressed(event: &AddressedEvent) -> AskedSend {
         AskedSend {
             number: event.number,
@@ -159,14 +159,15 @@ impl AskedSend {
         }
     }
 
-    /// Whether an event that was done is this one. Traffic of the air comes after it at a moment.
+    /// Whether an event that was done is this send. Periodic traffic of the same time comes after
+    /// it.
     fn is(&self, done: &EventRecord<'_>) -> bool
         ensures { IsTrue result ↔ IsAsked self.now done.now }
     {
         done.moment == self.moment && verb_of(done.what) == self.verb && self.is_at(done.station)
     }
 
-    /// Whether the station of this number may be its own.
+    /// Whether the send may be from the station with this number.
     fn is_at(&self, station: usize) -> bool
         ensures { IsTrue result ↔ IfSome self.now.station (λ own. own ≡ station) }
     {
@@ -177,7 +178,7 @@ impl AskedSend {
     }
 }
 
-/// The sends that a timeline asks for, in the order in which they are run.
+/// Returns the sends that a timeline asks for, in the order in which they are run.
 fn asked_sends(alloc: Global, timeline: &Timeline) -> Result<Vec<AskedSend>, NoMemory> {
     let mut sends = Vec::new(alloc);
     match timeline {
@@ -219,14 +220,15 @@ pub struct FailedEvents {
     alloc: Global,
     /// The sends that the scenario asks for, in the order in which they are run.
     sends: Vec<AskedSend>,
-    /// How many of these came.
+    /// How many of these the run has reached.
     came: usize,
     first: Vec<FailedEvent>,
     count: usize,
 }
 
 impl FailedEvents {
-    /// Those of a run of the scenario that has not begun: none. `NoMemory` if an allocation failed.
+    /// Returns the failed events of a run that has not begun: none. `NoMemory` if an allocation
+    /// failed.
     pub fn new(alloc: Global, scenario: &Scenario) -> Result<FailedEvents, NoMemory>
         ensures { IfOk result (λ failed. failed.count ≡ 0) }
     {
@@ -239,14 +241,14 @@ impl FailedEvents {
         })
     }
 
-    /// How many there are. The count stays at 2^64 - 1.
+    /// Returns how many there are. The count stops at 2^64 - 1.
     pub fn count(&self) -> usize
         ensures { result ≡ self.now.count }
     {
         self.count
     }
 
-    /// The number in the scenario of the send that came last, if one came.
+    /// Returns the number in the scenario of the last send that the run reached, if there was one.
     pub(crate) fn last_send(&self) -> Option<usize> {
         let last = self.came.checked_sub(1)?;
         match self.sends.as_slice().get(last) {
@@ -288,7 +290,7 @@ impl FailedEvents {
         }
     }
 
-    /// Takes a note of the run, of this moment in milliseconds: an event whose station is absent
+    /// Takes a note of the run at this time in milliseconds. An event whose station is absent
     /// counts. `NoMemory` if an allocation failed.
     ///
     /// - `absent`, `next`: an event whose station is absent counts, and is no longer awaited if it
@@ -323,7 +325,7 @@ impl FailedEvents {
         }
     }
 
-    /// Takes an event of an id whose station is absent.
+    /// Counts an event of an id whose station is absent.
     fn take_absent(
         &mut self,
         id: &str,
@@ -352,7 +354,7 @@ impl FailedEvents {
         })
     }
 
-    /// Takes the end of the run of the scenario: the events that it doesn't come to count. `cut` is
+    /// Takes the end of the run of the scenario. The events that it doesn't reach count. `cut` is
     /// the time of the first events that weren't run, if the run was cut short. `NoMemory` if an
     /// allocation failed.
     pub fn end(&mut self, scenario: &Scenario, cut: Option<u64>) -> Result<(), NoMemory> {
@@ -366,7 +368,7 @@ impl FailedEvents {
         Ok(())
     }
 
-    /// One more.
+    /// Counts a failed event, and keeps it if it is one of the first 20.
     fn add(&mut self, failed: FailedEvent) -> Result<(), NoMemory>
         ensures count { self.new.count ≡ one_more self.old.count }
         ensures came { self.new.came ≡ self.old.came }
@@ -380,8 +382,8 @@ impl FailedEvents {
     }
 
     /// Prints a line for each of the first 20 on standard error, and one with the number of the
-    /// others, if there are any. With `explain` a line goes on with more about it. A write that
-    /// fails is ignored.
+    /// others, if there are any. With `explain` a line ends with an explanation. A write that fails
+    /// is ignored.
     pub fn report<E: Write>(&self, explain: bool, err: &mut E)
         ensures none { self.now.count ≡ 0 → err.new ≡ err.old }
     {

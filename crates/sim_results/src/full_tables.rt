@@ -23,16 +23,16 @@ fn capacity_of(scenario: &Scenario, station: usize) -> Option<u16> {
     }
 }
 
-/// How many receptions a full location table refused, and of which capacities.
+/// How many receptions were refused by a full location table, and the least size of such a table.
 #[derive(Clone, Copy, Debug)]
 pub struct FullTables {
     receptions: usize,
-    /// The least capacity of a station that refused one.
+    /// The least table size of a station that refused one.
     least: u16,
 }
 
 impl FullTables {
-    /// No reception yet.
+    /// Returns the counts before the first reception.
     pub fn new() -> FullTables
         ensures { result.receptions ≡ 0 }
     {
@@ -42,7 +42,7 @@ impl FullTables {
         }
     }
 
-    /// How many receptions there were; `None` where there was none.
+    /// Returns how many receptions there were. `None` if there was none.
     pub fn receptions(&self) -> Option<usize>
         ensures { result ≡ (if nat_lt 0 self.now.receptions
             then Some self.now.receptions else None) }
@@ -50,7 +50,7 @@ impl FullTables {
         (self.receptions > 0).then_some(self.receptions)
     }
 
-    /// Takes an event that was done in a run of the scenario, and counts it where it is a reception
+    /// Takes an event that was done in a run of the scenario, and counts it if it is a reception
     /// that met a full location table.
     #[inline(always)]
     pub fn take(&mut self, scenario: &Scenario, done: &EventRecord<'_>)
@@ -69,8 +69,8 @@ impl FullTables {
         }
     }
 
-    /// Prints a line on standard error, where there were any, with how many and with the least
-    /// capacity of a table that was full. A write that fails is passed over.
+    /// Prints a line on standard error, if there were any: how many, and the least size of a table
+    /// that was full. A write that fails is ignored.
     pub fn report<E: Write>(&self, err: &mut E)
         ensures none { self.now.receptions ≡ 0 → err.new ≡ err.old }
     {

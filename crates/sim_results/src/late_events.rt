@@ -1,4 +1,4 @@
-//! Events of a scenario that its run doesn't come to.
+//! Events of a scenario that its run doesn't reach.
 
 ghost use Rattle.std.specs.Prelude.{◌≡◌, ◌≤◌, ◌<◌, IfNone, IfSome, None, Some};
 
@@ -8,19 +8,19 @@ use sim_scenario::events::{AddressedEvent, FileEvent};
 use sim_scenario::{Scenario, Timeline};
 use std::alloc::Global;
 
-/// Why a run doesn't come to an event of its scenario.
+/// Why a run doesn't reach an event of its scenario.
 #[derive(Clone, Copy)]
 pub(crate) enum WhyLate {
-    /// The event is after the last time that is run, which is this.
+    /// The event is after this time, the last one that is run.
     AfterUntil(u64),
     /// The file of moves cut the run short before it.
     CutShort,
 }
 
 impl WhyLate {
-    /// Why a run doesn't come to an event of this time. `until` is the last time that is run, if the
-    /// scenario gives it. `cut` is the time of the first events that weren't run, if the run was cut
-    /// short. `None` if the event was run.
+    /// Returns why a run doesn't reach an event of this time. `until` is the last time that is run,
+    /// if the scenario has it. `cut` is the time of the first events that weren't run, if the run
+    /// was cut short. `None` if the event was run.
     fn of(moment: u64, until: Option<u64>, cut: Option<u64>) -> Option<WhyLate>
         ensures after { IfSome until (λ until. until < moment →
             result ≡ Some (WhyLate.AfterUntil until)) }
@@ -40,7 +40,7 @@ impl WhyLate {
     }
 }
 
-/// An event of a scenario that its run doesn't come to.
+/// An event of a scenario that its run doesn't reach.
 #[derive(Clone, Copy)]
 pub(crate) struct LateEvent {
     /// Its number among the events of the document, from 0.
@@ -54,7 +54,7 @@ pub(crate) struct LateEvent {
 }
 
 impl LateEvent {
-    /// The event or leave of this number, which isn't run for this reason.
+    /// Returns the event or leave with this number, which isn't run for this reason.
     fn of(number: usize, filed: &FileEvent, why: WhyLate) -> LateEvent {
         LateEvent {
             number,
@@ -65,7 +65,7 @@ impl LateEvent {
         }
     }
 
-    /// The event or leave of a scenario with moves, whose station may be given by an id.
+    /// Returns the event or leave of a scenario with moves, whose station may be named by an id.
     fn of_addressed(event: &AddressedEvent, why: WhyLate) -> LateEvent {
         LateEvent {
             number: event.number,
@@ -77,9 +77,9 @@ impl LateEvent {
     }
 }
 
-/// Returns the events and leaves of a scenario that its run doesn't come to, in the order of their
-/// times. `cut` is the time of the first events that weren't run, if the run was cut short. Each
-/// event of a scenario without an air is run.
+/// Returns the events and leaves of a scenario that its run doesn't reach, in the order of their
+/// times. `cut` is the time of the first events that weren't run, if the run was cut short. Without
+/// a radio model each event is run.
 pub(crate) fn late_events(
     alloc: Global,
     scenario: &Scenario,

@@ -1,11 +1,10 @@
-//! What is found out of a run beside its lines: how far each packet for an area came at the
-//! stations that it is for, receptions that met a full location table, what is doubtful about the
-//! run, and the files of numbers, with a row for each packet for an area, each station or each
-//! second.
+//! What a run reports besides its lines: how far each packet for an area came at the stations that
+//! it is for, receptions that met a full location table, what is doubtful about the run, and the
+//! result files, with one row per packet for an area, per station or per second.
 //!
 //! # What is proved
 //!
-//! Inside, an event after `until` and one after a bad row are not run, and no other one is left out
+//! Inside the crate: an event is not run if and only if it comes after `until` or after a bad row
 //! (`WhyLate::of`).
 //!
 //! The air time of a frame is added to its second, and to its interval of 100 ms; a frame of a

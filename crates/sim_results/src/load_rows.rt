@@ -1,4 +1,4 @@
-//! The file of the load of a run: a row for each second in which a frame was given.
+//! The file of the load of a run, one row per second in which a frame was sent.
 
 ghost use Rattle.std.specs.Prelude.{◌≡◌, ◌+◌, ◌-◌, ◌^◌, min};
 
@@ -18,23 +18,23 @@ const HEAD: &str = "second,stations,frames,octets,busy_p50,busy_p95,busy_most,pe
 /// The milliseconds of a second.
 const SECOND: u64 = 1000;
 
-/// The milliseconds of a window, of which the densest in a second counts.
+/// The length of a window in milliseconds. The busiest window of a second counts.
 const WINDOW: u64 = 100;
 
-/// The load at a station in the second that is under way.
+/// The load at a station in the current second.
 #[derive(Clone, Copy)]
 struct StationLoad {
     is_present: bool,
     /// How long the channel is busy there, in microseconds.
     busy: u64,
-    /// The last window in which it is, by its number from 0.
+    /// The number of the last window in which the channel is busy, from 0.
     window: u64,
-    /// How long it is in that window, in microseconds.
+    /// How long the channel is busy in that window, in microseconds.
     dense: u64,
 }
 
 impl StationLoad {
-    /// That of a station where nothing was heard yet.
+    /// Returns the load at a station where no frame was received yet.
     fn silent(is_present: bool) -> StationLoad {
         StationLoad {
             is_present,
@@ -63,7 +63,7 @@ impl StationLoad {
     }
 }
 
-/// The load of the second that is under way.
+/// The load of the current second.
 #[derive(Drop)]
 pub(crate) struct LoadRows {
     alloc: Global,
@@ -77,7 +77,7 @@ pub(crate) struct LoadRows {
 }
 
 impl LoadRows {
-    /// That of a run that has not begun, of whose stations these are present then.
+    /// Returns the load of a run that has not begun. These stations are present at its start.
     pub(crate) fn new(alloc: Global, present: &[bool]) -> Result<LoadRows, NoMemory> {
         let mut loads = Vec::with_capacity(alloc, present.len())?;
         for is_present in present {
@@ -93,7 +93,7 @@ impl LoadRows {
         })
     }
 
-    /// Goes on to a moment: where that is in another second, the row of the one before is written.
+    /// Goes on to a time. If that is in another second, the row of the second before is written.
     fn reach<W: Write>(&mut self, moment: u64, out: &mut W) -> Result<(), SimulationFault> {
         let second = moment / SECOND;
         if second == self.second {
@@ -110,7 +110,7 @@ impl LoadRows {
         Ok(())
     }
 
-    /// How long the channel was busy at each station that is present, in thousandths of a second.
+    /// Returns how long the channel was busy at each station that is present, in milliseconds.
     fn busy_of_present(&self) -> Result<Vec<u64>, NoMemory> {
         let mut busy = Vec::new(self.alloc);
         for station in &self.stations {
@@ -121,21 +121,21 @@ impl LoadRows {
         Ok(busy)
     }
 
-    /// Adds a frame that is sent or heard at a station at this moment.
+    /// Adds a frame that is sent or received at a station at this time.
     fn add(&mut self, station: usize, moment: u64, time: u64) {
         if let Some(load) = self.stations.as_mut_slice().get_mut(station) {
             self.peak = self.peak.max(load.add(moment / WINDOW, time));
         }
     }
 
-    /// Adds a frame that goes out of a station at this moment.
+    /// Adds a frame that a station sends at this time.
     fn send(&mut self, station: usize, moment: u64, octets: &[u8]) {
         self.frames = self.frames.saturating_add(1);
         self.octets = self.octets.saturating_add(octets.len() as u64);
         self.add(station, moment, octets_time(octets));
     }
 
-    /// A station comes or leaves.
+    /// Notes that a station arrives or departs.
     fn set_present(&mut self, station: usize, is_present: bool) {
         if let Some(load) = self.stations.as_mut_slice().get_mut(station) {
             load.is_present = is_present;
@@ -186,7 +186,7 @@ impl NumberRows for LoadRows {
         Ok(())
     }
 
-    /// Writes the row of the second that is under way, where a frame was given in it.
+    /// Writes the row of the current second, if a frame was sent in it.
     fn end<W: Write>(&mut self, out: &mut W) -> Result<(), SimulationFault> {
         if self.frames == 0 {
             return Ok(());

@@ -1,4 +1,4 @@
-//! A packet for an area of a run, whose row isn't written yet.
+//! A packet for an area whose row isn't written yet.
 
 use crate::audience::Audience;
 use crate::quantile::Quantiles;
@@ -14,7 +14,7 @@ use std::collections::HashSet;
 use std::io;
 use std::io::Write;
 
-/// A packet for an area, and what came of its frames so far.
+/// A packet for an area, and the outcomes of its frames so far.
 #[derive(Drop)]
 pub(crate) struct OpenSend {
     /// The number of the event that sent it.
@@ -28,13 +28,13 @@ pub(crate) struct OpenSend {
     delivered: HashSet<usize>,
     /// The milliseconds from the send to each of these first deliveries.
     firsts: Vec<u64>,
-    /// Its frames, the first and the relayed ones.
+    /// How many frames of it were sent: the first and the forwarded ones.
     frames: usize,
-    /// The most frames on the way to a delivery.
+    /// The most frames on the path to a delivery.
     hops: usize,
     /// Deliveries of its frames that were run.
     heard: usize,
-    /// Deliveries that a draw lost.
+    /// Deliveries that were lost at random.
     lost: usize,
     /// Deliveries that were ignored as duplicates.
     duplicates: usize,
@@ -42,13 +42,14 @@ pub(crate) struct OpenSend {
     full: usize,
     /// How many deliveries of its frames are still to come, and how many of its frames are held.
     waiting: usize,
-    /// Its frames that a station held, and those of them that others' copies cancelled.
+    /// How many of its frames a station held, and how many of these were cancelled by copies from
+    /// others.
     held: usize,
     cancelled: usize,
 }
 
 impl OpenSend {
-    /// The packet that an event sent, with its first frame.
+    /// Returns the packet that an event sent, with its first frame.
     pub(crate) fn new(
         alloc: Global,
         world: &World,
@@ -83,30 +84,30 @@ impl OpenSend {
         self.waiting > 0
     }
 
-    /// More deliveries of its frames are to come.
+    /// Notes that this many more deliveries of its frames are to come.
     pub(crate) fn wait(&mut self, deliveries: usize) {
         self.waiting = self.waiting.saturating_add(deliveries);
     }
 
-    /// A delivery that was to come was done.
+    /// Notes that one delivery less is to come.
     pub(crate) fn wait_no_more(&mut self) {
         self.waiting = self.waiting.saturating_sub(1);
     }
 
-    /// A station holds a frame of it.
+    /// Notes that a station holds a frame of it.
     pub(crate) fn hold(&mut self) {
         add_one(&mut self.held);
         self.wait(1);
     }
 
-    /// A frame of it that a station held goes out.
+    /// Notes that a frame of it which a station held is sent.
     pub(crate) fn release(&mut self) {
         self.wait_no_more();
         self.relay();
     }
 
-    /// A frame of it that a station held goes to nobody, since others have sent it if it is
-    /// cancelled.
+    /// Notes that a frame of it which a station held is not sent. It is cancelled if copies from
+    /// others were received.
     pub(crate) fn let_go(&mut self, is_cancelled: bool) {
         self.wait_no_more();
         if is_cancelled {
@@ -114,17 +115,17 @@ impl OpenSend {
         }
     }
 
-    /// A station gave a frame of it on.
+    /// Notes that a station forwarded a frame of it.
     pub(crate) fn relay(&mut self) {
         add_one(&mut self.frames);
     }
 
-    /// A draw lost a delivery to a station.
+    /// Notes that a delivery to a station was lost at random.
     pub(crate) fn lose(&mut self) {
         add_one(&mut self.lost);
     }
 
-    /// Takes the delivery of a frame that `depth` relays led to.
+    /// Takes the delivery of a frame that was forwarded `depth` times.
     pub(crate) fn take(
         &mut self,
         world: &World,
@@ -142,7 +143,7 @@ impl OpenSend {
         Ok(())
     }
 
-    /// Counts a delivery of which this is told.
+    /// Counts a delivery with this outcome.
     fn count(&mut self, entry: &Entry) {
         match entry {
             Entry::Refused(EntryFault::NoSuchFrame | EntryFault::NoSuchStation) => return,
@@ -153,7 +154,7 @@ impl OpenSend {
         add_one(&mut self.heard);
     }
 
-    /// Its first deliveries, by how long they took.
+    /// Returns the quantiles of the times to its first deliveries.
     fn times(&mut self) -> Result<Quantiles, NoMemory> {
         Quantiles::of(&mut self.firsts)
     }
@@ -187,7 +188,7 @@ impl OpenSend {
         write!(out, "{send},{moment},{station},{},{port},", self.kind)
     }
 
-    /// Writes for how many it was, how many of these it reached, and with how many frames.
+    /// Writes how many stations it was for, how many of these it reached, and with how many frames.
     fn write_audience<W: Write>(&self, out: &mut W) -> io::Result<()> {
         let (inside, reached) = (self.audience.size(), self.audience.reached(None));
         write!(
@@ -198,13 +199,14 @@ impl OpenSend {
         )
     }
 
-    /// Writes what became of the deliveries of its frames.
+    /// Writes the outcomes of the deliveries of its frames.
     fn write_deliveries<W: Write>(&self, out: &mut W) -> io::Result<()> {
         let (heard, lost, duplicates, full) = (self.heard, self.lost, self.duplicates, self.full);
         write!(out, "{heard},{lost},{duplicates},{full},")
     }
 
-    /// Writes its row, when nothing more comes of it, with what was held if any station contends.
+    /// Writes its row, once none of its frames has deliveries to come. The row has the held frames
+    /// if any station contends.
     pub(crate) fn write<W: Write>(
         mut self,
         has_contention: bool,
@@ -215,7 +217,7 @@ impl OpenSend {
     }
 }
 
-/// One more.
+/// Adds 1 to a count.
 fn add_one(count: &mut usize) {
     *count = count.saturating_add(1);
 }

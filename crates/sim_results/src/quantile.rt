@@ -1,20 +1,20 @@
-//! Quantiles of a few numbers.
+//! Quantiles of a list of numbers.
 
 use its_gnvalue::NoMemory;
 
-/// The least, some of those between, and the greatest of numbers; 0 where there is none.
+/// The least, two quantiles and the greatest of a list of numbers. All are 0 if the list is empty.
 #[derive(Clone, Copy, Default)]
 pub(crate) struct Quantiles {
     pub(crate) least: u64,
-    /// The least of them that at least 50 in a hundred don't exceed.
+    /// The median: the least number that at least 50% of the numbers don't exceed.
     pub(crate) p50: u64,
-    /// The least of them that at least 95 in a hundred don't exceed.
+    /// The least number that at least 95% of the numbers don't exceed.
     pub(crate) p95: u64,
     pub(crate) most: u64,
 }
 
 impl Quantiles {
-    /// Those of these numbers.
+    /// Sorts these numbers, and returns their quantiles.
     pub(crate) fn of(numbers: &mut Vec<u64>) -> Result<Quantiles, NoMemory> {
         numbers.sort()?;
         let sorted = numbers.as_slice();
@@ -27,8 +27,8 @@ impl Quantiles {
     }
 }
 
-/// The least of these numbers, which are in order, that so many in a hundred of them don't exceed;
-/// 0 where there is none.
+/// Returns the least of these sorted numbers that at least `hundredths` percent of them don't
+/// exceed. 0 without any number.
 fn hundredth(sorted: &[u64], hundredths: u64) -> u64 {
     let count = sorted.len() as u64;
     let place = count

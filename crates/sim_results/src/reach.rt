@@ -11,19 +11,19 @@ use std::fmt;
 /// How far a packet came at a station, from nowhere to its port.
 #[derive(Clone, Copy, Debug, PartialEq, Eq)]
 pub enum Reach {
-    /// No frame of it came into its hearing.
+    /// No frame of it was in range.
     Unheard,
-    /// The run ended before a frame of it came, while it was on its way.
+    /// The run ended before a frame of it arrived, while deliveries were still to come.
     Cut,
-    /// Each frame that it would have heard was lost.
+    /// Each frame that the station could have received was lost.
     Lost,
-    /// A frame of it came and was ignored.
+    /// A frame of it was received and ignored.
     Ignored,
-    /// A frame of it came and was refused.
+    /// A frame of it was received and rejected.
     Refused,
-    /// A frame of it came, and the location table had no room for its source.
+    /// A frame of it was received, and the location table had no free space for its source.
     Full,
-    /// It was accepted by the station, which stood outside the area.
+    /// It was accepted by the station, which was outside the area.
     Outside,
     /// It was accepted inside the area, and its port was not open.
     Closed,
@@ -32,7 +32,7 @@ pub enum Reach {
 }
 
 impl Reach {
-    /// Whether this is told of a frame that was delivered to its port.
+    /// Whether this is the outcome of a frame that was delivered to its port.
     pub(crate) fn is_delivery(entry: &Entry) -> bool {
         matches!(
             entry,
@@ -43,7 +43,7 @@ impl Reach {
         )
     }
 
-    /// How far it came, by what is told of a frame of it.
+    /// Returns how far it came, by the outcome of one of its frames.
     pub(crate) fn of(entry: &Entry, is_inside: bool) -> Reach {
         match entry {
             Entry::Accepted {
@@ -66,7 +66,8 @@ impl Reach {
         matches!(self, Reach::Delivered)
     }
 
-    /// How far it came, of a packet of which the run did not make all deliveries if `is_cut`.
+    /// Returns how far it came by the end of the run. `is_cut` says that the run ended before all
+    /// its deliveries.
     pub fn at_end(self, is_cut: bool) -> Reach
         ensures { result ≡ at_end is_cut self }
     {
@@ -76,7 +77,7 @@ impl Reach {
         }
     }
 
-    /// The word for it, as `lost`.
+    /// Returns its keyword, for example `lost`.
     fn word(self) -> &'static str {
         match self {
             Reach::Unheard => "unheard",
@@ -91,7 +92,7 @@ impl Reach {
         }
     }
 
-    /// Its place among these, the furthest last.
+    /// Returns its rank. The furthest has the highest.
     pub(crate) fn rank(self) -> u8 {
         self as u8
     }

@@ -1,7 +1,6 @@
-//! The files of numbers of a run: its sends, its stations, its load.
+//! The result files of a run: its sends, its stations, its load.
 
 ghost use Rattle.std.specs.Prelude.{◌≡◌, ◌↔◌, None, IfOk, IsOk, IsTrue, Ok};
-ghost use Rattle.cmd_reporting.specs.Statuses.{IsCommandStatus};
 ghost use Rattle.sim_results.specs.Results.{IsNoFile};
 
 use crate::load_rows::LoadRows;
@@ -16,14 +15,14 @@ use sim_simulation::{EventRecord, Note, SimulationFault};
 use std::alloc::Global;
 use std::io::Write;
 
-/// The names of the files of numbers that a run is to write, where it is.
+/// The names of the result files that a run has to write.
 #[derive(Clone, Copy, Debug, Default, PartialEq, Eq)]
 pub struct ResultFiles<'a> {
-    /// Of the packets for an area, a row each.
+    /// The file with one row per packet for an area.
     pub sends: Option<&'a str>,
-    /// Of the stations, a row each.
+    /// The file with one row per station.
     pub stations: Option<&'a str>,
-    /// Of the seconds in which a frame was given, a row each.
+    /// The file with one row per second in which a frame was sent.
     pub load: Option<&'a str>,
 }
 
@@ -36,7 +35,7 @@ impl ResultFiles<'_> {
     }
 }
 
-/// A file of numbers that is being written.
+/// A result file that is being written.
 #[derive(Drop)]
 struct ResultFile<'a, R: Drop, W: Write + Drop> {
     name: &'a str,
@@ -47,7 +46,7 @@ struct ResultFile<'a, R: Drop, W: Write + Drop> {
 }
 
 impl<'a, R: NumberRows + Drop, W: Write + Drop> ResultFile<'a, R, W> {
-    /// Begins the file of this name with the names of its columns.
+    /// Begins the file with this name by writing the names of its columns.
     fn begin(name: &'a str, rows: R, writer: W) -> Result<ResultFile<'a, R, W>, Fault<'a>> {
         let mut writer = writer;
         match rows.begin(&mut writer) {
@@ -80,10 +79,8 @@ impl<'a, R: NumberRows + Drop, W: Write + Drop> ResultFile<'a, R, W> {
         taken
     }
 
-    /// Ends the file after a run that ended so. `CannotWrite` where it failed.
+    /// Ends the file after a run that ended as `ran` says. `CannotWrite` if a write failed.
     fn end(mut self, ran: Result<Status, Fault<'a>>) -> Result<Status, Fault<'a>>
-        requires { IfOk ran IsCommandStatus }
-        ensures status { IfOk result IsCommandStatus }
         ensures done { result ≡ Ok Status.Done → ran.entry ≡ Ok Status.Done }
     {
         let finished = self.finish();
@@ -107,7 +104,7 @@ impl<'a, R: NumberRows + Drop, W: Write + Drop> ResultFile<'a, R, W> {
     }
 }
 
-/// Begins the file of this name, where there is one.
+/// Begins the file with this name, if there is one.
 fn begin_file<'a, R: NumberRows + Drop, W: Write + Drop>(
     name: Option<&'a str>,
     rows: R,
@@ -121,7 +118,7 @@ fn begin_file<'a, R: NumberRows + Drop, W: Write + Drop>(
     }
 }
 
-/// The same of the packets for an area.
+/// Begins the file of the packets for an area, if there is one.
 fn begin_sends<'a, W: Write + Drop>(
     alloc: Global,
     scenario: &Scenario,
@@ -133,7 +130,7 @@ fn begin_sends<'a, W: Write + Drop>(
     begin_file(name, SendRows::new(alloc, scenario)?, writer)
 }
 
-/// The same of the stations.
+/// Begins the file of the stations, if there is one.
 fn begin_stations<'a, W: Write + Drop>(
     alloc: Global,
     scenario: &Scenario,
@@ -145,7 +142,7 @@ fn begin_stations<'a, W: Write + Drop>(
     begin_file(name, StationRows::new(alloc, scenario)?, writer)
 }
 
-/// The same of the load.
+/// Begins the file of the load, if there is one.
 fn begin_load<'a, W: Write + Drop>(
     alloc: Global,
     scenario: &Scenario,
@@ -158,7 +155,7 @@ fn begin_load<'a, W: Write + Drop>(
     begin_file(name, rows, writer)
 }
 
-/// The file, where there is one, takes an event that was done.
+/// Passes an event that was done to the file, if there is one.
 #[inline(always)]
 fn take_in<'a, R: NumberRows + Drop, W: Write + Drop>(
     file: &mut Option<ResultFile<'a, R, W>>,
@@ -173,7 +170,7 @@ fn take_in<'a, R: NumberRows + Drop, W: Write + Drop>(
     }
 }
 
-/// The same of a note of the run.
+/// Passes a note of the run to the file, if there is one.
 fn take_note_in<'a, R: NumberRows + Drop, W: Write + Drop>(
     file: &mut Option<ResultFile<'a, R, W>>,
     world: &World,
@@ -188,13 +185,11 @@ fn take_note_in<'a, R: NumberRows + Drop, W: Write + Drop>(
     }
 }
 
-/// Ends the file, where there is one, after a run that ended so.
+/// Ends the file, if there is one, after a run that ended as `ran` says.
 fn end_file<'a, R: NumberRows + Drop, W: Write + Drop>(
     file: Option<ResultFile<'a, R, W>>,
     ran: Result<Status, Fault<'a>>,
 ) -> Result<Status, Fault<'a>>
-    requires { IfOk ran IsCommandStatus }
-    ensures status { IfOk result IsCommandStatus }
     ensures none { file.entry ≡ None → result ≡ ran.entry }
     ensures done { result ≡ Ok Status.Done → ran.entry ≡ Ok Status.Done }
 {
@@ -209,8 +204,7 @@ fn is_failure(taken: &Result<(), SimulationFault>) -> bool {
     matches!(taken, Err(SimulationFault::Output))
 }
 
-/// What the files of numbers are written to, where they are. A file is written that has both a name
-/// and a writer.
+/// The writers of the result files. A file is written if it has both a name and a writer.
 #[derive(Drop)]
 pub struct ResultWriters<W: Drop> {
     /// The file of the packets for an area.
@@ -221,7 +215,7 @@ pub struct ResultWriters<W: Drop> {
     pub load: Option<W>,
 }
 
-/// The files of numbers of a run that are being written.
+/// The result files of a run that are being written.
 #[derive(Drop)]
 pub struct Results<'a, W: Write + Drop> {
     sends: Option<ResultFile<'a, SendRows, W>>,
@@ -230,7 +224,7 @@ pub struct Results<'a, W: Write + Drop> {
 }
 
 impl<'a, W: Write + Drop> Results<'a, W> {
-    /// No file is written.
+    /// Returns the results of a run that writes no file.
     pub fn none() -> Results<'a, W>
         ensures sends { result.sends ≡ None }
         ensures stations { result.stations ≡ None }
@@ -252,9 +246,9 @@ impl<'a, W: Write + Drop> Results<'a, W> {
         self.sends.is_none() && self.stations.is_none() && self.load.is_none()
     }
 
-    /// Begins the files of these names, of a run of the scenario that has not begun, each with the
-    /// names of its columns. `CannotWrite`, with its name, where one could not be written;
-    /// `OutOfMemory` where an allocation failed.
+    /// Begins the files with these names for a run that has not begun, each with the names of its
+    /// columns. `CannotWrite`, with its name, if a file could not be written. `OutOfMemory` if an
+    /// allocation failed.
     pub fn begin(
         alloc: Global,
         scenario: &Scenario,
@@ -276,9 +270,9 @@ impl<'a, W: Write + Drop> Results<'a, W> {
         })
     }
 
-    /// Takes an event that was done, with the world as it stands after it, and writes the rows that
-    /// are complete then. `Output` where a file could not be written, which `end` tells then;
-    /// `OutOfMemory` where an allocation failed.
+    /// Takes an event that was done, with the world after it, and writes the rows that are complete
+    /// then. `Output` if a file could not be written, which `end` then reports. `OutOfMemory` if an
+    /// allocation failed.
     #[inline(always)]
     pub fn take(&mut self, world: &World, done: &EventRecord<'_>) -> Result<(), SimulationFault>
         ensures none { self.old.sends ≡ None → self.old.stations ≡ None → self.old.load ≡ None →
@@ -289,8 +283,8 @@ impl<'a, W: Write + Drop> Results<'a, W> {
         take_in(&mut self.load, world, done)
     }
 
-    /// Takes a note of the run, of this moment in milliseconds, with the world as it stands then.
-    /// Fails as `take` does.
+    /// Takes a note of the run at this time in milliseconds, with the world at that time. Fails as
+    /// `take` does.
     pub fn take_note(
         &mut self,
         world: &World,
@@ -305,9 +299,9 @@ impl<'a, W: Write + Drop> Results<'a, W> {
         take_note_in(&mut self.load, world, moment, note)
     }
 
-    /// Lists the packets for an area of events that the run doesn't come to: they have rows too.
-    /// `cut` is the time of the first events that weren't run, if the run was cut short. `NoMemory`
-    /// if an allocation failed.
+    /// Lists the packets for an area of events that the run doesn't reach, since they have rows
+    /// too. `cut` is the time of the first events that weren't run, if the run was cut short.
+    /// `NoMemory` if an allocation failed.
     pub fn list_late(&mut self, scenario: &Scenario, cut: Option<u64>) -> Result<(), NoMemory>
         ensures none { (self.old.sends ≡ None → self.new.sends ≡ None)
             × (self.new.stations ≡ self.old.stations) × (self.new.load ≡ self.old.load) }
@@ -318,12 +312,10 @@ impl<'a, W: Write + Drop> Results<'a, W> {
         }
     }
 
-    /// Writes the rows that are left and ends the files, after a run that ended as `ran` says,
-    /// which is no status of refused arguments. The result is `ran`, but `CannotWrite`, with its
-    /// name, where a file could not be written, and `OutOfMemory` where an allocation failed.
+    /// Writes the rows that are left and ends the files, after a run that ended as `ran` says.
+    /// Returns `CannotWrite`, with its name, if a file could not be written, `OutOfMemory` if an
+    /// allocation failed, and otherwise `ran`.
     pub fn end(self, ran: Result<Status, Fault<'a>>) -> Result<Status, Fault<'a>>
-        requires { IfOk ran IsCommandStatus }
-        ensures status { IfOk result IsCommandStatus }
         ensures none { self.entry.sends ≡ None → self.entry.stations ≡ None →
             self.entry.load ≡ None → result ≡ ran.entry }
         ensures done { result ≡ Ok Status.Done → ran.entry ≡ Ok Status.Done }

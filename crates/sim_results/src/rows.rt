@@ -1,16 +1,16 @@
-//! What is written to a file of numbers.
+//! The rows of a result file.
 
 use its_world::World;
 use sim_simulation::{EventRecord, Note, SimulationFault};
 use std::io;
 use std::io::Write;
 
-/// The rows of a file of numbers, which a run makes.
+/// The rows of a result file, which a run makes.
 pub(crate) trait NumberRows {
     /// Writes the names of the columns.
     fn begin<W: Write>(&self, out: &mut W) -> io::Result<()>;
 
-    /// Takes an event that was done, with the world as it stands after it.
+    /// Takes an event that was done, with the world after it.
     fn take<W: Write>(
         &mut self,
         world: &World,
@@ -18,7 +18,7 @@ pub(crate) trait NumberRows {
         out: &mut W,
     ) -> Result<(), SimulationFault>;
 
-    /// Takes a note of this moment, with the world as it stands then.
+    /// Takes a note of this time in milliseconds, with the world at that time.
     fn take_note<W: Write>(
         &mut self,
         world: &World,

@@ -1,5 +1,6 @@
-//! The file of the packets for an area of a run: a row each, which is written once no delivery of
-//! its frames is still to come. One that an event asks for and that isn't sent has a row too.
+//! The file of a run's packets for an area, one row per packet. A row is written once no delivery
+//! of the packet's frames is still to come. A packet that an event asks for and that isn't sent has
+//! a row too.
 
 use crate::late_events::late_events;
 use crate::open_send::OpenSend;
@@ -22,15 +23,15 @@ use std::io::Write;
 const HEAD: &str = "send,moment,station,kind,port,inside,reached,delivered,frames,heard,lost,\
     duplicates,full,hops,first,p50,p95,last";
 
-/// The names of two more columns, of a run in which any station contends.
+/// The names of two more columns, for a run in which any station contends.
 const CONTENTION_HEAD: &str = ",held,cancelled";
 
 /// A row that isn't written yet.
 #[derive(Drop)]
 enum WaitingRow {
-    /// Of a packet that was sent.
+    /// The row of a packet that was sent.
     Sent(OpenSend),
-    /// Of one that wasn't.
+    /// The row of a packet that wasn't sent.
     Unsent(UnsentPacket),
 }
 
@@ -43,7 +44,7 @@ impl WaitingRow {
         }
     }
 
-    /// Writes it, when nothing more comes of its packet.
+    /// Writes the row, once no delivery of its packet is still to come.
     fn write<W: Write>(self, has_contention: bool, out: &mut W) -> Result<(), SimulationFault> {
         match self {
             WaitingRow::Sent(packet) => packet.write(has_contention, out),
@@ -73,14 +74,14 @@ pub(crate) struct SendRows {
     /// How many rows were written.
     written: usize,
     open: VecDeque<WaitingRow>,
-    /// The packets of events that the run doesn't come to, once its end is known.
+    /// The packets of events that the run doesn't reach, once its end is known.
     late: Vec<UnsentPacket>,
     /// Whether any station contends.
     has_contention: bool,
 }
 
 impl SendRows {
-    /// Those of a run of a scenario that has not begun.
+    /// Returns the rows of a run that has not begun: none.
     pub(crate) fn new(alloc: Global, scenario: &Scenario) -> Result<SendRows, NoMemory> {
         Ok(SendRows {
             alloc,
@@ -93,8 +94,8 @@ impl SendRows {
         })
     }
 
-    /// Lists the packets of events that the run doesn't come to, whose rows come last. `cut` is the
-    /// time of the first events that weren't run, if the run was cut short.
+    /// Lists the packets of events that the run doesn't reach. Their rows are the last. `cut` is
+    /// the time of the first events that weren't run, if the run was cut short.
     pub(crate) fn list_late(
         &mut self,
         scenario: &Scenario,
@@ -108,7 +109,7 @@ impl SendRows {
         Ok(())
     }
 
-    /// The packet that was sent whose row has this place, if that isn't written yet.
+    /// Returns the sent packet of the row with this number, if the row isn't written yet.
     fn packet(&mut self, row: usize) -> Option<&mut OpenSend> {
         match self.open.get_mut(row.checked_sub(self.written)?)? {
             WaitingRow::Sent(packet) => Some(packet),
@@ -145,8 +146,8 @@ impl SendRows {
         first.write(self.has_contention, out)
     }
 
-    /// Takes the event. Returns what the frame that it gave carries, if it gave one that carries a
-    /// packet for an area.
+    /// Counts the event. Returns what the frame that it sent carries, if that is a packet for an
+    /// area.
     fn count(
         &mut self,
         world: &World,
@@ -164,7 +165,7 @@ impl SendRows {
         }
     }
 
-    /// Takes the send of a packet for an area, where it was sent.
+    /// Counts the send of a packet for an area. Returns what its frame carries, if it was sent.
     fn count_send(
         &mut self,
         world: &World,
@@ -184,7 +185,7 @@ impl SendRows {
         Ok(Some(CarriedPacket { send, depth: 0 }))
     }
 
-    /// Takes the delivery of a frame.
+    /// Counts the delivery of a frame. Returns what the forwarded frame carries, if there is one.
     fn count_delivery(
         &mut self,
         world: &World,
@@ -209,7 +210,7 @@ impl SendRows {
         Ok(Some(carried.relayed()))
     }
 
-    /// A station holds a frame of the packet of this place.
+    /// Notes that a station holds a frame of the packet of this row.
     fn note_held(&mut self, frame: usize, send: usize) {
         self.frames.hold(frame);
         if let Some(packet) = self.packet(send) {
@@ -217,7 +218,7 @@ impl SendRows {
         }
     }
 
-    /// A frame that a station held goes out.
+    /// Notes that a frame which a station held is sent.
     fn release(&mut self, frame: usize) {
         let Some(carried) = self.frames.release(frame) else {
             return;
@@ -227,7 +228,8 @@ impl SendRows {
         }
     }
 
-    /// A frame that a station held goes to nobody, since others have sent it if it is cancelled.
+    /// Notes that a frame which a station held is not sent. It is cancelled if copies from others
+    /// were received.
     fn let_go(&mut self, frame: usize, is_cancelled: bool) {
         let Some(carried) = self.frames.let_go(frame) else {
             return;
@@ -237,7 +239,7 @@ impl SendRows {
         }
     }
 
-    /// Takes a frame that was given, with what it carries.
+    /// Notes a frame that was sent, with what it carries.
     fn note_given(&mut self, frame: usize, carried: CarriedPacket) -> Result<(), NoMemory> {
         let waiting = self.frames.note_given(frame, carried)?;
         if let Some(packet) = self.packet(carried.send) {

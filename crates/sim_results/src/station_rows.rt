@@ -1,4 +1,4 @@
-//! The file of the stations of a run: a row each.
+//! The file of the stations of a run, one row per station.
 
 use crate::busy::{frame_time, octets_time};
 use crate::rows::NumberRows;
@@ -15,26 +15,26 @@ use std::io::Write;
 const HEAD: &str = "station,id,address,from,to,away,sent,relayed,octets,heard,delivered,duplicates,\
     ignored,refused,full,lost,busy,busiest";
 
-/// The names of two more columns, of a run in which any station contends.
+/// The names of two more columns, for a run in which any station contends.
 const CONTENTION_HEAD: &str = ",held,cancelled";
 
-/// The milliseconds of an interval of which the busiest is told.
+/// The length of an interval in milliseconds. A row has the busy time of the busiest interval.
 const INTERVAL: u64 = 100;
 
 /// When a station is present.
 #[derive(Clone, Copy)]
 struct PresenceTimes {
     is_present: bool,
-    /// When it was first present, where it was.
+    /// When it was first present, if it ever was.
     from: Option<u64>,
-    /// When it left for the last time.
+    /// When it last departed.
     to: u64,
-    /// The milliseconds between in which it was absent.
+    /// The milliseconds between these times in which it was absent.
     away: u64,
 }
 
 impl PresenceTimes {
-    /// Of a station that is there from the start, or not yet.
+    /// Returns the times of a station that is present from the start, or not yet.
     fn new(is_present: bool) -> PresenceTimes {
         PresenceTimes {
             is_present,
@@ -44,7 +44,7 @@ impl PresenceTimes {
         }
     }
 
-    /// It comes.
+    /// Notes that the station arrives.
     fn come(&mut self, moment: u64) {
         match self.from {
             Some(_) => self.away = self.away.saturating_add(moment.saturating_sub(self.to)),
@@ -53,7 +53,7 @@ impl PresenceTimes {
         self.is_present = true;
     }
 
-    /// It leaves.
+    /// Notes that the station departs.
     fn leave(&mut self, moment: u64) {
         self.to = moment;
         self.is_present = false;
@@ -73,7 +73,7 @@ struct BusyTime {
 }
 
 impl BusyTime {
-    /// Adds a frame that is given at this moment.
+    /// Adds a frame of this air time that is sent at this time.
     fn add(&mut self, moment: u64, time: u64) {
         let interval = moment / INTERVAL;
         if interval != self.interval {
@@ -86,7 +86,7 @@ impl BusyTime {
     }
 }
 
-/// What a station did, in numbers.
+/// The counts of a station.
 #[derive(Clone, Copy, Default)]
 struct StationNumbers {
     sent: u64,
@@ -129,13 +129,13 @@ impl StationNumbers {
         self.cancelled = self.cancelled.saturating_add(done.cancelled() as u64);
     }
 
-    /// Counts a frame of this many octets that the station held and that goes out.
+    /// Counts a frame of this many octets that the station held and now sends.
     fn release(&mut self, octets: usize) {
         add_one(&mut self.relayed);
         self.add_octets(octets);
     }
 
-    /// Adds the octets of a frame that goes out.
+    /// Adds the octets of a frame that is sent.
     fn add_octets(&mut self, octets: usize) {
         self.octets = self.octets.saturating_add(octets as u64);
     }
@@ -149,7 +149,7 @@ impl StationNumbers {
     }
 }
 
-/// One more.
+/// Adds 1 to a count.
 fn add_one(count: &mut u64) {
     *count = count.saturating_add(1);
 }
@@ -157,7 +157,7 @@ fn add_one(count: &mut u64) {
 /// A station of a run.
 #[derive(Drop)]
 struct StationRow {
-    /// Its id in a file of moves; empty for one of the scenario's own.
+    /// Its id in a file of moves. Empty for a station of the scenario.
     id: String,
     address: GnAddress,
     times: PresenceTimes,
@@ -166,7 +166,8 @@ struct StationRow {
 }
 
 impl StationRow {
-    /// Of a station that has done nothing yet, and is there from the start or not yet.
+    /// Returns the row of a station that has done nothing yet, and is present from the start or not
+    /// yet.
     fn new(id: String, address: GnAddress, is_present: bool) -> StationRow {
         StationRow {
             id,
@@ -178,19 +179,19 @@ impl StationRow {
     }
 }
 
-/// The rows of the stations, as they are known so far.
+/// The rows of the stations up to now.
 #[derive(Drop)]
 pub(crate) struct StationRows {
     alloc: Global,
     rows: Vec<StationRow>,
-    /// The moment of the last event or note.
+    /// The time of the last event or note.
     last: u64,
     /// Whether any station contends.
     has_contention: bool,
 }
 
 impl StationRows {
-    /// Those of a run of a scenario that has not begun.
+    /// Returns the rows of a run that has not begun.
     pub(crate) fn new(alloc: Global, scenario: &Scenario) -> Result<StationRows, NoMemory> {
         let (configs, present) = (scenario.stations.as_slice(), scenario.present.as_slice());
         let mut rows = Vec::with_capacity(alloc, configs.len())?;
@@ -216,28 +217,28 @@ impl StationRows {
         Ok(())
     }
 
-    /// A station comes.
+    /// Notes that a station arrives.
     fn come(&mut self, station: usize, moment: u64) {
         if let Some(row) = self.row(station) {
             row.times.come(moment);
         }
     }
 
-    /// A station leaves.
+    /// Notes that a station departs.
     fn leave(&mut self, station: usize, moment: u64) {
         if let Some(row) = self.row(station) {
             row.times.leave(moment);
         }
     }
 
-    /// A station loses a frame.
+    /// Notes that a frame is lost on the way to a station.
     fn lose(&mut self, station: usize) {
         if let Some(row) = self.row(station) {
             add_one(&mut row.counts.lost);
         }
     }
 
-    /// Adds a frame that came into the hearing of a station, heard or lost.
+    /// Adds a frame that was in range of a station, received or lost.
     fn hear(&mut self, world: &World, moment: u64, station: usize, frame: usize) {
         let time = frame_time(world, frame);
         if let Some(row) = self.row(station) {
@@ -245,7 +246,7 @@ impl StationRows {
         }
     }
 
-    /// A frame goes out that a station held.
+    /// Notes that a frame which a station held is sent.
     fn release(&mut self, world: &World, moment: u64, station: usize, frame: usize) {
         let Some(octets) = world.kept_frame(frame) else {
             return;
@@ -256,7 +257,7 @@ impl StationRows {
         }
     }
 
-    /// The row of a station.
+    /// Returns the row of a station.
     fn row(&mut self, station: usize) -> Option<&mut StationRow> {
         self.rows.as_mut_slice().get_mut(station)
     }
@@ -326,7 +327,7 @@ impl NumberRows for StationRows {
     }
 }
 
-/// Writes an id, in quotation marks where it has a comma or such a mark.
+/// Writes an id, in quotation marks if it has a comma or a quotation mark.
 fn write_id<W: Write>(id: &str, out: &mut W) -> io::Result<()> {
     if !id.contains(',') && !id.contains('"') {
         return write!(out, "{id}");

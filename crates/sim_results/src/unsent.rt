@@ -14,7 +14,7 @@ use std::{fmt, io};
 enum WhyUnsent {
     /// The station of its id is absent.
     Absent,
-    /// The run doesn't come to it.
+    /// The run doesn't reach it.
     Late(WhyLate),
     /// The station refuses it.
     Refused(EntryFault),
@@ -39,7 +39,7 @@ pub(crate) struct AreaSend {
 }
 
 impl AreaSend {
-    /// The packet that a call asks for, if it asks for one.
+    /// Returns the packet for an area that a call asks for, if there is one.
     pub(crate) fn of(what: &What) -> Option<AreaSend> {
         let (kind, port) = match what {
             What::Call(OwnCall::SendGeobroadcast(request)) => (Kind::Gbc, request.port),
@@ -49,7 +49,7 @@ impl AreaSend {
         Some(AreaSend { kind, port })
     }
 
-    /// The packet that an action of a scenario sends, if it sends one.
+    /// Returns the packet for an area that an action of a scenario sends, if there is one.
     pub(crate) fn of_action(action: &Action) -> Option<AreaSend> {
         let (kind, port) = match action {
             Action::Happens(what) => return AreaSend::of(what),
@@ -72,7 +72,7 @@ pub(crate) struct UnsentPacket {
 }
 
 impl UnsentPacket {
-    /// The packet of an event that was done and that its station refused so.
+    /// Returns the packet of an event that was done, which its station refused with this fault.
     pub(crate) fn refused(done: &EventRecord<'_>, fault: EntryFault) -> Option<UnsentPacket> {
         Some(UnsentPacket {
             moment: done.moment,
@@ -82,7 +82,7 @@ impl UnsentPacket {
         })
     }
 
-    /// The packet of an event whose station is absent.
+    /// Returns the packet of an event whose station is absent.
     pub(crate) fn absent(event: &AddressedEvent) -> Option<UnsentPacket> {
         Some(UnsentPacket {
             moment: event.moment,
@@ -92,7 +92,7 @@ impl UnsentPacket {
         })
     }
 
-    /// The packet of an event that the run doesn't come to.
+    /// Returns the packet of an event that the run doesn't reach.
     pub(crate) fn late(event: &LateEvent) -> Option<UnsentPacket> {
         Some(UnsentPacket {
             moment: event.moment,
@@ -102,8 +102,8 @@ impl UnsentPacket {
         })
     }
 
-    /// Writes its row without an end of line: the reason follows the kind, and what was counted of
-    /// others is empty.
+    /// Writes its row without the end of the line. The reason follows the kind, and the columns of
+    /// counts are empty.
     pub(crate) fn write<W: Write>(&self, out: &mut W) -> io::Result<()> {
         write!(out, ",{},", self.moment)?;
         if let Some(station) = self.station {

@@ -9,7 +9,7 @@ use sim_simulation::tally::CarriedPacket;
 use std::alloc::Global;
 use std::collections::HashMap;
 
-/// A frame with deliveries still to come, or one that was just given.
+/// A frame with deliveries still to come, or one that was just sent.
 #[derive(Clone, Copy)]
 struct WaitingFrame {
     carried: CarriedPacket,
@@ -22,17 +22,18 @@ struct WaitingFrame {
 #[derive(Drop)]
 pub(crate) struct WaitingFrames {
     frames: HashMap<usize, WaitingFrame>,
-    /// The scenario's own deliveries of frames that aren't given yet, or carry no such packet.
+    /// The scenario's own deliveries of frames that aren't sent yet, or carry no such packet.
     own: HashMap<usize, usize>,
-    /// The frames that the last event gave and delivered: they may have no deliveries to come.
+    /// The frames that the last event sent and delivered. They may have no deliveries to come.
     given: Option<usize>,
     delivered: Option<usize>,
-    /// The frame that was released last: the same holds of it.
+    /// The frame that was released last. It may have no deliveries to come either.
     released: Option<usize>,
 }
 
 impl WaitingFrames {
-    /// Those of a run of a scenario that has not begun.
+    /// Returns the frames of a run that has not begun: only the scenario's own deliveries are
+    /// expected.
     pub(crate) fn new(alloc: Global, scenario: &Scenario) -> Result<WaitingFrames, NoMemory> {
         let mut waiting = WaitingFrames {
             frames: HashMap::new(alloc),
@@ -50,7 +51,7 @@ impl WaitingFrames {
         Ok(waiting)
     }
 
-    /// Takes events of the scenario's own that are still to be done.
+    /// Expects events of the scenario that are still to be done.
     fn expect_events(&mut self, events: &[Event]) -> Result<(), NoMemory> {
         for event in events {
             self.expect(event)?;
@@ -58,7 +59,7 @@ impl WaitingFrames {
         Ok(())
     }
 
-    /// Takes the events of a file that are still to be done.
+    /// Expects the events of a file that are still to be done.
     fn expect_file(&mut self, file: &[FileEvent]) -> Result<(), NoMemory> {
         for filed in file {
             if let Some(event) = filed.event() {
@@ -68,7 +69,7 @@ impl WaitingFrames {
         Ok(())
     }
 
-    /// Takes an event of the scenario's own that is still to be done.
+    /// Expects an event of the scenario that is still to be done.
     fn expect(&mut self, event: &Event) -> Result<(), NoMemory> {
         if let What::Deliver(frame) = &event.what {
             let before = self.own.get(frame).copied().unwrap_or(0);
@@ -77,8 +78,8 @@ impl WaitingFrames {
         Ok(())
     }
 
-    /// What the frame of this number carries, where that is a packet for an area and the frame has
-    /// deliveries to come or was just given.
+    /// Returns what the frame with this number carries, if that is a packet for an area and the
+    /// frame has deliveries to come or was just sent.
     pub(crate) fn get(&self, frame: usize) -> Option<CarriedPacket> {
         match self.frames.get(&frame) {
             Some(frame) => Some(frame.carried),
@@ -86,8 +87,8 @@ impl WaitingFrames {
         }
     }
 
-    /// Takes an event that was done, with what the frame carries that it gave, if that is a packet for
-    /// an area.
+    /// Takes an event that was done, with what the frame that it sent carries, if that is a packet
+    /// for an area.
     pub(crate) fn take(
         &mut self,
         done: &EventRecord<'_>,
@@ -105,7 +106,7 @@ impl WaitingFrames {
         Ok(())
     }
 
-    /// Takes a frame that was given, with what it carries. Returns how many of the scenario's own
+    /// Takes a frame that was sent, with what it carries. Returns how many of the scenario's own
     /// deliveries of it are still to come.
     pub(crate) fn note_given(
         &mut self,
@@ -119,19 +120,21 @@ impl WaitingFrames {
         Ok(waiting)
     }
 
-    /// One more delivery of a frame is to come.
+    /// Notes that one more delivery of a frame is to come.
     pub(crate) fn wait(&mut self, frame: usize) {
         if let Some(found) = self.frames.get_mut(&frame) {
             found.waiting = found.waiting.saturating_add(1);
         }
     }
 
-    /// A station holds a frame that was just given. It waits as one with a delivery to come.
+    /// Notes that a station holds a frame that was just sent. It waits like a frame with a delivery
+    /// to come.
     pub(crate) fn hold(&mut self, frame: usize) {
         self.wait(frame);
     }
 
-    /// A frame that a station held goes out, and may have deliveries to come. Returns what it carries.
+    /// Notes that a frame which a station held is sent. It may have deliveries to come. Returns
+    /// what it carries.
     pub(crate) fn release(&mut self, frame: usize) -> Option<CarriedPacket> {
         if let Some(before) = self.released.take() {
             self.forget(before);
@@ -142,7 +145,7 @@ impl WaitingFrames {
         Some(found.carried)
     }
 
-    /// A frame that a station held goes to nobody. Returns what it carries.
+    /// Notes that a frame which a station held is not sent. Returns what it carries.
     pub(crate) fn let_go(&mut self, frame: usize) -> Option<CarriedPacket> {
         let found = self.frames.get_mut(&frame)?;
         found.waiting = found.waiting.saturating_sub(1);
@@ -151,7 +154,7 @@ impl WaitingFrames {
         Some(carried)
     }
 
-    /// Takes the delivery of a frame. Returns what the frame carries.
+    /// Notes the delivery of a frame. Returns what it carries.
     pub(crate) fn deliver(&mut self, frame: usize) -> Option<CarriedPacket> {
         let Some(found) = self.frames.get_mut(&frame) else {
             self.skip(frame);
@@ -162,7 +165,8 @@ impl WaitingFrames {
         Some(found.carried)
     }
 
-    /// A delivery of the scenario's own comes too early, or of a frame that carries no such packet.
+    /// Notes that a delivery of the scenario comes too early, or that its frame carries no such
+    /// packet.
     fn skip(&mut self, frame: usize) {
         if let Some(waiting) = self.own.get_mut(&frame) {
             *waiting = waiting.saturating_sub(1);

@@ -4,12 +4,7 @@ use Rattle.std.specs.Prelude.{◌≡◌, ◌++◌, ◌∷◌, ℕ, List, map, op
 use Rattle.std.specs.Option.{option_map}
 use Rattle.cmd_reporting.specs.NamedFiles.{AreApart}
 use Rattle.cmd_reporting.specs.declared.named_file.NamedFile.{NamedFile}
-use Rattle.cmd_reporting.specs.declared.fault.WriterFault.{WriterFault}
-use Rattle.cmd_reporting.specs.declared.status.Status.TheVariants.{BadArguments}
-use Rattle.cmd_reporting.specs.Statuses.{IsCommandStatus, writer_fault_status}
-use Rattle.sim_runs.specs.declared.fault.RunFault.{RunFault}
 use Rattle.sim_runs.specs.declared.files.RunFiles.{RunFiles}
-use Rattle.sim_runs.specs.Runs.{run_fault_status}
 
 abbrev pub names_of : List NamedFile → List (Bor (List ℕ))
 names_of files = map (λ file. file.name) files
@@ -25,14 +20,6 @@ names_written files =
 -- what is read: the scenario, and the moves
 abbrev pub names_read : RunFiles → List (Bor (List ℕ))
 names_read files = files.scenario ∷ option_to_list files.moves
-
--- the fault that would end the command if it wrote no file
-abbrev pub IsStopped : WriterFault RunFault → Type 0
-IsStopped fault = IsCommandStatus (writer_fault_status run_fault_status fault)
-
--- a file is not written, since the arguments are refused
-abbrev pub IsOutputFault : WriterFault RunFault → Type 0
-IsOutputFault fault = writer_fault_status run_fault_status fault ≡ BadArguments
 
 -- No file that is written is one that is read, or another one that is written.
 pub record AreAllApart (files : RunFiles) : Type 0 where

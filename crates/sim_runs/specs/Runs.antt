@@ -6,7 +6,6 @@ use Rattle.its_world.specs.State.{WorldState}
 use Rattle.sim_scenario.specs.declared.scenario.Scenario.{Scenario}
 use Rattle.sim_air.specs.declared.fault.AirFault.{AirFault}
 use Rattle.sim_air.specs.Scenarios.{IsRunOf}
-use Rattle.cmd_reporting.specs.Statuses.{IsCommandStatus}
 use Rattle.cmd_reporting.specs.declared.status.Status.{Status}
 use Rattle.cmd_reporting.specs.declared.status.Status.TheVariants.{Done, Refused, Failed}
 use Rattle.sim_runs.specs.declared.fault.RunFault.{RunFault}
@@ -23,10 +22,9 @@ abbrev pub IsRunStatus : Bool → Scenario → Status → Type 0
 IsRunStatus strict scenario status =
     (world : WorldState) × IsRunOf scenario world (λ events log. status ≡ run_status strict log)
 
--- How a scenario is run and how the run ends: as a command does, and strict as its own entries say.
+-- How a scenario is run and how the run ends: strict as its own entries say.
 abbrev pub EndsRun : Bool → Scenario → Result Status AirFault → Type 0
-EndsRun strict scenario ended =
-    IfOk ended IsCommandStatus × IfOk ended (IsRunStatus strict scenario)
+EndsRun strict scenario ended = IfOk ended (IsRunStatus strict scenario)
 
 -- The scenario was run, and its run is done: of one that is strict no entry is a refusal.
 abbrev pub IsDoneRun : Bool → Scenario → Type 0

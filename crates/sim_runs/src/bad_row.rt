@@ -9,7 +9,7 @@ use std::fmt;
 use std::io::Write;
 use thiserror::Error;
 
-/// A line of a file of moves that is refused. Its text is the line on standard error.
+/// A line of a file of moves that is refused. It prints as its line on standard error.
 #[derive(Clone, Copy, Debug, PartialEq, Eq, Error)]
 #[error("geostation: moves: line {line}: {word}")]
 pub struct BadRow<'a> {
@@ -37,6 +37,8 @@ impl fmt::Display for RowReason<'_> {
 }
 
 impl CommandFault for BadRow<'_> {
+    type Ending = Status;
+
     ghost use Rattle.cmd_reporting.specs.declared.status.Status.TheVariants.{Refused};
 
     ghost status_of = { λ _. Refused };
@@ -45,7 +47,7 @@ impl CommandFault for BadRow<'_> {
         Status::Refused
     }
 
-    /// It goes on with the name of its file and a sentence.
+    /// Adds the name of its file and a sentence.
     fn report<E: Write>(&self, format: OutputFormat, err: &mut E) {
         let reason = format
             .explain

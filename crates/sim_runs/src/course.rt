@@ -1,4 +1,4 @@
-//! What is run and how: a scenario, its options and, where they are given, the moves of a file.
+//! What is run and how: a scenario, its options and, if given, the moves of a file.
 
 use crate::fault::{RunFault, fault_of_moves};
 use crate::options::RunOptions;
@@ -19,8 +19,8 @@ pub(crate) struct MovesFile<'a, M: BufRead + Drop> {
 }
 
 impl<'a, M: BufRead + Drop> MovesFile<'a, M> {
-    /// Reads the first line of the file of this name, whose rows are read so. The fault is that
-    /// of that line, or that it can't be read or memory ran out.
+    /// Reads the first line of the file with this name, whose rows are read as `moves` says.
+    /// Returns the fault of that line, or that it can't be read or memory ran out.
     pub(crate) fn open(
         alloc: Global,
         name: &'a str,
@@ -33,7 +33,8 @@ impl<'a, M: BufRead + Drop> MovesFile<'a, M> {
         }
     }
 
-    /// The field of the line that was read last that a word refuses, if it does and it is UTF-8.
+    /// Returns the field of the last line that is refused with this keyword, if there is one and it
+    /// is UTF-8.
     pub(crate) fn refused(&self, word: Word) -> Option<&str> {
         str::from_utf8(self.rows.refused(word)?).ok()
     }
@@ -43,15 +44,15 @@ impl<'a, M: BufRead + Drop> MovesFile<'a, M> {
 #[derive(Drop)]
 pub(crate) struct Course<'s, 'a, M: BufRead + Drop> {
     pub(crate) scenario: &'s Scenario,
-    /// How it is run.
+    /// The options of the run.
     pub(crate) options: &'s RunOptions,
     /// The file of moves, if the scenario is run with one.
     pub(crate) moves: Option<MovesFile<'a, M>>,
 }
 
 impl<'s, 'a, M: BufRead + Drop> Course<'s, 'a, M> {
-    /// The last moment that is run, if it is known before the run. With moves it is the one that
-    /// the scenario gives.
+    /// Returns the last time of the run, if it is known before the run. With moves it is the one
+    /// that the scenario gives.
     pub(crate) fn end(&self) -> Option<u64> {
         match &self.scenario.timeline {
             Timeline::Plain(timeline) => Some(last_moment(timeline.events.as_slice())),
@@ -61,7 +62,7 @@ impl<'s, 'a, M: BufRead + Drop> Course<'s, 'a, M> {
     }
 }
 
-/// The moment of the last of these, 0 where there is none.
+/// Returns the time of the last of these events. 0 if there are no events.
 fn last_moment(events: &[Event]) -> u64 {
     match events.last() {
         Some(event) => event.moment,

@@ -1,4 +1,4 @@
-//! What keeps a scenario from being run, or ends its run.
+//! Why a scenario is not run, or why its run ends.
 
 ghost use Rattle.std.specs.Prelude.{◌≡◌};
 
@@ -8,15 +8,15 @@ use cmd_reporting::{CommandFault, Fault, OutputFormat, Status, WriterFault};
 use its_words::frames::Explanation;
 use sim_air::AirFault;
 use sim_moves::MovesFault;
-use sim_scenario::ScenarioFault;
+use sim_scenario::{DocumentFault, ScenarioFault};
 use std::alloc::AllocError;
 use std::io::Write;
 use thiserror::Error;
 
-/// Why a scenario was not run. Its text is the line on standard error.
+/// Why a scenario was not run. It prints as its line on standard error.
 #[derive(Debug, Drop, Error)]
 pub enum RunFault<'a> {
-    /// The text of the file of this name is no scenario.
+    /// The text of the file with this name is not a scenario.
     #[error("geostation: {1}")]
     Scenario(&'a str, ScenarioFault),
     /// A line of the file of moves is bad.
@@ -25,17 +25,19 @@ pub enum RunFault<'a> {
     /// The scenario was read for the moves of a file, and is run without one.
     #[error("geostation: the scenario was read for a file of moves, and none is given")]
     NoMoves,
-    /// What ends any command.
+    /// A fault that can end any command.
     #[error("{0}")]
     Stopped(Fault<'a>),
 }
 
 impl CommandFault for RunFault<'_> {
+    type Ending = Status;
+
     ghost use Rattle.sim_runs.specs.Runs.{run_fault_status};
 
     ghost status_of = { run_fault_status };
 
-    /// `Refused` for a scenario and a line of moves, else `Failed`.
+    /// Returns `Refused` for a fault of a scenario or of a line of moves, and otherwise `Failed`.
     fn status(&self) -> Status {
         match self {
             RunFault::Scenario(..) => Status::Refused,
@@ -45,8 +47,8 @@ impl CommandFault for RunFault<'_> {
         }
     }
 
-    /// The line of a text that is no scenario, and of a bad line of moves, goes on with the name of
-    /// its file and a sentence, that of a file with the system's reason.
+    /// For a text that is not a scenario and for a bad line of moves, the line has the name of the
+    /// file and a sentence. For a fault of a file it has the system's reason.
     fn report<E: Write>(&self, format: OutputFormat, err: &mut E) {
         match self {
             RunFault::Scenario(file, fault) => {
@@ -62,10 +64,12 @@ impl CommandFault for RunFault<'_> {
     }
 }
 
-/// What keeps the scenario of the file of this name from being run.
+/// Returns the fault of the scenario in the file with this name.
 pub(crate) fn fault_of_scenario(fault: ScenarioFault, file: &str) -> RunFault<'_> {
     match fault {
-        ScenarioFault::OutOfMemory => RunFault::Stopped(Fault::OutOfMemory(AllocError)),
+        ScenarioFault::Document(DocumentFault::OutOfMemory) => {
+            RunFault::Stopped(Fault::OutOfMemory(AllocError))
+        }
         _ => RunFault::Scenario(file, fault),
     }
 }
@@ -86,7 +90,7 @@ impl<'a> From<RunFault<'a>> for WriterFault<'a, RunFault<'a>> {
     }
 }
 
-/// What ends the command where the rows of the file of this name can't be read on.
+/// Returns the fault of a command that can't read more rows of the file with this name.
 pub(crate) fn fault_of_moves<'a>(fault: MovesFault, file: &'a str) -> RunFault<'a> {
     match fault {
         MovesFault::Line(line, word) => RunFault::Row(BadRow {
@@ -100,8 +104,8 @@ pub(crate) fn fault_of_moves<'a>(fault: MovesFault, file: &'a str) -> RunFault<'
     }
 }
 
-/// What ends the command where the run of an air was ended by this. `moves` is the name of the file
-/// of moves, where there is one.
+/// Returns the fault of a command whose run with a radio model ended with this fault. `moves` is
+/// the name of the file of moves, if there is one.
 pub(crate) fn fault_of_air<'a>(fault: AirFault, moves: Option<&'a str>) -> RunFault<'a> {
     match fault {
         AirFault::OutOfMemory(error) => RunFault::Stopped(Fault::OutOfMemory(error)),
@@ -113,8 +117,8 @@ pub(crate) fn fault_of_air<'a>(fault: AirFault, moves: Option<&'a str>) -> RunFa
     }
 }
 
-/// Whether a run was ended by its file of moves, of which a line is bad or a read failed: what was
-/// run till then is reported.
+/// Whether the file of moves ended the run, by a bad line or a failed read. What was run before is
+/// then reported.
 pub(crate) fn is_cut_short(fault: &AirFault) -> bool {
     matches!(
         fault,

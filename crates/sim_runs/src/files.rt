@@ -1,11 +1,11 @@
-//! The command `sim` over named files. A file that is read is standard input where its name is `-`.
+//! The command `sim` over named files. A file that is read is standard input if its name is `-`.
 
-ghost use Rattle.std.specs.Prelude.{◌≡◌, ◌≤◌, ◌++◌, IfErr, IfOk, IsErrAnd, OnOk};
+ghost use Rattle.std.specs.Prelude.{◌≡◌, ◌≢◌, ◌≤◌, ◌++◌, IfErr, IfOk, IsErrAnd, OnOk};
 ghost use Rattle.std.specs.Prelude.{IfSome, None, vec_len, option_to_list};
 ghost use Rattle.cmd_reporting.specs.FileNames.{format_of_file};
-ghost use Rattle.cmd_reporting.specs.Statuses.{IsCommandStatus};
 ghost use Rattle.sim_results.specs.Results.{IsNoFile};
-ghost use Rattle.sim_runs.specs.Files.{AreAllApart, IsOutputFault, IsStopped};
+ghost use Rattle.cmd_reporting.specs.Statuses.{IsOutputFault, IsStopped};
+ghost use Rattle.sim_runs.specs.Files.{AreAllApart};
 ghost use Rattle.sim_runs.specs.Files.{names_of, names_read, names_written};
 
 use crate::course::{Course, MovesFile};
@@ -15,8 +15,8 @@ use crate::options::RunOptions;
 use crate::outputs::{Outputs, create_outputs};
 use crate::simulating::{read_scenario, run_into};
 use cmd_reporting::{
-    Fault, Io, NamedFile, Opened, ProgressWriter, Status, Target, WriterFault, frame_target, open,
-    refuse_same,
+    ExitStatus, Fault, Io, NamedFile, Opened, ProgressWriter, Status, Target, WriterFault,
+    frame_target, open, refuse_same,
 };
 use sim_results::ResultFiles;
 use sim_scenario::{MOST_STATIONS, Reading, Scenario, Timeline};
@@ -29,46 +29,50 @@ use std::rt::Files;
 pub struct RunFiles<'a> {
     /// The scenario.
     pub scenario: &'a str,
-    /// The moves by which its stations are made and go, where there are any. They are another file
-    /// than the scenario's, and one of the two at most is standard input.
+    /// The moves that make and move its stations, if there are any. They are in another file than
+    /// the scenario, and at most one of the two is standard input.
     pub moves: Option<&'a str>,
-    /// The frames that stations give, where they are written.
+    /// The frames that stations send, if they are written.
     pub frames: Option<Target<'a>>,
-    /// The numbers of the run, where they are written.
+    /// The results of the run, if they are written.
     pub results: ResultFiles<'a>,
 }
 
 impl RunFiles<'_> {
-    /// How the scenario is read.
+    /// Returns how the scenario is read.
     fn reading(&self, options: &RunOptions) -> Reading {
         options.reading(!self.results.is_empty(), self.moves.is_some())
     }
 }
 
-/// Runs the scenario in the file and prints a line for each event. `input` is standard input. With
-/// `moves` it is run with the rows of that file, whose first line is read once the scenario is, and
-/// the others as the run comes to them. With `frames` each frame that a station gives is also
-/// written to that file, and with `results` its numbers to those; all are created once the scenario
-/// and the first line of the moves are read.
+/// Runs the scenario in the file and prints one line per event. `input` is standard input. With
+/// `moves` it is run with the rows of that file. Their first line is read after the scenario, and
+/// the others during the run. With `frames` each frame that a station sends is also written to that
+/// file, and with `results` the results to those files. All are created after the scenario and the
+/// first line of the moves were read.
 ///
-/// `BadArguments`, before anything is opened, where nothing says the format of the file of frames
-/// or its name is `-`, and before a file is created where one is a file that is read or another
-/// one. `Refused` for a text that is no scenario, for a bad line of moves, where a frame has no
-/// place in its file, and, with `strict`, where an event was refused; `Failed` where a file could
-/// not be read, created or written or standard output not written, or memory ran out.
+/// Its status can be:
+///
+/// - `BadArguments` before anything is opened, if nothing says the format of the file of frames or
+///   its name is `-`; and before a file is created, if a file to write is one that is read, or
+///   another one to write.
+/// - `Refused` for a text that is not a scenario, for a bad line of moves, if a frame doesn't fit
+///   its file and, with `strict`, if an event was refused.
+/// - `Failed` if a file could not be read, created or written, standard output could not be
+///   written, or memory ran out.
 pub fn simulate_file<R: Files + AllocGlobal, I: Read + Drop, W: Write, E: ProgressWriter>(
     rt: &R,
     files: &RunFiles<'_>,
     input: I,
     options: &RunOptions,
     io: &mut Io<W, E>,
-) -> Status
+) -> ExitStatus
 where
     R::File: Read + Write + Drop,
     ensures alone { files.now.frames ≡ None → IsNoFile files.now.results →
-        IsCommandStatus result }
+        result ≢ ExitStatus.BadArguments }
     ensures format { IfSome files.now.frames (λ target.
-        format_of_file target.to target.name.now ≡ None → result ≡ Status.BadArguments) }
+        format_of_file target.to target.name.now ≡ None → result ≡ ExitStatus.BadArguments) }
 {
     let ended = simulate_named(rt, files, input, options, io);
     io.status_of(ended)
@@ -85,7 +89,6 @@ fn simulate_named<'a, R: Files + AllocGlobal, I: Read + Drop, W: Write, E: Progr
 ) -> Result<Status, WriterFault<'a, RunFault<'a>>>
 where
     R::File: Read + Write + Drop,
-    ensures status { IfOk result IsCommandStatus }
     ensures alone { files.now.frames ≡ None → IsNoFile files.now.results →
         IfErr result IsStopped }
     ensures format { IfSome files.now.frames (λ target.
@@ -103,7 +106,7 @@ where
     Ok(run_into(rt.alloc(), &mut course, outputs, io)?)
 }
 
-/// What is read before a run: a scenario, and the first line of its moves.
+/// The inputs that are read before a run: a scenario, and the first line of its moves.
 #[derive(Drop)]
 pub struct RunInputs<'a, M: BufRead + Drop> {
     scenario: Scenario,
@@ -114,7 +117,7 @@ pub struct RunInputs<'a, M: BufRead + Drop> {
 
 impl<'a, M: BufRead + Drop> RunInputs<'a, M> {
     /// Runs the scenario with its moves, prints its lines and writes no file. The status is
-    /// `Refused` if the scenario expects something that isn't met.
+    /// `Refused` if an expectation isn't met.
     ///
     /// `NoOutput` if a write failed, `CannotRead` or `NotRead` if a read of the moves failed,
     /// `OutOfMemory` if an allocation failed.
@@ -123,9 +126,7 @@ impl<'a, M: BufRead + Drop> RunInputs<'a, M> {
         alloc: Global,
         options: &RunOptions,
         io: &mut Io<W, E>,
-    ) -> Result<Status, Fault<'a>>
-        ensures { IfOk result IsCommandStatus }
-    {
+    ) -> Result<Status, Fault<'a>> {
         let RunInputs { scenario, moves } = self;
         let mut course = Course {
             scenario: &scenario,
@@ -140,8 +141,8 @@ impl<'a, M: BufRead + Drop> RunInputs<'a, M> {
 pub type RunReader<F, I> = BufReader<Opened<F, Input<I>>>;
 
 /// Reads the scenario of these files, and the first line of the moves, if there are any. `input` is
-/// standard input. The fault is that the text is no scenario, that the line is bad, that a file
-/// can't be read, or that memory ran out.
+/// standard input. Returns that the text is not a scenario, that the line is bad, that a file can't
+/// be read, or that memory ran out.
 pub fn read_inputs<'a, R: Files + AllocGlobal, I: Read + Drop>(
     rt: &R,
     files: &RunFiles<'a>,

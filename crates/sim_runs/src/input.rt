@@ -1,10 +1,10 @@
-//! Standard input, which is one of the files that a command reads at most.
+//! Standard input, which is at most one of the files that a command reads.
 
 use cmd_reporting::is_standard;
 use std::io;
 use std::io::Read;
 
-/// What is read for a file whose name is that of standard input.
+/// The reader for a file whose name is that of standard input.
 #[derive(Drop)]
 pub enum Input<I> {
     /// Standard input.
@@ -14,8 +14,8 @@ pub enum Input<I> {
 }
 
 impl<I: Drop> Input<I> {
-    /// What the scenario reads where its name is that of standard input, and what the moves of this
-    /// name do, where there are any.
+    /// Returns the readers of the scenario and of the moves with this name, if there are any. One
+    /// of them is standard input.
     pub(crate) fn split(input: I, moves: Option<&str>) -> (Input<I>, Input<I>) {
         match moves {
             Some(name) if is_standard(name) => (Input::Nothing, Input::Standard(input)),

@@ -1,17 +1,17 @@
-//! The command `sim`: a scenario is run, its lines are printed, and its frames go to a file.
+//! The command `sim`: runs a scenario, prints its lines, and writes its frames to a file.
 //!
 //! # What is proved
 //!
-//! - A strict run ends with `Refused` if and only if an entry of that very run is a refusal,
-//!   without moves and with them (`IsRunStatus`; `run`, `ends`: `EndsRun`). What is found out about
-//!   a run, and its file of frames, end with `Done` only if that status is `Done` (`Report::end`,
+//! - A strict run ends with `Refused` if and only if one of its entries is a refusal, without moves
+//!   and with them (`IsRunStatus`; `run`, `ends`: `EndsRun`). After the reports on a run and its
+//!   file of frames, the status is `Done` only if it was `Done` before (`Report::end`,
 //!   `RunSinks::end`, `run_into`: `done`).
 //! - No file that a run writes is one that it reads, or another one that it writes
 //!   (`keep_all_apart`: `AreAllApart`).
 //!
 //! # Only tested
 //!
-//! - `cases/arguments.md`: that the command over files ends so too.
+//! - `cases/arguments.md`: that the command over files ends with the same status.
 //! - `checks/failures`: failed reads and allocations, full files.
 //! - `checks/terminal`: progress.
 //! - `cases/frames.md`, `cases/moving.md`: the names of interfaces, that `sim` passes each frame to

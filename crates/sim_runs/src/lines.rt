@@ -13,7 +13,7 @@ use sim_simulation::{
 use std::alloc::Global;
 use std::io::{BufRead, Write};
 
-/// What prints a run on standard output.
+/// Prints a run on standard output.
 pub(crate) trait RunLines {
     /// Prints what comes before the lines of events.
     fn begin<M: BufRead + Drop>(
@@ -23,7 +23,7 @@ pub(crate) trait RunLines {
         Ok(())
     }
 
-    /// Prints what comes after the run, with what is reported of the packets. A run that was cut
+    /// Prints what comes after the run, with what is reported about the packets. A run that was cut
     /// short (`is_whole` is false) has no totals.
     fn end(
         &mut self,
@@ -79,7 +79,7 @@ fn who_contends(scenario: &Scenario) -> Option<WhoContends<'_>> {
 #[derive(Drop)]
 pub(crate) struct Summary<'o, W> {
     pub(crate) tally: Tally,
-    /// What was held, in a run in which any station contends.
+    /// The counts of held frames, in a run in which any station contends.
     pub(crate) held: Option<HeldTally>,
     pub(crate) out: &'o mut W,
 }

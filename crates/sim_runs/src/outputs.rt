@@ -1,4 +1,4 @@
-//! The files that are written of a run.
+//! The files that a run writes.
 
 use cmd_reporting::{Fault, FrameFile, FrameTarget, create, create_frames};
 use sim_results::{ResultFiles, ResultWriters, Results};
@@ -7,17 +7,17 @@ use std::io;
 use std::io::{BufWriter, Write};
 use std::rt::Files;
 
-/// The files that are being written of a run.
+/// The files that a run is writing.
 #[derive(Drop)]
 pub(crate) struct Outputs<'a, W: Write + Drop> {
-    /// The file of the frames that stations give, where there is one.
+    /// The file of the frames that stations send, if there is one.
     pub(crate) frames: Option<FrameFile<'a, W>>,
-    /// The files of numbers.
+    /// The result files.
     pub(crate) results: Results<'a, W>,
 }
 
 impl<'a> Outputs<'a, io::Sink> {
-    /// No file is written.
+    /// Returns the outputs of a run that writes no file.
     pub(crate) fn none() -> Outputs<'a, io::Sink> {
         Outputs {
             frames: None,
@@ -26,8 +26,8 @@ impl<'a> Outputs<'a, io::Sink> {
     }
 }
 
-/// Creates the files, and begins them, of a run of the scenario. The fault is that one could not be
-/// created or written, or that memory ran out.
+/// Creates and begins the files of a run of the scenario. Returns that a file could not be created
+/// or written, or that memory ran out.
 pub(crate) fn create_outputs<'a, R: Files + AllocGlobal>(
     rt: &R,
     scenario: &Scenario,
@@ -43,7 +43,7 @@ where
     })
 }
 
-/// Creates the file of this name, where there is one.
+/// Creates the file with this name, if there is one.
 fn create_named<'a, R: Files + AllocGlobal>(
     rt: &R,
     name: Option<&'a str>,
@@ -57,7 +57,7 @@ where
     }
 }
 
-/// Creates the files of numbers, and begins them.
+/// Creates and begins the result files.
 fn create_results<'a, R: Files + AllocGlobal>(
     rt: &R,
     scenario: &Scenario,

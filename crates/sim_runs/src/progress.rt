@@ -1,4 +1,4 @@
-//! How far a run is.
+//! The progress of a run.
 
 use crate::course::Course;
 use cmd_reporting::{ProgressWriter, RunProgress};
@@ -6,22 +6,22 @@ use its_world::What;
 use sim_simulation::EventRecord;
 use std::io::BufRead;
 
-/// How many events are done from one time that progress is shown to the next.
+/// How many events are done between two updates of the progress.
 const EVENTS: usize = 65536;
 
-/// What is counted of a run, to show how far it is on standard error.
+/// The counts of a run that are shown as its progress on standard error.
 #[derive(Clone, Copy)]
 pub(crate) struct Progress {
-    /// Whether it is shown.
+    /// Whether the progress is shown.
     is_shown: bool,
-    /// The moment at which the run ends, if that is known.
+    /// The time at which the run ends, if that is known.
     end: Option<u64>,
     /// How many of the events so far were deliveries.
     deliveries: u64,
 }
 
 impl Progress {
-    /// Before the first event of a run. It is shown if someone looks.
+    /// Returns the progress before the first event of a run. It is shown on a terminal.
     pub(crate) fn of<M: BufRead + Drop>(course: &Course<'_, '_, M>) -> Progress {
         Progress {
             is_shown: course.options.progress,
@@ -30,8 +30,8 @@ impl Progress {
         }
     }
 
-    /// Counts an event that was done. Shows how far the run is after the first event, and then after
-    /// each 65536.
+    /// Counts an event that was done. Shows the progress after the first event, and then after
+    /// every 65536 events.
     #[inline(always)]
     pub(crate) fn note<E: ProgressWriter>(&mut self, done: &EventRecord<'_>, err: &mut E) {
         if !self.is_shown {

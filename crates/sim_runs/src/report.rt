@@ -1,7 +1,6 @@
 //! What is reported on standard error about a run.
 
-ghost use Rattle.std.specs.Prelude.{◌≡◌, ◌≢◌, IfOk, Ok};
-ghost use Rattle.cmd_reporting.specs.Statuses.{IsCommandStatus};
+ghost use Rattle.std.specs.Prelude.{◌≡◌, ◌≢◌, Ok};
 
 use crate::asked::Asked;
 use crate::bad_row::BadRow;
@@ -19,8 +18,8 @@ use sim_simulation::{EventRecord, Note, SimulationFault};
 use std::alloc::Global;
 use std::io::{BufRead, Write};
 
-/// What is found out about a run and reported at its end: full location tables, events that were
-/// not run, what is doubtful, and expectations that are not met. A summary has a part of it too.
+/// What is reported at the end of a run: full location tables, events that were not run, doubts,
+/// and expectations that are not met. A summary has a part of it too.
 #[derive(Drop)]
 pub(crate) struct Report<'s> {
     alloc: Global,
@@ -36,8 +35,8 @@ pub(crate) struct Report<'s> {
 }
 
 impl<'s> Report<'s> {
-    /// That of a run that has not begun. `explain` says whether codes are explained. `NoMemory` if
-    /// an allocation failed.
+    /// Returns the report of a run that has not begun. `explain` says whether codes are explained.
+    /// `NoMemory` if an allocation failed.
     pub(crate) fn new<M: BufRead + Drop>(
         alloc: Global,
         course: &Course<'s, '_, M>,
@@ -57,15 +56,15 @@ impl<'s> Report<'s> {
         })
     }
 
-    /// Whether it uses `Note::Heard`.
+    /// Whether it needs `Note::Heard`.
     #[inline(always)]
     pub(crate) fn wants_heard_notes(&self) -> bool {
         self.audiences.are_wanted() || self.doubts.wants_heard_notes()
     }
 
     /// Returns the stations that a packet is for and didn't reach, each with how far it came there,
-    /// if they are known. The packet is that of this place among those that were sent. `NoMemory`
-    /// if an allocation failed.
+    /// if they are known. `send` is the packet's number among those that were sent. `NoMemory` if
+    /// an allocation failed.
     pub(crate) fn missed(&self, send: usize) -> Result<Option<Vec<(usize, Reach)>>, NoMemory> {
         let Some(audience) = self.audiences.get(send) else {
             return Ok(None);
@@ -144,9 +143,9 @@ impl<'s> Report<'s> {
         self.scenario
     }
 
-    /// Reports on a run that ended so. `moves` is its file of moves, if there is one. Returns
-    /// `Refused` if a line of moves ended the run, and of a run that is done if something that is
-    /// expected isn't met or, with `strict`, if an event wasn't run or something is doubtful.
+    /// Reports on a run that ended as `ran` says. `moves` is its file of moves, if there is one.
+    /// Returns `Refused` if a line of moves ended the run. For a run that is done, also if an
+    /// expectation isn't met and, with `strict`, if an event wasn't run or something is doubtful.
     pub(crate) fn end<'a, E: Write, M: BufRead + Drop>(
         &mut self,
         ran: Result<Status, AirFault>,
@@ -154,8 +153,6 @@ impl<'s> Report<'s> {
         format: OutputFormat,
         err: &mut E,
     ) -> Result<Status, Fault<'a>>
-        requires { IfOk ran IsCommandStatus }
-        ensures status { IfOk result IsCommandStatus }
         ensures done { result ≡ Ok Status.Done → ran ≡ Ok Status.Done }
     {
         let cut = self.cut(&ran);
@@ -173,8 +170,6 @@ impl<'s> Report<'s> {
         explain: bool,
         err: &mut E,
     ) -> Result<Status, NoMemory>
-        requires { IsCommandStatus status }
-        ensures status { IfOk result IsCommandStatus }
         ensures done { result ≡ Ok Status.Done → status ≡ Status.Done }
     {
         self.failed.end(self.scenario, None)?;
@@ -191,9 +186,9 @@ impl<'s> Report<'s> {
         }
     }
 
-    /// Reports on a run that this fault ended: if its file of moves did, full location tables,
-    /// events that weren't run, and which line is bad. This comes before the files are ended, which
-    /// may fail as well.
+    /// Reports on a run that this fault ended. If its file of moves did, reports full location
+    /// tables, events that weren't run, and which line is bad. This comes before the files are
+    /// ended, which may fail as well.
     fn report_fault<'a, E: Write, M: BufRead + Drop>(
         &mut self,
         fault: AirFault,
@@ -202,7 +197,6 @@ impl<'s> Report<'s> {
         format: OutputFormat,
         err: &mut E,
     ) -> Result<Status, Fault<'a>>
-        ensures status { IfOk result IsCommandStatus }
         ensures done { result ≢ Ok Status.Done }
     {
         if cut.is_some() {
@@ -222,7 +216,8 @@ impl<'s> Report<'s> {
         Ok(fault.status())
     }
 
-    /// Reports that location tables were full, in an air: the numbers of the run are wrong then.
+    /// Reports that location tables were full, in a radio model, since the numbers of the run are
+    /// then wrong.
     fn report_full<E: Write>(&self, err: &mut E) {
         if self.scenario.timeline.air().is_some() {
             self.full.report(err);

@@ -1,7 +1,6 @@
 //! The command `sim`.
 
 ghost use Rattle.std.specs.Prelude.{◌≡◌, ◌≤◌, [], IfOk, Ok, vec_len};
-ghost use Rattle.cmd_reporting.specs.Statuses.{IsCommandStatus};
 ghost use Rattle.sim_air.specs.Scenarios.{IsRunOf};
 ghost use Rattle.sim_runs.specs.Runs.{IsDoneRun};
 ghost use Rattle.sim_scenario.specs.Scenarios.{IsPlain};
@@ -36,9 +35,7 @@ pub fn simulate<R: Read + Drop, W: Write, E: ProgressWriter>(
     reader: R,
     options: &RunOptions,
     io: &mut Io<W, E>,
-) -> Status
-    ensures { IsCommandStatus result }
-{
+) -> Status {
     let ended = simulate_text(alloc, file, reader, options, io);
     io.status_of(ended)
 }
@@ -50,22 +47,20 @@ fn simulate_text<'a, R: Read + Drop, W: Write, E: ProgressWriter>(
     reader: R,
     options: &RunOptions,
     io: &mut Io<W, E>,
-) -> Result<Status, RunFault<'a>>
-    ensures { IfOk result IsCommandStatus }
-{
+) -> Result<Status, RunFault<'a>> {
     let reading = options.reading(false, false);
     let scenario = read_scenario(alloc, file, reader, MOST_STATIONS, &reading)?;
     Ok(simulate_scenario(alloc, &scenario, options, io)?)
 }
 
 /// Runs a scenario that was read, of at most 65535 stations, and prints its lines as `simulate`
-/// does. Returns `Refused` if something that it expects isn't met. With `strict`, also if an event
-/// was refused. Returns `Failed` with a sentence on standard error if the scenario was read for a
-/// file of moves: none is given here.
+/// does. Returns `Refused` if an expectation isn't met. With `strict`, also if an event was
+/// refused. Returns `Failed` with a sentence on standard error if the scenario was read for a file
+/// of moves, since it is run without one here.
 ///
-/// `NoOutput` where a write failed, `OutOfMemory` where an allocation did.
+/// `NoOutput` if a write failed, `OutOfMemory` if an allocation did.
 ///
-/// - `done` (`IsDoneRun`): `Done` only if the run of that very scenario is done: of a strict one no
+/// - `done` (`IsDoneRun`): `Done` only if the run of this scenario is done. In a strict run no
 ///   entry is a refusal.
 pub fn simulate_scenario<'f, W: Write, E: ProgressWriter>(
     alloc: Global,
@@ -74,7 +69,6 @@ pub fn simulate_scenario<'f, W: Write, E: ProgressWriter>(
     io: &mut Io<W, E>,
 ) -> Result<Status, Fault<'f>>
     requires { vec_len scenario.now.stations ≤ 65535 }
-    ensures status { IfOk result IsCommandStatus }
     ensures done { result ≡ Ok Status.Done →
         IsDoneRun options.now.strict scenario.now }
 {
@@ -96,7 +90,6 @@ pub(crate) fn run_into<'a, M: BufRead + Drop, F: Write + Drop, W: Write, E: Prog
     io: &mut Io<W, E>,
 ) -> Result<Status, Fault<'a>>
     requires { vec_len course.old.scenario.now.stations ≤ 65535 }
-    ensures status { IfOk result IsCommandStatus }
     ensures done { result ≡ Ok Status.Done →
         IsDoneRun course.old.options.now.strict course.old.scenario.now }
 {
@@ -144,7 +137,6 @@ fn run_printed<
     err: &mut E,
 ) -> Result<Status, Fault<'a>>
     requires { vec_len course.old.scenario.now.stations ≤ 65535 }
-    ensures status { IfOk result IsCommandStatus }
     ensures done { result ≡ Ok Status.Done →
         IsDoneRun course.old.options.now.strict course.old.scenario.now }
 {
@@ -154,7 +146,7 @@ fn run_printed<
 }
 
 /// Runs a scenario by its timeline, with its file of moves if it has one, and passes each event to
-/// a sink as it is done. Returns the world that the last one left.
+/// a sink when it is done. Returns the world after the last event.
 pub(crate) fn run_timeline<M: BufRead + Drop, S: EventSink>(
     alloc: Global,
     course: &mut Course<'_, '_, M>,
@@ -173,7 +165,7 @@ pub(crate) fn run_timeline<M: BufRead + Drop, S: EventSink>(
     }
 }
 
-/// How many unknown keys have a line.
+/// How many unknown keys are printed.
 const MOST_UNKNOWN: usize = 20;
 
 /// Reports on standard error unknown keys of a scenario's document, of its stations and of its
@@ -190,10 +182,10 @@ pub fn report_unknown<E: Write>(scenario: &Scenario, err: &mut E) {
     }
 }
 
-/// Reads to the end of the reader, and what it gave as a scenario of at most so many stations, in
-/// this way. `file` is its name.
+/// Reads all text of the reader as a scenario with at most `most_stations` stations, with these
+/// choices. `file` is its name.
 ///
-/// The fault is that of the scenario, or that a read failed or memory ran out.
+/// Returns the fault of the scenario, or that a read failed or memory ran out.
 pub fn read_scenario<'a, R: Read + Drop>(
     alloc: Global,
     file: &'a str,
@@ -211,7 +203,7 @@ pub fn read_scenario<'a, R: Read + Drop>(
     )
 }
 
-/// All that the reader gives. `file` is its name.
+/// Reads all text of the reader. `file` is its name.
 fn read_text<'a, R: Read + Drop>(
     alloc: Global,
     file: &'a str,

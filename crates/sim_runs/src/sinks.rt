@@ -2,7 +2,6 @@
 
 ghost use Rattle.std.specs.Prelude.{◌≡◌, ◌≤◌, IfOk, List, Ok, not, true, vec_len};
 ghost use Rattle.std.specs.List.{list_all};
-ghost use Rattle.cmd_reporting.specs.Statuses.{IsCommandStatus};
 ghost use Rattle.its_world.specs.Entries.{Entry as LogEntry};
 ghost use Rattle.its_world.specs.Entries.{was_done};
 ghost use Rattle.sim_runs.specs.Runs.{EndsRun, run_status};
@@ -23,16 +22,16 @@ use sim_simulation::{EventRecord, EventSink, Note, SimulationFault};
 use std::alloc::{AllocError, Global};
 use std::io::{BufRead, ErrorKind, Write};
 
-/// Where the results of a run go. Each part takes each event, in this order.
+/// The sinks of the results of a run. Each takes each event, in this order.
 #[derive(Drop)]
 pub(crate) struct RunSinks<'s, 'a, 'o, L, F: Write + Drop, E> {
     /// What is printed on standard output.
     lines: L,
     /// What is reported on standard error at the end of the run.
     report: Report<'s>,
-    /// The files of numbers.
+    /// The result files.
     tables: Results<'a, F>,
-    /// How far the run is, which standard error shows.
+    /// The progress of the run, shown on standard error.
     progress: Progress,
     /// The file of the frames that stations send, if it is written.
     frames: Option<FrameFile<'a, F>>,
@@ -51,8 +50,8 @@ impl<'s, 'a, 'o, L: EventSink + RunLines + Drop, F: Write + Drop, E: ProgressWri
     F,
     E,
 > {
-    /// Those of a run that has not begun, which prints these lines and writes these files. `NoMemory`
-    /// if an allocation failed.
+    /// Returns the sinks of a run that has not begun, which prints these lines and writes these
+    /// files. `NoMemory` if an allocation failed.
     pub(crate) fn new<M: BufRead + Drop>(
         alloc: Global,
         course: &Course<'s, '_, M>,
@@ -77,9 +76,9 @@ impl<'s, 'a, 'o, L: EventSink + RunLines + Drop, F: Write + Drop, E: ProgressWri
         })
     }
 
-    /// Runs the scenario, whose results go here, and prints its lines or its summary. Returns the
-    /// status of `sim`, of which nothing is reported yet. If the file of moves cut the run short,
-    /// the summary is that of the part before, without the totals.
+    /// Runs the scenario into these sinks, and prints its lines or its summary. Returns the status
+    /// of `sim`. Nothing is reported yet. If the file of moves cut the run short, the summary is
+    /// that of the part before, without the totals.
     pub(crate) fn run<M: BufRead + Drop>(
         &mut self,
         alloc: Global,
@@ -105,10 +104,9 @@ impl<'s, 'a, 'o, L: EventSink + RunLines + Drop, F: Write + Drop, E: ProgressWri
         }
     }
 
-    /// How a command ends whose run went to its last event: `Refused` if it is strict and an event
-    /// was refused.
+    /// Returns the status of a run that reached its last event: `Refused` if it is strict and an
+    /// event was refused.
     fn status(&self, strict: bool) -> Status
-        ensures command { IsCommandStatus result }
         ensures run { (log : List LogEntry) → self.now.all_done ≡ list_all was_done log
             → result ≡ run_status strict log }
     {
@@ -119,17 +117,15 @@ impl<'s, 'a, 'o, L: EventSink + RunLines + Drop, F: Write + Drop, E: ProgressWri
         }
     }
 
-    /// Reports on a run that ended so, and ends its files. `moves` is its file of moves, if there is
-    /// one. Returns `Refused` if a line of moves ended the run, and of a run that is done if
-    /// something that is expected isn't met, if a frame was left out of its file or, with
-    /// `strict`, if an event wasn't run. `CannotWrite` if a file failed.
+    /// Reports on a run that ended as `ran` says, and ends its files. `moves` is its file of moves,
+    /// if there is one. Returns `Refused` if a line of moves ended the run. For a run that is done,
+    /// also if an expectation isn't met, if a frame was left out of its file and, with `strict`, if
+    /// an event wasn't run. `CannotWrite` if a file failed.
     pub(crate) fn end<M: BufRead + Drop>(
         self,
         ran: Result<Status, AirFault>,
         moves: Option<&MovesFile<'a, M>>,
     ) -> Result<Status, Fault<'a>>
-        requires { IfOk ran IsCommandStatus }
-        ensures status { IfOk result IsCommandStatus }
         ensures done { result ≡ Ok Status.Done → ran ≡ Ok Status.Done }
     {
         let RunSinks {
@@ -163,7 +159,7 @@ impl<L, F: Write + Drop, E: Write> RunSinks<'_, '_, '_, L, F, E> {
         self.put_frame(done.station, done.moment, done.sent_octets())
     }
 
-    /// Writes a frame that goes out of a station at this time to the file of frames, if there is one.
+    /// Writes a frame that a station sends at this time to the file of frames, if there is one.
     fn put_frame(
         &mut self,
         station: usize,
@@ -229,7 +225,7 @@ impl<L: EventSink, F: Write + Drop, E: ProgressWriter> EventSink for RunSinks<'_
     }
 }
 
-/// Takes the end of a run that went to its last event, and prints what comes after its lines.
+/// Takes the end of a run that reached its last event, and prints what comes after its lines.
 fn end_whole<L: RunLines, M: BufRead + Drop>(
     alloc: Global,
     course: &Course<'_, '_, M>,

@@ -1,4 +1,4 @@
-//! The lines of a run that is summed up.
+//! The lines of a run's summary.
 
 use crate::report::Report;
 use cmd_reporting::OutputFormat;
@@ -12,7 +12,7 @@ use std::alloc::Global;
 use std::fmt;
 use std::io::Write;
 
-/// What was counted of a run: of its events and, if any station contends, of what was held.
+/// The counts of a run: its events and, if any station contends, the held frames.
 #[derive(Clone, Copy)]
 pub(crate) struct RunCounts<'a> {
     pub(crate) tally: &'a Tally,
@@ -20,7 +20,8 @@ pub(crate) struct RunCounts<'a> {
 }
 
 impl RunCounts<'_> {
-    /// The summary of the packet for an area of this place, with the frames that went out.
+    /// Returns the summary of the packet for an area with this number, with the frames that were
+    /// sent.
     fn sent(&self, place: usize, send: SendSummary) -> SendSummary {
         match self.held {
             Some(held) => send.without_frames(held.unsent_of(place)),
@@ -28,7 +29,7 @@ impl RunCounts<'_> {
         }
     }
 
-    /// The counts of all events, with the frames that went out.
+    /// Returns the counts of all events, with the frames that were sent.
     fn totals(&self) -> Totals {
         let totals = self.tally.totals();
         match self.held {
@@ -38,9 +39,9 @@ impl RunCounts<'_> {
     }
 }
 
-/// Prints a line for each packet for an area that was sent, in order, and one of the counts of all
-/// events, unless the run was cut short. With `explain` each of the first goes on with the stations
-/// that it didn't reach.
+/// Prints one line per packet for an area that was sent, in order, and one with the counts of all
+/// events, unless the run was cut short. With `explain` the line of a packet has the stations that
+/// it didn't reach.
 pub(crate) fn print_summary<W: Write>(
     alloc: Global,
     counts: RunCounts<'_>,
@@ -73,7 +74,7 @@ pub(crate) fn print_summary<W: Write>(
     Ok(())
 }
 
-/// The same of the packets, as objects.
+/// Prints one object per packet for an area that was sent, in order.
 fn print_objects<W: Write>(
     alloc: Global,
     counts: RunCounts<'_>,
@@ -90,7 +91,7 @@ fn print_objects<W: Write>(
     Ok(())
 }
 
-/// The same of the counts.
+/// Prints the counts of all events as an object.
 fn print_total_object<W: Write>(
     alloc: Global,
     counts: RunCounts<'_>,
@@ -112,7 +113,7 @@ fn print_total_object<W: Write>(
 /// A station that a packet didn't reach, and how far it came there.
 type Miss = (usize, Reach);
 
-/// The stations that a packet didn't reach, if codes are explained.
+/// Returns the stations that a packet didn't reach, if codes are explained.
 fn missed_of(
     report: &Report<'_>,
     send: usize,
@@ -125,7 +126,7 @@ fn missed_of(
     }
 }
 
-/// What is doubtful about the run, as objects. `None` if nothing is.
+/// Returns what is doubtful about the run, as objects. `None` if nothing is.
 fn doubts_of<'a>(
     alloc: Global,
     report: &'a Report<'_>,
@@ -145,7 +146,8 @@ fn doubts_of<'a>(
     })
 }
 
-/// The stations that a packet didn't reach, as ` (missed: 10 lost, 11 full)`, or nothing.
+/// The stations that a packet didn't reach. It prints for example as ` (missed: 10 lost, 11 full)`,
+/// or as nothing.
 #[derive(Clone, Copy)]
 struct MissedText<'a>(&'a Option<Vec<Miss>>);
 
@@ -166,8 +168,8 @@ impl fmt::Display for MissedText<'_> {
     }
 }
 
-/// How many frames were held and how many of them were cancelled, as ` held 3 cancelled 1`, or
-/// nothing.
+/// How many frames were held, and how many of them were cancelled. It prints for example as ` held
+/// 3 cancelled 1`, or as nothing.
 #[derive(Clone, Copy)]
 struct HeldText<'a>(Option<&'a HeldTally>);
 
@@ -180,7 +182,8 @@ impl fmt::Display for HeldText<'_> {
     }
 }
 
-/// How many receptions met a full location table, as ` full 3`, or nothing.
+/// How many receptions met a full location table. It prints for example as ` full 3`, or as
+/// nothing.
 #[derive(Clone, Copy)]
 struct FullText(Option<usize>);
 
@@ -193,7 +196,7 @@ impl fmt::Display for FullText {
     }
 }
 
-/// How much is doubtful about the run, as ` doubts 3`, or nothing.
+/// How many doubts there are about the run. It prints for example as ` doubts 3`, or as nothing.
 #[derive(Clone, Copy)]
 struct DoubtsText(usize);
 
@@ -206,7 +209,7 @@ impl fmt::Display for DoubtsText {
     }
 }
 
-/// What the JSON of a packet for an area tells.
+/// The JSON object of a packet for an area.
 #[derive(Drop, Serialize)]
 struct SendLine {
     #[serde(flatten)]
@@ -215,7 +218,7 @@ struct SendLine {
     missed: Option<Vec<Miss>>,
 }
 
-/// What the JSON of a doubt tells, its keys in order.
+/// The JSON object of a doubt, with its keys in order.
 #[derive(Clone, Copy, Serialize)]
 struct DoubtKeys<'a> {
     doubt: &'static str,
@@ -240,7 +243,7 @@ struct RunCountsLine<'a> {
     doubts: Option<Vec<DoubtKeys<'a>>>,
 }
 
-/// The same, under their key.
+/// The object of the totals, under its key.
 #[derive(Drop, Serialize)]
 struct TotalLine<'a> {
     total: RunCountsLine<'a>,

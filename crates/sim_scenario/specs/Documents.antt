@@ -12,7 +12,3 @@ IsToml text = IsUtf8 text × IsSome (parse_document text)
 -- the fault is that the text is no TOML
 abbrev pub IsOfToml : ScenarioFault → Type 0
 IsOfToml fault = (place : TomlFault) × (fault ≡ NotToml place)
-
--- the fault is that of a document that was read, or there was no memory
-abbrev pub IsPastToml : ScenarioFault → Type 0
-IsPastToml fault = ¬ IsOfToml fault

@@ -1,12 +1,11 @@
 //! Which stations of a scenario contend.
 
-ghost use Rattle.std.specs.Prelude.{◌≡◌, IfOk, IfErr, map};
+ghost use Rattle.std.specs.Prelude.{◌≡◌, IfOk, map};
 ghost use Rattle.std.specs.List.{list_any};
-ghost use Rattle.sim_scenario.specs.Documents.{IsPastToml};
 ghost use Rattle.sim_scenario.specs.Scenarios.{contends, has_contention, rows_contend};
 ghost use Rattle.sim_scenario.specs.Scenarios.{usual_contention};
 
-use crate::fault::ScenarioFault;
+use crate::fault::DocumentFault;
 use crate::scenario::Scenario;
 use crate::timeline::Timeline;
 use std::alloc::Global;
@@ -43,14 +42,13 @@ impl Timeline {
     }
 }
 
-/// Returns whether each station contends: by its own value, or as is `usual`. Without a radio model
-/// none does.
+/// Returns whether each station contends: by its own value, or `usual` without one. Without a radio
+/// model none does.
 pub(crate) fn contending(
     alloc: Global,
     usual: Option<bool>,
     own: &[Option<bool>],
-) -> Result<Vec<bool>, ScenarioFault>
-    ensures refused { IfErr result IsPastToml }
+) -> Result<Vec<bool>, DocumentFault>
     ensures all { IfOk result (λ contend. contend.items ≡ map (contends usual) own.now) }
 {
     let mut contend = Vec::with_capacity(alloc, own.len())?;

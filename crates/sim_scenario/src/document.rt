@@ -7,7 +7,7 @@ ghost use Rattle.sim_scenario.specs.declared.reading.AirTable.TheVariants as air
 ghost use Rattle.toml.specs.Parse.{parse_document};
 ghost use Rattle.toml.specs.View.{table_view};
 
-use crate::fault::ScenarioFault;
+use crate::fault::{DocumentFault, ScenarioFault};
 use crate::position::TomlFault;
 use crate::reading::Reading;
 use crate::scenario::Scenario;
@@ -16,25 +16,24 @@ use std::alloc::Global;
 use toml::Table;
 
 impl Scenario {
-    /// Reads a TOML document with the arrays of tables `station`, `event` and `expect`, the table
-    /// `air` and, where there is one, the array of tables `every` and the table `moves`, each of
-    /// which may be missing. A key of the air, of traffic, of moves or of what is expected that is
-    /// none of its words is refused; other keys are passed over. At most so many stations are
-    /// taken.
+    /// Reads a TOML document with the arrays of tables `station`, `event` and `expect` and the
+    /// table `air`. With `air` it also reads the array of tables `every` and the table `moves`.
+    /// Each may be missing. An unknown key in `air`, `every`, `moves` or `expect` is refused. Other
+    /// unknown keys are ignored. More than `most_stations` stations are refused.
     ///
-    /// The first fault is given: that of the document, of its arrays `station` and `event`, of the
-    /// kind of `air`, of `every`, of `moves` and of `expect`, of the number of stations, of each
-    /// station in turn, of the air, of each traffic in turn, of moves, of each event in turn, of
-    /// each table of what is expected, of two stations with the same MID.
+    /// Returns the first fault in this order: the document, its arrays `station` and `event`, the
+    /// kinds of `air`, `every`, `moves` and `expect`, the number of stations, each station in turn,
+    /// the air, each traffic in turn, the moves, each event in turn, each expectation in turn, two
+    /// stations with the same MID.
     ///
     /// - `toml`: what is read is a TOML document: UTF-8 that the grammar of the kit reads.
     /// - `refused`: `not TOML` is returned only if it is not TOML, and not if memory runs out.
-    /// - `says` (`SaysScenario`): the scenario is the one that the document says: its stations, one
-    ///   for one, each as its keys say, and whether it is present at the start; what is expected;
-    ///   and its timeline (`SayTimeline`): without an air each event, in order; in one the air,
-    ///   with values that are set in place of its own, the traffic, and each event and leave, in
-    ///   order; with the moves of a file also how these are read, and each event for a station or
-    ///   an id.
+    /// - `says` (`SaysScenario`): the scenario is the one that the document says. It has the
+    ///   stations in order, each as its keys say, with its presence at the start, the expectations,
+    ///   and the timeline (`SayTimeline`). Without a radio model the timeline is each event, in
+    ///   order. With a radio model it is the air, in which values that are set replace its own, the
+    ///   traffic, and each event and leave, in order. With the moves of a file it is also how these
+    ///   are read, and each event is for a station or an id.
     pub fn from_toml(
         alloc: Global,
         text: &[u8],
@@ -48,12 +47,12 @@ impl Scenario {
         Scenario::read(alloc, text, most_stations, &Reading::default())
     }
 
-    /// Reads a document as `from_toml` does, in this way.
+    /// Reads a document as `from_toml` does, with these choices.
     ///
-    /// The radio model has the given values in place of its own. If it is required, a document
-    /// without one is refused, where the kind of `air` is checked. If it is ignored, so are `every`,
-    /// `moves` and `expect`, whatever they are. A strict reading refuses each unknown key of the
-    /// document, of its stations and of its events, last of all, in this order.
+    /// The given values replace those of the radio model. If it is required, a document without one
+    /// is refused, where the kind of `air` is checked. If it is ignored, so are `every`, `moves`
+    /// and `expect`, whatever they are. A strict reading refuses each unknown key of the document,
+    /// of its stations and of its events, last of all, in this order.
     #[tactic(auto, using(crate::proofs::Timelines::ignored_is_plain))]
     pub fn read(
         alloc: Global,
@@ -76,7 +75,7 @@ impl Scenario {
     }
 }
 
-/// The table of a text.
+/// Parses a text as a TOML table.
 fn document_of(alloc: Global, text: &[u8]) -> Result<Table, ScenarioFault>
     ensures toml { IfOk result (λ _. IsToml text.now) }
     ensures says { IfOk result (λ document.
@@ -85,7 +84,7 @@ fn document_of(alloc: Global, text: &[u8]) -> Result<Table, ScenarioFault>
 {
     match toml::table_from_slice(alloc, text) {
         Ok(document) => Ok(document),
-        Err(error) if error.is_memory() => Err(ScenarioFault::OutOfMemory),
+        Err(error) if error.is_memory() => Err(ScenarioFault::from(DocumentFault::OutOfMemory)),
         Err(error) => Err(ScenarioFault::NotToml(TomlFault::new(text, error))),
     }
 }

@@ -1,17 +1,16 @@
 //! Reading the events of a scenario.
 
-ghost use Rattle.std.specs.Prelude.{◌≡◌, All, IfOk, IfErr, length, vec_len};
+ghost use Rattle.std.specs.Prelude.{◌≡◌, All, IfOk, length, vec_len};
 ghost use Rattle.sim_scenario.specs.Events.{FitsFileEvent};
 ghost use Rattle.sim_scenario.specs.Saying.{SaysFileEvent};
 ghost use Rattle.sim_settings.specs.Tables.{table_values};
-ghost use Rattle.sim_scenario.specs.Documents.{IsPastToml};
 ghost use Rattle.sim_settings.specs.Items.{SayItems};
 ghost use Rattle.toml.specs.View.{items_view, table_view};
 
 use crate::events::{
     AddressedEvent, FileEvent, StationEvent, read_addressed, read_event, read_station_event,
 };
-use crate::fault::ScenarioFault;
+use crate::fault::DocumentFault;
 use crate::part::Part;
 use crate::places::Places;
 use its_words::keys::{Key, KeyFault};
@@ -88,17 +87,16 @@ pub(crate) fn read_events<E: TableEvent>(
     alloc: Global,
     items: &[Value],
     stations: usize,
-) -> Result<Vec<E>, ScenarioFault>
+) -> Result<Vec<E>, DocumentFault>
     ensures all { IfOk result (λ events. vec_len events ≡ length items.now) }
     ensures says { IfOk result (λ events. SayItems E.Says (items_view items.now) events.items) }
     ensures ranges { IfOk result (λ events. All E.Fits events.items) }
-    ensures refused { IfErr result IsPastToml }
 {
     let mut events = Vec::with_capacity(alloc, items.len())?;
     for (number, item) in items.iter().enumerate() {
         // `array_of_tables` has seen that each item is one.
         let Some(table) = item.as_table() else {
-            return Err(ScenarioFault::Kind(Key::Event, None));
+            return Err(DocumentFault::Kind(Key::Event, None));
         };
         events.push(read_numbered_event(alloc, table, number, stations)?)?;
     }
@@ -111,13 +109,12 @@ fn read_numbered_event<E: TableEvent>(
     table: &Table,
     number: usize,
     stations: usize,
-) -> Result<E, ScenarioFault>
+) -> Result<E, DocumentFault>
     ensures says { IfOk result (E.Says (table_values (table_view table.now))) }
     ensures ranges { IfOk result E.Fits }
-    ensures refused { IfErr result IsPastToml }
 {
     E::read(alloc, table, number, stations).map_err(|fault| {
-        ScenarioFault::of_key(alloc, fault, Part::Event(number), table)
+        DocumentFault::of_key(alloc, fault, Part::Event(number), table)
     })
 }
 
@@ -127,11 +124,10 @@ pub(crate) fn read_file(
     alloc: Global,
     items: &[Value],
     stations: &[Config],
-) -> Result<Vec<FileEvent>, ScenarioFault>
+) -> Result<Vec<FileEvent>, DocumentFault>
     ensures says { IfOk result (λ file.
         SayItems SaysFileEvent (items_view items.now) file.items) }
     ensures ranges { IfOk result (λ file. All FitsFileEvent file.items) }
-    ensures refused { IfErr result IsPastToml }
 {
     let events: Vec<StationEvent> = read_events(alloc, items, stations.len())?;
     let places = Places::of(alloc, stations, events.as_slice())?;

@@ -1,4 +1,4 @@
-//! The stations of a scenario and what happens at them, by their keys in a table of TOML or in
+//! Reads the stations of a scenario and what happens at them, from keys in a TOML table or from
 //! fields of another notation. Each number is in the range of its key.
 
 mod action;

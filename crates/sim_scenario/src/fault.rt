@@ -1,9 +1,8 @@
-//! Why a document is no scenario.
+//! Why a document is not a scenario.
 
 ghost use Rattle.std.specs.Prelude.{◌≡◌};
-ghost use Rattle.sim_scenario.specs.Documents.{IsPastToml};
 ghost use Rattle.sim_scenario.specs.Faults.{fault_of};
-ghost use Rattle.sim_scenario.specs.declared.fault.ScenarioFault.TheVariants.{OutOfMemory};
+ghost use Rattle.sim_scenario.specs.declared.fault.DocumentFault.TheVariants.{OutOfMemory};
 
 use crate::found::FoundValue;
 use crate::part::Part;
@@ -20,30 +19,38 @@ use toml::Table;
 /// follows `geostation: ` on standard error.
 #[derive(Debug, Drop, PartialEq, Eq, Error)]
 pub enum ScenarioFault {
-    /// The text is no TOML document.
+    /// The text is not a TOML document.
     #[error("scenario: not TOML")]
     NotToml(TomlFault),
-    /// `station`, `event`, `every` or `expect` is no array of tables, or `air` or `moves` no table.
-    /// With what stands there instead.
+    /// The document is not a scenario, or memory ran out.
+    #[error("{0}")]
+    Document(DocumentFault),
+}
+
+/// The first fault of a document that was read.
+#[derive(Debug, Drop, PartialEq, Eq, Error)]
+pub enum DocumentFault {
+    /// `station`, `event`, `every` or `expect` is not an array of tables, or `air` or `moves` is
+    /// not a table. With the value that is there instead.
     #[error("scenario: {0}")]
     Kind(Key, Option<FoundValue>),
     /// `air` is missing, which the command needs.
     #[error("scenario: air")]
     NoAir,
-    /// There are more stations than are taken.
+    /// There are more stations than allowed.
     #[error("scenario: too many stations")]
     TooManyStations,
     /// A key of a table is missing, of another kind or out of range. With its value.
     #[error("scenario: {0}: {1}")]
     Key(Part, Key, Wrong, Option<FoundValue>),
-    /// A key is missing, and one that is none of the words of its table may mean it.
+    /// A key is missing, and an unknown key of its table may mean it.
     #[error("scenario: {0}")]
     Misspelled(Misspelled),
-    /// A key is none of the words of its table.
+    /// A key is unknown in its table.
     #[error("scenario: {0}")]
     Unknown(UnknownKey),
-    /// Two stations, counted from 0, have the same MID: the second is the first that has one of
-    /// before.
+    /// Two stations, counted from 0, have the same MID. The second is the first station with a MID
+    /// that an earlier one has.
     #[error("scenario: stations {0} and {1} share a MID")]
     SharedMid(usize, usize),
     /// An allocation failed.
@@ -52,39 +59,52 @@ pub enum ScenarioFault {
 }
 
 impl ScenarioFault {
-    /// What was wrong, as a sentence.
+    /// Returns what is wrong, as a sentence.
     pub fn reason(&self) -> FaultReason<'_> {
         FaultReason(self)
     }
+}
 
+impl From<DocumentFault> for ScenarioFault {
+    ghost use Rattle.sim_scenario.specs.declared.fault.ScenarioFault.TheVariants.{Document};
+
+    ghost from_gives = { λ fault e. e ≡ Document fault };
+
+    fn from(fault: DocumentFault) -> ScenarioFault {
+        ScenarioFault::Document(fault)
+    }
+}
+
+impl DocumentFault {
     /// Returns the scenario's fault for a key's fault in this part, whose table is given.
-    pub(crate) fn of_key(alloc: Global, fault: KeyFault, part: Part, table: &Table) -> ScenarioFault
-        ensures { IsPastToml result }
-    {
+    pub(crate) fn of_key(
+        alloc: Global,
+        fault: KeyFault,
+        part: Part,
+        table: &Table,
+    ) -> DocumentFault {
         match fault {
             KeyFault::Refused(key, Wrong::Missing) => {
-                ScenarioFault::of_missing(alloc, key, Some(part), table)
+                DocumentFault::of_missing(alloc, key, Some(part), table)
             }
             KeyFault::Refused(key, wrong) => match found_under(alloc, key, wrong, table) {
-                Ok(found) => ScenarioFault::Key(part, key, wrong, found),
-                Err(_) => ScenarioFault::OutOfMemory,
+                Ok(found) => DocumentFault::Key(part, key, wrong, found),
+                Err(_) => DocumentFault::OutOfMemory,
             },
-            KeyFault::OutOfMemory => ScenarioFault::OutOfMemory,
+            KeyFault::OutOfMemory => DocumentFault::OutOfMemory,
         }
     }
 
-    /// Returns the fault of the value under this key of a document, which isn't of the kind that it
-    /// takes.
-    pub(crate) fn of_kind(alloc: Global, key: Key, document: &Table) -> ScenarioFault
-        ensures { IsPastToml result }
-    {
+    /// Returns the fault of the value under this key of a document, which has another kind than the
+    /// key needs.
+    pub(crate) fn of_kind(alloc: Global, key: Key, document: &Table) -> DocumentFault {
         let found = match key {
             Key::Air | Key::Moves => FoundValue::under(alloc, key, document),
             _ => FoundValue::under_no_array(alloc, key, document),
         };
         match found {
-            Ok(found) => ScenarioFault::Kind(key, found),
-            Err(_) => ScenarioFault::OutOfMemory,
+            Ok(found) => DocumentFault::Kind(key, found),
+            Err(_) => DocumentFault::OutOfMemory,
         }
     }
 
@@ -94,19 +114,17 @@ impl ScenarioFault {
         key: Key,
         part: Option<Part>,
         table: &Table,
-    ) -> ScenarioFault
-        ensures { IsPastToml result }
-    {
+    ) -> DocumentFault {
         match (Misspelled::find(alloc, table, key, part), part) {
-            (Ok(Some(misspelled)), _) => ScenarioFault::Misspelled(misspelled),
-            (Ok(None), Some(part)) => ScenarioFault::Key(part, key, Wrong::Missing, None),
-            (Ok(None), None) => ScenarioFault::NoAir,
-            (Err(_), _) => ScenarioFault::OutOfMemory,
+            (Ok(Some(misspelled)), _) => DocumentFault::Misspelled(misspelled),
+            (Ok(None), Some(part)) => DocumentFault::Key(part, key, Wrong::Missing, None),
+            (Ok(None), None) => DocumentFault::NoAir,
+            (Err(_), _) => DocumentFault::OutOfMemory,
         }
     }
 }
 
-/// What a fault of a key shows of its value: nothing of ports, if one of them is wrong.
+/// Returns what a fault of a key shows of its value. Nothing of ports, if one of them is wrong.
 fn found_under(
     alloc: Global,
     key: Key,
@@ -119,29 +137,29 @@ fn found_under(
     }
 }
 
-impl From<AllocError> for ScenarioFault {
+impl From<AllocError> for DocumentFault {
     ghost from_gives = { λ _ fault. fault ≡ OutOfMemory };
 
-    fn from(_: AllocError) -> ScenarioFault {
-        ScenarioFault::OutOfMemory
+    fn from(_: AllocError) -> DocumentFault {
+        DocumentFault::OutOfMemory
     }
 }
 
-impl From<WorldFault> for ScenarioFault {
+impl From<WorldFault> for DocumentFault {
     ghost from_gives = { λ fault told. told ≡ fault_of fault };
 
-    fn from(fault: WorldFault) -> ScenarioFault {
+    fn from(fault: WorldFault) -> DocumentFault {
         match fault {
-            WorldFault::SameMid(first, second) => ScenarioFault::SharedMid(first, second),
-            WorldFault::NoMemory => ScenarioFault::OutOfMemory,
+            WorldFault::SameMid(first, second) => DocumentFault::SharedMid(first, second),
+            WorldFault::NoMemory => DocumentFault::OutOfMemory,
         }
     }
 }
 
-impl<T: Drop> From<AllocFailed<T>> for ScenarioFault {
+impl<T: Drop> From<AllocFailed<T>> for DocumentFault {
     ghost from_gives = { λ _ fault. fault ≡ OutOfMemory };
 
-    fn from(_: AllocFailed<T>) -> ScenarioFault {
-        ScenarioFault::OutOfMemory
+    fn from(_: AllocFailed<T>) -> DocumentFault {
+        DocumentFault::OutOfMemory
     }
 }

@@ -25,7 +25,8 @@ impl FoundValue {
         }
     }
 
-    /// The same under a key that takes arrays. Nothing is shown of an array: what is wrong is in it.
+    /// Returns what is shown of the value under a key that takes arrays. `None` for an array, since
+    /// the mistake is inside it, and for a missing key.
     pub(crate) fn under_no_array(
         alloc: Global,
         key: Key,

@@ -1,11 +1,11 @@
-//! Scenarios: the stations, the air and the events of a TOML document, as those of a world. Each
-//! number is in its range, by the type of a scenario.
+//! Scenarios: reads the stations, the radio model and the events of a TOML document for a world.
+//! Each number is in its range, by the type of a scenario.
 //!
 //! # What is proved
 //!
-//! For an area without a centre the clause `says` has shape and measures. That its centre is where
-//! its station is then is tested. MIDs are compared by `refuse_shared` of `its_world`, whose clause
-//! `refused` tells which two stations are named.
+//! For an area without a centre, the clause `says` has shape and measures. That its centre is the
+//! position of its station is only tested. MIDs are compared by `refuse_shared` of `its_world`,
+//! whose clause `refused` says which two stations are named.
 //!
 //! # Only tested
 //!
@@ -41,7 +41,7 @@ mod tables;
 mod timeline;
 mod unknown;
 
-pub use fault::ScenarioFault;
+pub use fault::{DocumentFault, ScenarioFault};
 pub use found::FoundValue;
 pub use part::Part;
 pub use position::TomlFault;

@@ -2,15 +2,15 @@
 
 use std::fmt;
 
-/// A table of a scenario, by its number from 0 where there are several. It prints as it is told of
-/// in a fault: `station 3`, `air`.
+/// A table of a scenario, by its number from 0 if there are several. It prints as a fault shows it:
+/// `station 3`, `air`.
 #[derive(Clone, Copy, Debug, PartialEq, Eq)]
 pub enum Part {
     /// A station.
     Station(usize),
-    /// The air.
+    /// The radio model.
     Air,
-    /// Traffic of the air.
+    /// Traffic of the radio model.
     Every(usize),
     /// How moves are read.
     Moves,

@@ -6,7 +6,7 @@ use its_station::OwnCall;
 use its_world::{Config, What};
 use std::alloc::{AllocError, Global};
 
-/// When an event of a file is done: events of one moment in the order of the file.
+/// When an event of a file is done. Events of one time are in the order of the file.
 #[derive(Clone, Copy, Debug, PartialEq, Eq, PartialOrd, Ord)]
 struct Turn {
     moment: u64,
@@ -22,8 +22,8 @@ pub(crate) struct Places {
 }
 
 impl Places {
-    /// Returns those of these events: a station is where the last move of the file before the event
-    /// put it, or where it begins. Fails if an allocation failed.
+    /// Returns the positions at these events: a station is where the last move of the file before
+    /// the event put it, or where it begins. Fails if an allocation failed.
     pub(crate) fn of(
         alloc: Global,
         stations: &[Config],
@@ -39,8 +39,8 @@ impl Places {
         Ok(Places { places })
     }
 
-    /// Returns the position at the event of this number. A station that isn't there refuses its
-    /// events wherever it is: its position is 0, 0.
+    /// Returns the position at the event with this number. For a station that doesn't exist it is
+    /// 0, 0, since its events are refused anyway.
     pub(crate) fn at(&self, number: usize) -> Place {
         match self.places.get(number) {
             Some(Some(place)) => *place,
@@ -69,8 +69,8 @@ fn in_order(alloc: Global, events: &[StationEvent]) -> Result<Vec<Turn>, AllocEr
     Ok(turns)
 }
 
-/// Returns where the station of an event is with it. If the event is a move, the station is at its
-/// end from then on. `None` if there is no such station.
+/// Returns where the station of an event is. If the event is a move, the station is at its new
+/// position from then on. `None` if there is no such station.
 fn place_after(places: &mut [Place], event: Option<&StationEvent>) -> Option<Place> {
     let event = event?;
     let place = places.get_mut(event.station)?;

@@ -4,12 +4,12 @@ use cmd_text::lines::{GZIP, GzipFile};
 use std::fmt;
 use toml::de::Error;
 
-/// Why a text is no TOML document, and where.
+/// Why a text is not a TOML document, and where.
 #[derive(Clone, Copy, Debug, PartialEq, Eq)]
 pub struct TomlFault {
     /// The line, from 1.
     pub line: usize,
-    /// The place in the line, in characters from 1.
+    /// The column, in characters from 1.
     pub column: usize,
     /// Whether the text is a gzip file.
     is_gzip: bool,
@@ -17,7 +17,7 @@ pub struct TomlFault {
 }
 
 impl TomlFault {
-    /// The fault of a text that was refused so.
+    /// Returns the fault of a text which the parser refused with this error.
     pub(crate) fn new(text: &[u8], error: Error) -> TomlFault {
         let start = error.span().map_or(0, |span| span.start);
         let before = text.get(..start).unwrap_or(text);

@@ -12,9 +12,9 @@ pub struct Reading {
     pub strict: bool,
     /// What is done with the table `air`.
     pub air: AirTable,
-    /// Whether it is run with the moves of a file, in its air. An event may then have `id`, and its
-    /// `station` is ignored. Without `id`, `station` is one of the scenario's own. `deliver` is not
-    /// allowed.
+    /// Whether it is run with the moves of a file, in its radio model. An event may then have `id`,
+    /// and its `station` is ignored. Without `id`, `station` is one of the scenario's own.
+    /// `deliver` is not allowed.
     pub moves: bool,
     /// Values that replace those of the air.
     pub settings: AirSettings,

@@ -1,12 +1,12 @@
-//! What was wrong with a scenario, as a sentence.
+//! What is wrong with a scenario, as a sentence.
 
-use crate::fault::ScenarioFault;
+use crate::fault::{DocumentFault, ScenarioFault};
 use crate::found::FoundValue;
 use its_words::keys::{Key, NotOneOf, WrongOf, WrongValue};
 use std::fmt;
 
-/// The sentence of a scenario's fault, for a person: what was wrong and, in a text that is no TOML,
-/// where. Its place in the scenario is told by the fault itself.
+/// The sentence of a scenario's fault, for a person: what is wrong and, in a text that is not TOML,
+/// where. The fault itself prints its position in the scenario.
 #[derive(Clone, Copy, Debug)]
 pub struct FaultReason<'a>(pub &'a ScenarioFault);
 
@@ -14,22 +14,27 @@ impl fmt::Display for FaultReason<'_> {
     fn fmt<W: fmt::Write>(&self, f: &mut fmt::Formatter<W>) -> fmt::Result {
         match self.0 {
             ScenarioFault::NotToml(fault) => write!(f, "{fault}"),
-            ScenarioFault::Kind(key, found) => write_kind(f, *key, found.as_ref()),
-            ScenarioFault::NoAir => f.write_str("missing"),
-            ScenarioFault::TooManyStations => f.write_str("more than the command takes"),
-            ScenarioFault::Key(_, key, wrong, found) => {
-                write_wrong(f, WrongOf(*key, *wrong), found)
-            }
-            ScenarioFault::Misspelled(misspelled) => misspelled.write_reason(f),
-            ScenarioFault::Unknown(key) => match key.tip() {
-                Some(tip) => write!(f, "{tip}"),
-                None => NotOneOf(key.known()).fmt(f),
-            },
-            ScenarioFault::SharedMid(..) => {
-                f.write_str("the last 48 bits of their addresses are the same")
-            }
-            ScenarioFault::OutOfMemory => f.write_str("an allocation failed"),
+            ScenarioFault::Document(fault) => write_document(f, fault),
         }
+    }
+}
+
+/// Writes what is wrong with a document.
+fn write_document<W: fmt::Write>(f: &mut fmt::Formatter<W>, fault: &DocumentFault) -> fmt::Result {
+    match fault {
+        DocumentFault::Kind(key, found) => write_kind(f, *key, found.as_ref()),
+        DocumentFault::NoAir => f.write_str("missing"),
+        DocumentFault::TooManyStations => f.write_str("more than the command takes"),
+        DocumentFault::Key(_, key, wrong, found) => write_wrong(f, WrongOf(*key, *wrong), found),
+        DocumentFault::Misspelled(misspelled) => misspelled.write_reason(f),
+        DocumentFault::Unknown(key) => match key.tip() {
+            Some(tip) => write!(f, "{tip}"),
+            None => write!(f, "{}", NotOneOf(key.known())),
+        },
+        DocumentFault::SharedMid(..) => {
+            f.write_str("the last 48 bits of their addresses are the same")
+        }
+        DocumentFault::OutOfMemory => f.write_str("an allocation failed"),
     }
 }
 

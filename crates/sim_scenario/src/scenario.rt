@@ -12,7 +12,7 @@ use sim_settings::Expectation;
 /// The most stations of a run: their numbers have 16 bits.
 pub const MOST_STATIONS: usize = 65535;
 
-/// Stations, events with what they are run by, and what is expected, in the order of the document.
+/// Stations, events with how they are run, and what is expected, in the order of the document.
 #[derive(Debug, Drop, PartialEq, Eq)]
 pub struct Scenario {
     /// The stations, no two of which have the same MID.
@@ -21,7 +21,7 @@ pub struct Scenario {
     pub present: Vec<bool>,
     /// Whether each of them contends. Without a radio model none does.
     pub contend: Vec<bool>,
-    /// The events, and what they are run by.
+    /// The events, and how they are run.
     pub timeline: Timeline,
     /// What is expected of the run.
     pub expectations: Vec<Expectation>,

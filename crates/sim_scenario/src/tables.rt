@@ -1,10 +1,9 @@
-//! The tables of a document, and the scenario of them.
+//! The tables of a document, and the scenario in them.
 
-ghost use Rattle.std.specs.Prelude.{◌≡◌, ◌≤◌, IfOk, IfErr, vec_len};
+ghost use Rattle.std.specs.Prelude.{◌≡◌, ◌≤◌, IfOk, vec_len};
 ghost use Rattle.its_words.specs.Keys.{word_of};
 ghost use Rattle.sim_settings.specs.Tables.{items_of_found};
 ghost use Rattle.its_words.specs.declared.keys.key.Key.TheVariants as keys;
-ghost use Rattle.sim_scenario.specs.Documents.{IsPastToml};
 ghost use Rattle.sim_scenario.specs.Scenarios.{ArePartsOf, SayScenario, SayTimeline, air_if};
 ghost use Rattle.sim_scenario.specs.Scenarios.{air_in, members_in, parts_in, reads_air};
 ghost use Rattle.sim_settings.specs.Items.{items_if, members_if};
@@ -14,7 +13,7 @@ ghost use Rattle.toml.specs.View.{items_view, table_view};
 
 use crate::contention::contending;
 use crate::event_tables::{read_events, read_file};
-use crate::fault::ScenarioFault;
+use crate::fault::DocumentFault;
 use crate::reading::{AirTable, Reading};
 use crate::scenario::Scenario;
 use crate::settings::{read_every, read_expectations, read_known_air, read_known_moves};
@@ -42,13 +41,12 @@ pub(crate) struct Tables<'a> {
 }
 
 impl<'a> Tables<'a> {
-    /// Those of a document.
+    /// Finds the tables of a document.
     pub(crate) fn of(
         alloc: Global,
         document: &'a Table,
         reading: &'a Reading,
-    ) -> Result<Tables<'a>, ScenarioFault>
-        ensures refused { IfErr result IsPastToml }
+    ) -> Result<Tables<'a>, DocumentFault>
         ensures parts { IfOk result (λ tables.
             ArePartsOf reading.now (table_view document.now) (parts_in tables)) }
     {
@@ -70,14 +68,13 @@ impl<'a> Tables<'a> {
         })
     }
 
-    /// The scenario of them.
-    pub(crate) fn read(self, alloc: Global, most_stations: usize) -> Result<Scenario, ScenarioFault>
-        ensures refused { IfErr result IsPastToml }
+    /// Reads the scenario in these tables.
+    pub(crate) fn read(self, alloc: Global, most_stations: usize) -> Result<Scenario, DocumentFault>
         ensures few { IfOk result (λ scenario. vec_len scenario.stations ≤ most_stations) }
         ensures says { IfOk result (SayScenario (parts_in self.entry)) }
     {
         if self.stations.len() > most_stations {
-            return Err(ScenarioFault::TooManyStations);
+            return Err(DocumentFault::TooManyStations);
         }
         let ReadStations {
             stations,
@@ -99,9 +96,8 @@ impl<'a> Tables<'a> {
         })
     }
 
-    /// The events of a scenario of these stations, and what they are run by.
-    fn read_timeline(self, alloc: Global, stations: &[Config]) -> Result<Timeline, ScenarioFault>
-        ensures refused { IfErr result IsPastToml }
+    /// Reads the events of a scenario with these stations, and how they are run.
+    fn read_timeline(self, alloc: Global, stations: &[Config]) -> Result<Timeline, DocumentFault>
         ensures says { IfOk result (SayTimeline (parts_in self.entry)) }
     {
         let Some(fields) = self.air else {
@@ -124,9 +120,8 @@ impl<'a> Tables<'a> {
         Ok(Timeline::Air(AirTimeline { air, every, events }))
     }
 
-    /// How moves are read. `contends` is the value of the air.
-    fn read_moves(self, alloc: Global, contends: bool) -> Result<Moves, ScenarioFault>
-        ensures refused { IfErr result IsPastToml }
+    /// Reads how moves are read. `contends` is the value of the air.
+    fn read_moves(self, alloc: Global, contends: bool) -> Result<Moves, DocumentFault>
         ensures says { IfOk result (SaysMoves contends (members_in self.entry.moves)) }
     {
         match self.moves {
@@ -135,15 +130,13 @@ impl<'a> Tables<'a> {
         }
     }
 
-    /// Refuses each key that is unknown, where the reading is strict.
+    /// Refuses each unknown key, if the reading is strict.
     pub(crate) fn refuse_unknown(
         self,
         alloc: Global,
         document: &Table,
         strict: bool,
-    ) -> Result<(), ScenarioFault>
-        ensures { IfErr result IsPastToml }
-    {
+    ) -> Result<(), DocumentFault> {
         if strict {
             refuse_all_unknown(alloc, document, self.stations, self.events)
         } else {
@@ -152,14 +145,14 @@ impl<'a> Tables<'a> {
     }
 }
 
-/// The table of the air with what is set of it, if it is read and there is one. `Air` if it is not a
-/// table, and if there is none and the reading requires it.
+/// Returns the table of the air with the values that replace its own, if it is read and there is
+/// one. `Kind` if it is not a table. `NoAir` or `Misspelled` if it is missing and the reading
+/// requires it.
 fn air_of<'a>(
     alloc: Global,
     document: &'a Table,
     reading: &'a Reading,
-) -> Result<Option<SetAir<'a>>, ScenarioFault>
-    ensures refused { IfErr result IsPastToml }
+) -> Result<Option<SetAir<'a>>, DocumentFault>
     ensures says { IfOk result (λ air. air_if (reads_air reading.now.air) reading.now.settings
         (table_view document.now) ≡ Some (air_in air)) }
 {
@@ -169,25 +162,24 @@ fn air_of<'a>(
     let settings = &reading.settings;
     match value_of(document, "air") {
         None if matches!(reading.air, AirTable::Required) => {
-            Err(ScenarioFault::of_missing(alloc, Key::Air, None, document))
+            Err(DocumentFault::of_missing(alloc, Key::Air, None, document))
         }
         None => Ok(None),
         Some(value) => match value.as_table() {
             Some(table) => Ok(Some(SetAir { table, settings })),
-            None => Err(ScenarioFault::of_kind(alloc, Key::Air, document)),
+            None => Err(DocumentFault::of_kind(alloc, Key::Air, document)),
         },
     }
 }
 
-/// The tables of the array under a key, if it is read. Otherwise the key is ignored, and there are
-/// none.
+/// Returns the tables of the array under a key, if it is read. Otherwise the key is ignored, and
+/// the result is empty.
 fn array_if<'a>(
     alloc: Global,
     document: &'a Table,
     key: Key,
     is_read: bool,
-) -> Result<&'a [Value], ScenarioFault>
-    ensures refused { IfErr result IsPastToml }
+) -> Result<&'a [Value], DocumentFault>
     ensures says { IfOk result (λ items.
         items_if is_read key (table_view document.now) ≡ Some (items_view items.now)) }
 {
@@ -197,10 +189,8 @@ fn array_if<'a>(
     array_of_tables(alloc, document, key)
 }
 
-/// The table of how moves are read, where there is one. Where there is no air, the key is passed
-/// over.
-fn moves_of(alloc: Global, document: &Table, has_air: bool) -> Result<Option<&Table>, ScenarioFault>
-    ensures refused { IfErr result IsPastToml }
+/// Returns the table of how moves are read, if there is one. Without an air the key is ignored.
+fn moves_of(alloc: Global, document: &Table, has_air: bool) -> Result<Option<&Table>, DocumentFault>
     ensures says { IfOk result (λ table.
         members_if has_air keys.Moves (table_view document.now) ≡ Some (members_in table)) }
 {
@@ -211,26 +201,25 @@ fn moves_of(alloc: Global, document: &Table, has_air: bool) -> Result<Option<&Ta
         None => Ok(None),
         Some(value) => match value.as_table() {
             Some(table) => Ok(Some(table)),
-            None => Err(ScenarioFault::of_kind(alloc, Key::Moves, document)),
+            None => Err(DocumentFault::of_kind(alloc, Key::Moves, document)),
         },
     }
 }
 
-/// The tables of the array under a key: none where the key is missing. `Kind` where its value is no
-/// array of tables.
+/// Returns the tables of the array under a key: none if the key is missing. `Kind` if its value is
+/// not an array of tables.
 fn array_of_tables<'a>(
     alloc: Global,
     document: &'a Table,
     key: Key,
-) -> Result<&'a [Value], ScenarioFault>
-    ensures refused { IfErr result IsPastToml }
+) -> Result<&'a [Value], DocumentFault>
     ensures says { IfOk result (λ items.
         items_of_found (get_member (word_of key) (table_view document.now))
         ≡ Some (items_view items.now)) }
 {
     match items_of(document, key.word()) {
         Some(items) if are_tables(items) => Ok(items),
-        _ => Err(ScenarioFault::of_kind(alloc, key, document)),
+        _ => Err(DocumentFault::of_kind(alloc, key, document)),
     }
 }
 

@@ -1,4 +1,4 @@
-//! The events of a scenario, and what they are run by.
+//! The events of a scenario, and how they are run.
 
 ghost use Rattle.std.specs.Prelude.{All};
 ghost use Rattle.sim_scenario.specs.Events.{FitsAddressed, FitsEvent, FitsFileEvent};
@@ -7,8 +7,8 @@ use crate::events::{AddressedEvent, FileEvent};
 use its_world::Event;
 use sim_settings::{Air, Moves, Traffic};
 
-/// The events of a scenario, in the order of the document, and what they are run by. Each event has
-/// a station of 0 to 65535, a moment of 0 to 2^63 - 1, a speed in its range and a frame of 0 to
+/// The events of a scenario, in the order of the document, and how they are run. Each event has a
+/// station from 0 to 65535, a time from 0 to 2^63 - 1, a speed in its range and a frame of 0 to
 /// 4294967295. There may be no such station or frame.
 #[derive(Debug, Drop, PartialEq, Eq)]
 pub enum Timeline {

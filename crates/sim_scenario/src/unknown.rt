@@ -1,9 +1,8 @@
-//! Keys that are none of the words of their table.
+//! Unknown keys of tables, and the keys that they may mean.
 
-ghost use Rattle.sim_scenario.specs.Documents.{IsPastToml};
-ghost use Rattle.std.specs.Prelude.{◌≡◌, IfErr};
+ghost use Rattle.std.specs.Prelude.{◌≡◌};
 
-use crate::fault::ScenarioFault;
+use crate::fault::DocumentFault;
 use crate::part::Part;
 use crate::table_keys::keys_of;
 use cmd_quoting::OneLine;
@@ -12,7 +11,7 @@ use std::alloc::{AllocError, Global};
 use std::fmt;
 use toml::{Table, Value};
 
-/// A key that is not known in its table. It prints as its place in the scenario: `air: hop`,
+/// A key that is unknown in its table. It prints as its position in the scenario: `air: hop`,
 /// `expect 0: sent`, or `unknown: station 3: lattitude` if only a strict reading refuses it.
 #[derive(Debug, Drop, PartialEq, Eq)]
 pub struct UnknownKey {
@@ -32,15 +31,15 @@ impl UnknownKey {
         })
     }
 
-    /// The word of the table that may be meant: the first of those that are the fewest changes of a
-    /// letter away, at most two.
+    /// Returns the key of the table that may be meant: the first of those that differ in the fewest
+    /// letters, at most two.
     pub fn nearest(&self) -> Option<Key>
         ensures { result ≡ self.now.nearest }
     {
         self.nearest
     }
 
-    /// That word as a question to the reader. `None` if there is none.
+    /// Returns that key as a question to the reader, if there is one.
     pub fn tip(&self) -> Option<Tip> {
         self.nearest().map(Tip)
     }
@@ -51,7 +50,7 @@ impl UnknownKey {
     }
 }
 
-/// The word that may be meant by a key. It prints as `did you mean 'event'?`.
+/// The key that may be meant by an unknown one. It prints as `did you mean 'event'?`.
 #[derive(Clone, Copy, Debug, PartialEq, Eq)]
 pub struct Tip(Key);
 
@@ -72,17 +71,17 @@ impl fmt::Display for UnknownKey {
     }
 }
 
-/// Whether an unknown key of a part is refused by a strict reading alone.
+/// Whether only a strict reading refuses an unknown key of this part.
 fn is_strict_alone(part: Part) -> bool {
     matches!(part, Part::Station(_) | Part::Event(_))
 }
 
-/// Whether a name is one of these words.
+/// Whether a name is one of these keys.
 fn is_known(name: &str, known: &[Key]) -> bool {
     known.iter().any(|key| key.word() == name)
 }
 
-/// The first key of a table, by its octets, that is none of these words.
+/// Returns the first key of a table, in the order of octets, that is not one of these.
 fn first_unknown<'a>(table: &'a Table, known: &[Key]) -> Option<&'a str> {
     for name in table.keys() {
         if !is_known(name.as_str(), known) {
@@ -140,8 +139,8 @@ fn add_unknown(
     Ok(())
 }
 
-/// A key that is missing from a part of the scenario that has an unknown key of a similar name. It
-/// prints as the missing one's place in the scenario: `air: range`.
+/// A key that is missing from a part of the scenario, which has an unknown key with a similar name.
+/// It prints as the missing key's position in the scenario: `air: range`.
 #[derive(Debug, Drop, PartialEq, Eq)]
 pub struct Misspelled {
     /// The part of the scenario. `None` for the scenario itself.
@@ -151,15 +150,15 @@ pub struct Misspelled {
 }
 
 impl Misspelled {
-    /// The name that stands there in place of the missing key. It prints as
-    /// `missing: did you mean 'range' by 'rnage'?`.
+    /// Writes the unknown key and the one that it may mean, for example `missing: did you mean
+    /// 'range' by 'rnage'?`.
     pub(crate) fn write_reason<W: fmt::Write>(&self, f: &mut fmt::Formatter<W>) -> fmt::Result {
         let (key, name) = (self.missing, OneLine(self.name.as_str()));
         write!(f, "missing: did you mean '{key}' by '{name}'?")
     }
 
-    /// Returns the first key of this part's table, by its octets, that is unknown and may mean the
-    /// missing one. `None` if there is no such key.
+    /// Returns the first key of this part's table, in the order of octets, that is unknown and may
+    /// mean the missing one. `None` if there is no such key.
     pub(crate) fn find(
         alloc: Global,
         table: &Table,
@@ -190,33 +189,35 @@ impl fmt::Display for Misspelled {
     }
 }
 
-/// Refuses a part of the scenario that has an unknown key: `Unknown` with the first, by its octets.
-pub(crate) fn refuse_unknown(alloc: Global, table: &Table, part: Part) -> Result<(), ScenarioFault>
-    ensures { IfErr result IsPastToml }
-{
+/// Refuses a part of the scenario that has an unknown key: `Unknown` with the first, in the order
+/// of octets.
+pub(crate) fn refuse_unknown(
+    alloc: Global,
+    table: &Table,
+    part: Part,
+) -> Result<(), DocumentFault> {
     refuse_unknown_of(alloc, table, Some(part))
 }
 
 /// Refuses a part of the scenario, or the scenario itself, that has an unknown key.
-fn refuse_unknown_of(alloc: Global, table: &Table, part: Option<Part>) -> Result<(), ScenarioFault>
-    ensures { IfErr result IsPastToml }
-{
+fn refuse_unknown_of(
+    alloc: Global,
+    table: &Table,
+    part: Option<Part>,
+) -> Result<(), DocumentFault> {
     match first_unknown(table, keys_of(part)) {
-        Some(name) => Err(ScenarioFault::Unknown(UnknownKey::of(alloc, part, name)?)),
+        Some(name) => Err(DocumentFault::Unknown(UnknownKey::of(alloc, part, name)?)),
         None => Ok(()),
     }
 }
 
-/// Refuses each key of the scenario, of its stations and of its events that is none of their words,
-/// in this order.
+/// Refuses each unknown key of the scenario, of its stations and of its events, in this order.
 pub(crate) fn refuse_all_unknown(
     alloc: Global,
     document: &Table,
     stations: &[Value],
     events: &[Value],
-) -> Result<(), ScenarioFault>
-    ensures { IfErr result IsPastToml }
-{
+) -> Result<(), DocumentFault> {
     refuse_unknown_of(alloc, document, None)?;
     for (number, station) in stations.iter().enumerate() {
         refuse_unknown_in(alloc, station, Part::Station(number))?;
@@ -224,10 +225,8 @@ pub(crate) fn refuse_all_unknown(
     refuse_unknown_events(alloc, events)
 }
 
-/// Refuses each key of these events that is none of their words.
-fn refuse_unknown_events(alloc: Global, events: &[Value]) -> Result<(), ScenarioFault>
-    ensures { IfErr result IsPastToml }
-{
+/// Refuses each unknown key of these events.
+fn refuse_unknown_events(alloc: Global, events: &[Value]) -> Result<(), DocumentFault> {
     for (number, event) in events.iter().enumerate() {
         refuse_unknown_in(alloc, event, Part::Event(number))?;
     }
@@ -235,9 +234,7 @@ fn refuse_unknown_events(alloc: Global, events: &[Value]) -> Result<(), Scenario
 }
 
 /// Refuses a value that is a table and has an unknown key.
-fn refuse_unknown_in(alloc: Global, item: &Value, part: Part) -> Result<(), ScenarioFault>
-    ensures { IfErr result IsPastToml }
-{
+fn refuse_unknown_in(alloc: Global, item: &Value, part: Part) -> Result<(), DocumentFault> {
     match item {
         Value::Table(table) => refuse_unknown(alloc, table, part),
         _ => Ok(()),

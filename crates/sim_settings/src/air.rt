@@ -1,4 +1,4 @@
-//! The air of a scenario.
+//! The radio model of a scenario.
 
 ghost use Rattle.std.specs.Prelude.{◌≤◌, ◌<◌, ◌^◌, IfSome};
 ghost use Rattle.std.proofs.Props.{props};
@@ -8,19 +8,19 @@ use its_contention::ContentionRule;
 /// How frames go from station to station by themselves.
 #[derive(Clone, Copy, Debug, PartialEq, Eq)]
 pub struct Air {
-    /// How far a frame is heard: 1 to 65535 m.
+    /// The range in which a frame is received: 1 to 65535 m.
     pub range: u16,
-    /// The milliseconds from a frame's sending to its deliveries.
+    /// The milliseconds from the send of a frame to its deliveries.
     pub delay: u16,
-    /// How many deliveries of a hundred are lost: 0 to 100.
+    /// The percentage of deliveries that are lost: 0 to 100.
     pub loss: u8,
-    /// What the draws begin with: 0 to 2^63 - 1.
+    /// The seed of the random numbers: 0 to 2^63 - 1.
     pub seed: u64,
-    /// Whether each station ticks by itself.
+    /// Whether each station sends beacons by itself.
     pub beacons: bool,
-    /// The last moment that is run, in milliseconds: 0 to 2^62. Where none is given, the events tell.
+    /// The last time that is run, in milliseconds: 0 to 2^62. Without it, the events set the end.
     pub until: Option<u64>,
-    /// Whether stations contend, where they have no value of their own.
+    /// Whether stations without a value of their own contend.
     pub contends: bool,
     /// The rule of the stations that contend.
     pub rule: ContentionRule,

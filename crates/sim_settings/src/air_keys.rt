@@ -1,4 +1,4 @@
-//! Reading an air.
+//! Reads the table `air`: a radio model.
 
 ghost use Rattle.std.specs.Prelude.{◌≤◌, ◌<◌, ◌^◌, IfOk, IfSome, false};
 ghost use Rattle.its_words.specs.Fields.{IsNumberIf, IsNumberOr, IsTruthOr};
@@ -9,7 +9,7 @@ use crate::air::Air;
 use its_contention::ContentionRule;
 use its_words::keys::{Fields, Key, KeyFault, Wrong, number, truth, whole, whole_or};
 
-/// The rule where nothing is given: `ContentionRule::DEFAULT`.
+/// The default rule of contention: `ContentionRule::DEFAULT`.
 const USUAL_MAX_WAIT: i64 = 100;
 
 const USUAL_MIN_WAIT: i64 = 1;
@@ -44,7 +44,7 @@ pub fn read_air<F: Fields>(fields: &F) -> Result<Air, KeyFault>
     })
 }
 
-/// How many deliveries of a hundred are lost: none, where nothing is given.
+/// Reads the percentage of deliveries that are lost (default 0).
 fn read_loss<F: Fields>(fields: &F) -> Result<u8, KeyFault>
     ensures says { IfOk result (IsNumberOr (F.values fields.now) keys.Loss 0) }
     ensures most { IfOk result (λ percent. percent ≤ 100) }
@@ -52,7 +52,7 @@ fn read_loss<F: Fields>(fields: &F) -> Result<u8, KeyFault>
     Ok(whole_or(fields, Key::Loss, 0)? as u8)
 }
 
-/// What the draws begin with: 0, where nothing is given.
+/// Reads the seed of the random numbers (default 0).
 fn read_seed<F: Fields>(fields: &F) -> Result<u64, KeyFault>
     ensures says { IfOk result (IsNumberOr (F.values fields.now) keys.Seed 0) }
     ensures fits { IfOk result (λ seed. seed < 2 ^ 63) }
@@ -60,7 +60,7 @@ fn read_seed<F: Fields>(fields: &F) -> Result<u64, KeyFault>
     Ok(whole_or(fields, Key::Seed, 0)? as u64)
 }
 
-/// Whether stations tick by themselves: they don't, where nothing is given.
+/// Reads whether stations send beacons by themselves (default `false`).
 fn read_beacons<F: Fields>(fields: &F) -> Result<bool, KeyFault>
     ensures { IfOk result (IsTruthOr (F.values fields.now) keys.Beacons false) }
 {
@@ -71,7 +71,7 @@ fn read_beacons<F: Fields>(fields: &F) -> Result<bool, KeyFault>
     }
 }
 
-/// The last moment that is run, where it is given.
+/// Reads the last time that is run, if it is given.
 fn read_until<F: Fields>(fields: &F) -> Result<Option<u64>, KeyFault>
     ensures says { IfOk result (IsNumberIf (F.values fields.now) keys.Until) }
     ensures most { IfOk result (λ until. IfSome until (λ moment. moment ≤ 2 ^ 62)) }
@@ -82,7 +82,7 @@ fn read_until<F: Fields>(fields: &F) -> Result<Option<u64>, KeyFault>
     Ok(Some(whole(fields, Key::Until)? as u64))
 }
 
-/// Whether stations contend, or `other` where nothing is given.
+/// Reads whether stations contend (default `other`).
 pub fn read_contends<F: Fields>(fields: &F, other: bool) -> Result<bool, KeyFault>
     ensures { IfOk result (IsTruthOr (F.values fields.now) keys.Contention other) }
 {
@@ -93,8 +93,8 @@ pub fn read_contends<F: Fields>(fields: &F, other: bool) -> Result<bool, KeyFaul
     }
 }
 
-/// The rule of the stations that contend: waits of 1 to 100 ms, a range of 1000 m and two copies,
-/// where nothing is given.
+/// Reads the rule of the stations that contend (default: waits of 1 to 100 ms, a range of 1000 m
+/// and two copies).
 fn read_rule<F: Fields>(fields: &F) -> Result<ContentionRule, KeyFault>
     ensures { IfOk result (SaysRule (F.values fields.now)) }
 {
@@ -113,28 +113,28 @@ fn read_rule<F: Fields>(fields: &F) -> Result<ContentionRule, KeyFault>
     }
 }
 
-/// The greatest wait.
+/// Reads the greatest wait.
 fn read_max_wait<F: Fields>(fields: &F) -> Result<u16, KeyFault>
     ensures { IfOk result (IsNumberOr (F.values fields.now) keys.ContentionMax 100) }
 {
     Ok(whole_or(fields, Key::ContentionMax, USUAL_MAX_WAIT)? as u16)
 }
 
-/// The least wait.
+/// Reads the least wait.
 fn read_min_wait<F: Fields>(fields: &F) -> Result<u16, KeyFault>
     ensures { IfOk result (IsNumberOr (F.values fields.now) keys.ContentionMin 1) }
 {
     Ok(whole_or(fields, Key::ContentionMin, USUAL_MIN_WAIT)? as u16)
 }
 
-/// The distance of the sender from which on the wait is the least.
+/// Reads the distance of the sender from which on the wait is the least.
 fn read_contention_range<F: Fields>(fields: &F) -> Result<u16, KeyFault>
     ensures { IfOk result (IsNumberOr (F.values fields.now) keys.ContentionRange 1000) }
 {
     Ok(whole_or(fields, Key::ContentionRange, USUAL_RANGE)? as u16)
 }
 
-/// How many other stations cancel a frame.
+/// Reads how many other stations cancel a frame.
 fn read_copies<F: Fields>(fields: &F) -> Result<u8, KeyFault>
     ensures { IfOk result (IsNumberOr (F.values fields.now) keys.ContentionCopies 2) }
 {

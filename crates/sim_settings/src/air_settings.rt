@@ -1,4 +1,4 @@
-//! Values of the air that stand in place of a scenario's.
+//! Values that replace those of a scenario's radio model.
 
 ghost use Rattle.std.specs.Prelude.{◌≡◌, Some, None, IfNone, IfOk, IfSome, map};
 ghost use Rattle.its_words.specs.Keys.{word_of};
@@ -13,7 +13,7 @@ use std::fmt;
 use thiserror::Error;
 use toml::Table;
 
-/// The keys of the air, in the order in which they are checked.
+/// The keys of the radio model, in the order in which they are checked.
 pub const AIR_KEYS: [Key; 11] = [
     Key::Range,
     Key::Delay,
@@ -28,8 +28,7 @@ pub const AIR_KEYS: [Key; 11] = [
     Key::ContentionCopies,
 ];
 
-/// Values of keys of the air, each of which stands in place of the scenario's own. `default` has
-/// none.
+/// Values of keys of the radio model. Each replaces the scenario's own. `default` has none.
 #[derive(Clone, Copy, Debug, Default, PartialEq, Eq)]
 pub struct AirSettings {
     range: Option<i64>,
@@ -45,23 +44,23 @@ pub struct AirSettings {
     contention_copies: Option<i64>,
 }
 
-/// A key that is not one of the air, or whose value the air doesn't take. Its text is what follows
-/// `geostation: ` on standard error.
+/// A key that is not one of the radio model, or that has an invalid value. It prints as what
+/// follows `geostation: ` on standard error.
 #[derive(Clone, Copy, Debug, PartialEq, Eq, Error)]
 #[error("--set: {}", OneLine(*.word))]
 pub struct SettingFault<'a> {
     /// The key, as it was given.
     pub word: &'a str,
-    /// What is wrong with its value, where it is one of the air's.
+    /// What is wrong with its value, if the key is one of the radio model.
     pub wrong: Option<WrongValue<Quoted<'a>>>,
 }
 
-/// What is wrong with a setting, as words.
+/// What is wrong with a setting. It prints as a sentence.
 #[derive(Clone, Copy, Debug, PartialEq, Eq)]
 pub enum SettingReason<'a> {
-    /// Its key is not one of the air. This key may be meant.
+    /// Its key is not one of the radio model. This key may be meant.
     Meant(Key),
-    /// Its value isn't taken.
+    /// Its value is invalid.
     Value(WrongValue<Quoted<'a>>),
 }
 
@@ -75,9 +74,9 @@ impl fmt::Display for SettingReason<'_> {
 }
 
 impl<'a> SettingFault<'a> {
-    /// Returns what is wrong with it: with its value or, if its key is not one of the air, the key
-    /// that may be meant. That is the first one that needs the fewest changes of a letter. `None`
-    /// if each needs more than two.
+    /// Returns what is wrong with its value or, if its key is not one of the radio model, the key
+    /// that may be meant. That is the first key that differs in the fewest letters. `None` if each
+    /// differs in more than two.
     pub fn reason(&self, alloc: Global) -> Result<Option<SettingReason<'a>>, AllocError>
         ensures value { IfSome self.now.wrong (λ wrong. IfOk result (λ reason.
             reason ≡ Some (SettingReason.Value wrong))) }
@@ -97,11 +96,12 @@ impl<'a> SettingFault<'a> {
 }
 
 impl AirSettings {
-    /// Takes the value of `KEY=VALUE`, in place of one that was given before: decimal digits or,
-    /// for `beacons` and `contention`, `true` or `false`. The key ends at the first `=`, or at the end if there is
-    /// no `=`.
+    /// Takes the value of `KEY=VALUE`, which replaces an earlier one: decimal digits or, for
+    /// `beacons` and `contention`, `true` or `false`. The key ends at the first `=`, or at the end
+    /// if there is no `=`.
     ///
-    /// Refuses a key that is not one of the air, that has no value, or one out of its range.
+    /// Refuses a key that is not one of the radio model, that has no value, or that has a value out
+    /// of its range.
     pub fn set<'a>(&mut self, text: &'a str) -> Result<(), SettingFault<'a>> {
         let setting = Setting::of(text);
         let word = setting.word;
@@ -114,7 +114,7 @@ impl AirSettings {
         })
     }
 
-    /// Keeps the value of the key of a setting. `None` if the key is not one of the air.
+    /// Keeps the value of the key of a setting. `None` if the key is not one of the radio model.
     fn set_key(&mut self, setting: &Setting<'_>) -> Option<Result<(), KeyFault>> {
         Some(match setting.word {
             "range" => set_whole(&mut self.range, setting, Key::Range),
@@ -143,12 +143,12 @@ impl AirSettings {
         })
     }
 
-    /// Whether there is a value of a key.
+    /// Whether no key has a value.
     pub fn is_empty(&self) -> bool {
         *self == AirSettings::default()
     }
 
-    /// The whole number of a key.
+    /// Returns the whole number of a key, if it has one.
     fn number(&self, word: &str) -> Option<i64>
         ensures { result ≡ set_number self.now word.now }
     {
@@ -166,7 +166,7 @@ impl AirSettings {
         }
     }
 
-    /// The truth of a key.
+    /// Returns the truth value of a key, if it has one.
     fn truth(&self, word: &str) -> Option<bool>
         ensures { result ≡ set_truth self.now word.now }
     {
@@ -184,7 +184,7 @@ fn set_whole(kept: &mut Option<i64>, setting: &Setting<'_>, key: Key) -> Result<
     Ok(())
 }
 
-/// Keeps the truth of a key.
+/// Keeps the truth value of a key.
 fn set_truth(kept: &mut Option<bool>, setting: &Setting<'_>, key: Key) -> Result<(), KeyFault> {
     *kept = Some(truth(setting, key)?);
     Ok(())
@@ -195,14 +195,14 @@ fn set_truth(kept: &mut Option<bool>, setting: &Setting<'_>, key: Key) -> Result
 struct Setting<'a> {
     word: &'a str,
     value: Option<&'a str>,
-    /// The whole number of the value, where it is decimal digits.
+    /// The whole number of the value, if that is decimal digits.
     number: Option<i64>,
-    /// The truth of the value, where it is one.
+    /// The truth value, if the value is one.
     truth: Option<bool>,
 }
 
 impl<'a> Setting<'a> {
-    /// Those of `KEY=VALUE`.
+    /// Splits `KEY=VALUE`.
     fn of(text: &'a str) -> Setting<'a> {
         let (word, value) = match text.split_once('=') {
             Some((word, value)) => (word, Some(value)),
@@ -216,14 +216,15 @@ impl<'a> Setting<'a> {
         }
     }
 
-    /// What is wrong with its value, by the fault of its key. `None` where an allocation failed.
+    /// Returns what is wrong with its value, by the fault of its key. `None` if an allocation
+    /// failed.
     fn wrong(&self, fault: KeyFault) -> Option<WrongValue<Quoted<'a>>> {
         let value = self.value.map(Quoted);
         fault.wrong().map(|wrong| WrongValue { wrong, value })
     }
 }
 
-/// The whole number of decimal digits.
+/// Reads decimal digits as a whole number.
 fn number_in(digits: &str) -> Option<i64> {
     if digits.bytes().all(|octet| octet.is_ascii_digit()) {
         digits.parse().ok()
@@ -232,7 +233,7 @@ fn number_in(digits: &str) -> Option<i64> {
     }
 }
 
-/// The truth of its word.
+/// Reads `true` or `false`.
 fn truth_in(word: &str) -> Option<bool> {
     match word {
         "true" => Some(true),
@@ -270,10 +271,10 @@ impl Fields for Setting<'_> {
     }
 }
 
-/// The table of an air, with values that stand in place of its own.
+/// The table of a radio model, with values that replace its own.
 #[derive(Clone, Copy)]
 pub struct SetAir<'a> {
-    /// The table of the air.
+    /// The table of the radio model.
     pub table: &'a Table,
     /// The values.
     pub settings: &'a AirSettings,

@@ -9,24 +9,24 @@ use its_words::keys::{Fields, Key, KeyFault, number, whole};
 /// At how many stations a packet has to be delivered.
 #[derive(Clone, Copy, Debug, PartialEq, Eq)]
 pub enum Reached {
-    /// At so many of those that stand in its area when it is sent, with its port open.
+    /// At this many of the stations that are inside its area when it is sent, with its port open.
     AtLeast(u16),
-    /// At all of them.
+    /// At all of these stations.
     All,
 }
 
 /// What is expected of one packet for an area.
 #[derive(Clone, Copy, Debug, PartialEq, Eq)]
 pub struct Expectation {
-    /// The packet, by its place among those that are sent, from 0: 0 to 4294967295.
+    /// The number of the packet among those that are sent, from 0: 0 to 4294967295.
     pub send: usize,
     /// At how many stations it has to be delivered.
     pub reached: Reached,
-    /// In at most so many milliseconds from the send: 0 to 2^62. Else whenever it is.
+    /// The most milliseconds from the send: 0 to 2^62. `None` if any time will do.
     pub within: Option<u64>,
 }
 
-/// Reads what is expected: `send`, `reached`, `within`, checked in this order. The last may be
+/// Reads an expectation: `send`, `reached`, `within`, checked in this order. The last may be
 /// missing.
 pub fn read_expectation<F: Fields>(fields: &F) -> Result<Expectation, KeyFault>
     ensures { IfOk result (SaysExpectation (F.values fields.now)) }
@@ -38,7 +38,7 @@ pub fn read_expectation<F: Fields>(fields: &F) -> Result<Expectation, KeyFault>
     })
 }
 
-/// At how many stations a packet has to be delivered: a number, or `all`.
+/// Reads at how many stations a packet has to be delivered: a number, or `all`.
 fn read_reached<F: Fields>(fields: &F) -> Result<Reached, KeyFault>
     ensures { IfOk result (SaysReached (F.values fields.now)) }
 {
@@ -48,7 +48,7 @@ fn read_reached<F: Fields>(fields: &F) -> Result<Reached, KeyFault>
     }
 }
 
-/// In how many milliseconds, where that is given.
+/// Reads within how many milliseconds, if that is given.
 fn read_within<F: Fields>(fields: &F) -> Result<Option<u64>, KeyFault>
     ensures { IfOk result (IsNumberIf (F.values fields.now) keys.Within) }
 {

@@ -1,10 +1,10 @@
-//! How a scenario runs, by the tables that need no world: its air, what its stations send by
-//! themselves, how the moves of a file are read, and what is expected of the run.
+//! How a scenario is run, by the tables that need no world: its radio model, its periodic traffic,
+//! how the moves of a file are read, and what is expected of the run.
 //!
 //! # What is proved
 //!
-//! Settings are in range by their types and clauses (`Air`, `Traffic`, `Moves`): each field is what
-//! stands under its key, in the range of the one table of keys (`its_words`), or its default.
+//! Settings are in range by their types and clauses (`Air`, `Traffic`, `Moves`): each field is the
+//! value of its key, in the range that the table of keys has (`its_words`), or its default.
 //!
 //! # Only tested
 //!
@@ -14,7 +14,7 @@
 //!
 //! # By review
 //!
-//! A key is looked up once for each value that is read.
+//! Each key that is read is looked up once.
 #![tactic(auto)]
 
 mod air;

@@ -7,16 +7,16 @@ use its_gnvalue::Mac;
 /// How the moves of a file are read, and what stations they make.
 #[derive(Debug, Drop, PartialEq, Eq)]
 pub struct Moves {
-    /// The moment of the file at which the run begins, in milliseconds: 0 to 2^62.
+    /// The time of the file at which the run begins, in milliseconds: 0 to 2^62.
     pub begin: u64,
-    /// After so many milliseconds without a row its station leaves: 1 to 4294967295.
+    /// After this many milliseconds without a row a station departs: 1 to 4294967295.
     pub gone: u32,
-    /// The MID of the first station that a row makes, which is no group's; that of each further one
-    /// is greater by one.
+    /// The MID of the first station that a row makes, which is not that of a group. Each further
+    /// one is greater by one.
     pub mid: Mac,
-    /// For how many sources the location table of such a station has room: 1 to 4096.
+    /// The size of the location table of such a station: 1 to 4096.
     pub capacity: u16,
-    /// How many sequence numbers it remembers of a source: 1 to 64.
+    /// The length of its duplicate packet lists: 1 to 64.
     pub remember: u8,
     /// The ports that it opens: at most 64, each once.
     pub ports: Vec<u16>,

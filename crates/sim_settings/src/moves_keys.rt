@@ -1,4 +1,4 @@
-//! Reading how the moves of a file are read.
+//! Reads the table `moves`: how the moves of a file are read.
 
 ghost use Rattle.std.specs.Prelude.{◌≤◌, ◌^◌, IfOk};
 ghost use Rattle.its_words.specs.Fields.{IsNumberOr};
@@ -16,23 +16,23 @@ use its_words::keys::{Fields, Key, KeyFault, Wrong, octets_into, whole_or};
 use std::alloc::Global;
 use toml::{Table, Value};
 
-/// After how many milliseconds a station leaves where nothing is given.
+/// The default time after which a station departs, in milliseconds.
 const USUAL_TIME: i64 = 1000;
 
-/// The capacity where none is given.
+/// The default size of the location table.
 const USUAL_ENTRIES: i64 = 1024;
 
-/// How many numbers are remembered of a source where nothing is given.
+/// The default length of the duplicate packet lists.
 const USUAL_NUMBERS: i64 = 8;
 
-/// The first MID where none is given.
+/// The default of the first MID.
 const USUAL_MID: [u8; 6] = [0x02, 0x01, 0x00, 0x00, 0x00, 0x01];
 
 /// How many ports there are at most.
 const MOST_PORTS: usize = 64;
 
 impl Moves {
-    /// Those of which nothing is given. `contends` is the value of the air.
+    /// Returns the moves of an empty table. `contends` is the value of the radio model.
     pub fn usual(alloc: Global, contends: bool) -> Moves
         ensures { SaysMoves contends no_members result }
     {
@@ -48,9 +48,9 @@ impl Moves {
     }
 }
 
-/// Reads `begin`, `gone`, `mid`, `capacity`, `remember`, `ports`, `contention`, checked in this
-/// order. Each may be missing: 0, 1000, 020100000001, 1024, 8, no port and `contends`, which is the
-/// value of the air, stand for them then.
+/// Reads `begin` (default 0), `gone` (1000), `mid` (020100000001), `capacity` (1024), `remember`
+/// (8), `ports` (none) and `contention` (`contends`, the value of the radio model), checked in this
+/// order.
 pub fn read_moves(alloc: Global, table: &Table, contends: bool) -> Result<Moves, KeyFault>
     ensures { IfOk result (SaysMoves contends (table_view table.now)) }
 {
@@ -66,7 +66,7 @@ pub fn read_moves(alloc: Global, table: &Table, contends: bool) -> Result<Moves,
     })
 }
 
-/// The moment at which the run begins.
+/// Reads the time at which the run begins.
 fn read_begin<F: Fields>(fields: &F) -> Result<u64, KeyFault>
     ensures says { IfOk result (IsNumberOr (F.values fields.now) keys.Begin 0) }
     ensures most { IfOk result (λ begin. begin ≤ 2 ^ 62) }
@@ -74,7 +74,7 @@ fn read_begin<F: Fields>(fields: &F) -> Result<u64, KeyFault>
     Ok(whole_or(fields, Key::Begin, 0)? as u64)
 }
 
-/// After how long a station without a row leaves.
+/// Reads after how long a station without a row departs.
 fn read_time<F: Fields>(fields: &F) -> Result<u32, KeyFault>
     ensures says { IfOk result (IsNumberOr (F.values fields.now) keys.Gone 1000) }
     ensures least { IfOk result (λ gone. 1 ≤ gone) }
@@ -82,7 +82,7 @@ fn read_time<F: Fields>(fields: &F) -> Result<u32, KeyFault>
     Ok(whole_or(fields, Key::Gone, USUAL_TIME)? as u32)
 }
 
-/// For how many sources there is room.
+/// Reads the size of the location table.
 fn read_capacity<F: Fields>(fields: &F) -> Result<u16, KeyFault>
     ensures says { IfOk result (IsNumberOr (F.values fields.now) keys.Capacity 1024) }
     ensures least { IfOk result (λ capacity. 1 ≤ capacity) }
@@ -91,7 +91,7 @@ fn read_capacity<F: Fields>(fields: &F) -> Result<u16, KeyFault>
     Ok(whole_or(fields, Key::Capacity, USUAL_ENTRIES)? as u16)
 }
 
-/// How many numbers are remembered.
+/// Reads the length of the duplicate packet lists.
 fn read_remember<F: Fields>(fields: &F) -> Result<u8, KeyFault>
     ensures says { IfOk result (IsNumberOr (F.values fields.now) keys.Remember 8) }
     ensures least { IfOk result (λ remember. 1 ≤ remember) }
@@ -100,7 +100,7 @@ fn read_remember<F: Fields>(fields: &F) -> Result<u8, KeyFault>
     Ok(whole_or(fields, Key::Remember, USUAL_NUMBERS)? as u8)
 }
 
-/// The first MID, of 12 hexadecimal digits.
+/// Reads the first MID, of 12 hexadecimal digits.
 fn read_mid<F: Fields>(fields: &F) -> Result<Mac, KeyFault>
     ensures { IfOk result (IsMid (F.values fields.now)) }
 {
@@ -111,7 +111,7 @@ fn read_mid<F: Fields>(fields: &F) -> Result<Mac, KeyFault>
     Ok(mid)
 }
 
-/// The octets of the first MID.
+/// Reads the octets of the first MID.
 fn mid_octets<F: Fields>(fields: &F) -> Result<[u8; 6], KeyFault>
     ensures { IfOk result (AreMidOctets (F.values fields.now)) }
 {
@@ -122,7 +122,7 @@ fn mid_octets<F: Fields>(fields: &F) -> Result<[u8; 6], KeyFault>
     Ok(octets)
 }
 
-/// The ports that are opened.
+/// Reads the ports that are opened.
 fn read_ports(alloc: Global, table: &Table) -> Result<Vec<u16>, KeyFault>
     ensures { IfOk result (λ ports. SaysPorts (table_view table.now) ports.items) }
 {
@@ -132,7 +132,7 @@ fn read_ports(alloc: Global, table: &Table) -> Result<Vec<u16>, KeyFault>
     }
 }
 
-/// The ports that these values are.
+/// Reads these values as ports.
 fn ports_in(alloc: Global, items: &[Value]) -> Result<Vec<u16>, KeyFault>
     ensures { IfOk result (λ ports. ArePorts (items_view items.now) ports.items) }
 {
@@ -150,7 +150,7 @@ fn ports_in(alloc: Global, items: &[Value]) -> Result<Vec<u16>, KeyFault>
     Ok(ports)
 }
 
-/// The port that a value is.
+/// Reads a value as a port.
 fn port_in(item: &Value) -> Result<u16, KeyFault>
     ensures { IfOk result (IsPort (view item.now)) }
 {

@@ -1,4 +1,4 @@
-//! The tables of a document of TOML, as what keys are read from.
+//! Tables of a TOML document, from which keys are read.
 
 ghost use Rattle.std.specs.Prelude.{◌≡◌, IfSome};
 ghost use Rattle.std.specs.Option.{option_map};
@@ -9,7 +9,7 @@ ghost use Rattle.sim_settings.specs.Tables.{items_of_found};
 use its_words::keys::Fields;
 use toml::{Table, Value};
 
-/// The values of a table of TOML, under the words of keys.
+/// The values of a TOML table, by the names of keys.
 #[derive(Clone, Copy)]
 pub struct TomlFields<'a>(
     /// The table.
@@ -38,7 +38,7 @@ impl Fields for TomlFields<'_> {
     }
 }
 
-/// What stands under a word of a table, of whatever kind. `None` where nothing does.
+/// Returns the value under a key of a table, of any kind. `None` without the key.
 #[tactic(auto, using(toml::proofs::Views::table_get))]
 pub fn value_of<'a>(table: &'a Table, word: &str) -> Option<&'a Value>
     ensures { option_map (λ value. view value.now) result
@@ -47,8 +47,8 @@ pub fn value_of<'a>(table: &'a Table, word: &str) -> Option<&'a Value>
     table.get(word)
 }
 
-/// The items of the array under a word of a table: none where the word is missing, `None` where its
-/// value is no array.
+/// Returns the items of the array under a key of a table: none if the key is missing. `None` if its
+/// value is not an array.
 pub fn items_of<'a>(table: &'a Table, word: &str) -> Option<&'a [Value]>
     ensures { IfSome result (λ items.
         items_of_found (get_member word.now (table_view table.now)) ≡ Some (items_view items.now)) }

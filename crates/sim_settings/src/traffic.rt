@@ -1,10 +1,10 @@
-//! What the stations of a scenario send by themselves.
+//! The periodic traffic of a scenario's stations.
 
 ghost use Rattle.std.specs.Prelude.{◌≤◌};
 
 use its_gnvalue::TrafficClass;
 
-/// What each station of an air sends again and again: a single-hop broadcast of so many zeros.
+/// What each station sends periodically: a single-hop broadcast of zeros.
 #[derive(Clone, Copy, Debug, PartialEq, Eq)]
 pub struct Traffic {
     /// The milliseconds from one send of a station to its next: 1 to 4294967295.

@@ -1,4 +1,4 @@
-//! Reading what the stations of a scenario send by themselves.
+//! Reads the periodic traffic of a scenario's stations.
 
 ghost use Rattle.std.specs.Prelude.{◌≤◌, IfOk};
 ghost use Rattle.its_words.specs.Fields.{IsNumber};
@@ -27,7 +27,7 @@ pub fn read_traffic<F: Fields>(fields: &F) -> Result<Traffic, KeyFault>
     })
 }
 
-/// The milliseconds from one send to the next.
+/// Reads the milliseconds from one send to the next.
 fn read_period<F: Fields>(fields: &F) -> Result<u32, KeyFault>
     ensures says { IfOk result (IsNumber (F.values fields.now) keys.Period) }
     ensures least { IfOk result (λ period. 1 ≤ period) }
@@ -35,7 +35,7 @@ fn read_period<F: Fields>(fields: &F) -> Result<u32, KeyFault>
     Ok(whole(fields, Key::Period)? as u32)
 }
 
-/// How many octets are sent.
+/// Reads how many octets are sent.
 fn read_length<F: Fields>(fields: &F) -> Result<u16, KeyFault>
     ensures says { IfOk result (IsNumber (F.values fields.now) keys.Octets) }
     ensures most { IfOk result (λ octets. octets ≤ 1394) }

@@ -1,11 +1,11 @@
-//! What an event does, in a word.
+//! The keyword of what an event does.
 
 use its_world::What;
 use sim_scenario::events::verb_of;
 use std::fmt;
 
-/// What an event does. It prints as the word that a scenario has for it, `deliver` with the frame's
-/// number after it.
+/// What an event does. It prints as its keyword in a scenario. `deliver` is followed by the number
+/// of the frame.
 #[derive(Clone, Copy, Debug)]
 pub(crate) struct ActionWord<'a>(pub(crate) &'a What);
 

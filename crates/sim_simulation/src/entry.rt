@@ -1,4 +1,4 @@
-//! What is told of an entry.
+//! The keys and the text of an entry.
 
 use crate::reason::EntryReason;
 use its_words::answers::words::{CLOSED, MOVED, OPENED, QUIET, RESTARTED};
@@ -6,10 +6,10 @@ use its_words::answers::{AnswerKeys, PrintedAnswer};
 use its_world::{Entry, EntryCode};
 use std::fmt;
 
-/// What is told of an entry: as keys in JSON, and as words in text.
+/// The contents of an entry: keys in JSON, keywords in text.
 pub(crate) type EntryKeys<'a> = PrintedAnswer<'a, EntryCode, EntryReason>;
 
-/// What is told of this entry.
+/// Returns the keys of this entry.
 pub(crate) fn entry_keys(entry: &Entry) -> EntryKeys<'_> {
     match entry {
         Entry::Moved => AnswerKeys::word(MOVED),
@@ -26,7 +26,7 @@ pub(crate) fn entry_keys(entry: &Entry) -> EntryKeys<'_> {
     }
 }
 
-/// The keys of an entry whose frame is held: all but that frame.
+/// Returns the keys of an entry whose frame is held: all except that frame.
 pub(crate) fn held_entry_keys(entry: &Entry) -> EntryKeys<'_> {
     match entry {
         Entry::Accepted { handed, .. } => AnswerKeys::accepted(handed, None),
@@ -34,13 +34,14 @@ pub(crate) fn held_entry_keys(entry: &Entry) -> EntryKeys<'_> {
     }
 }
 
-/// What is told of an event, as the program's lines show it: `opened`, `sent 0`,
-/// `accepted port 2002 info 0 6869 sent 1`, `refused S8 B2`.
+/// An entry as the program's lines show it: `opened`, `sent 0`, `accepted port 2002 info 0 6869
+/// sent 1`, `refused S8 B2`.
 #[derive(Clone, Copy, Debug, PartialEq, Eq)]
 pub struct EntryText<'a> {
-    /// What is told.
+    /// The entry.
     pub entry: &'a Entry,
-    /// Whether a refusal goes on with its sentence, as `refused M3 (there is no such frame)`.
+    /// Whether a refusal is followed by its sentence, for example `refused M3 (there is no such
+    /// frame)`.
     pub explain: bool,
 }
 

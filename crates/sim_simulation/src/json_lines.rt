@@ -16,20 +16,21 @@ use sim_settings::Air;
 use std::alloc::{AllocError, Global};
 use std::io::Write;
 
-/// Writes an object for each entry: `event`, `moment`, `station` and `do` of the event, what it has
-/// of `frame`, `lat` and `lon`, what is told of it from `result` on, and last `octets`, where a
-/// frame was given.
+/// Writes one object per entry: `event`, `moment`, `station` and `do` of the event, `frame`, `lat`
+/// and `lon` if the event has them, the keys of its entry from `result` on, and last `octets`, if a
+/// frame was sent.
 #[derive(Drop)]
 pub struct JsonLines<'a, W> {
     line: JsonLine,
     out: &'a mut W,
     notes: bool,
-    /// Whether stations that rows make contend, in a run in which any station does.
+    /// Whether stations that rows make contend. `None` if no station of the run contends.
     rows_contend: Option<bool>,
 }
 
 impl<'a, W: Write> JsonLines<'a, W> {
-    /// No line yet, and room for one; notes have none. It takes memory for that room.
+    /// Returns lines of which none is written. It allocates a buffer for one line. Notes have no
+    /// lines.
     pub fn new(alloc: Global, out: &'a mut W) -> Result<JsonLines<'a, W>, AllocError>
         ensures { IfOk result (λ lines. lines.notes ≡ false) }
     {
@@ -41,18 +42,18 @@ impl<'a, W: Write> JsonLines<'a, W> {
         })
     }
 
-    /// The same objects and, where it is asked for, those of notes among them, as
-    /// `{"note":"came","moment":500,"station":1}`.
+    /// Returns these lines with the objects of notes among them, for example
+    /// `{"note":"came","moment":500,"station":1}`, if `notes` is set.
     pub fn noting(self, notes: bool) -> JsonLines<'a, W>
         ensures { result ≡ record self.entry { notes = notes } }
     {
         JsonLines { notes, ..self }
     }
 
-    /// Writes the line of the stations, which stands before those of the events:
+    /// Writes the line of the stations, which comes before those of the events:
     /// `{"stations":[..]}`, with `address`, `lat` and `lon` of each.
     ///
-    /// `OutOfMemory` where an allocation failed, `Output` where a write did.
+    /// `OutOfMemory` if an allocation failed, `Output` if a write did.
     pub fn stations(&mut self, configs: &[Config]) -> Result<(), SimulationFault> {
         let stations = StationList {
             configs,
@@ -64,11 +65,11 @@ impl<'a, W: Write> JsonLines<'a, W> {
     /// Writes the line of a run with a radio model: its stations, the model and the version of the
     /// program, as `{"stations":[..],"air":{..},"version":".."}`. The model has `range`, `delay`,
     /// `loss`, `seed`, `beacons` and `until`, the last millisecond of the run, which is null if it
-    /// isn't known yet. If any station contends, it goes on with `contention` and the rule, and each
-    /// station has `contention`: `contention` says then which ones contend, and whether those of rows
-    /// do.
+    /// isn't known yet. If any station contends, `contention` and its rule follow, and each station
+    /// has `contention`. The argument `contention` says which stations contend, and whether those
+    /// of rows do.
     ///
-    /// `OutOfMemory` where an allocation failed, `Output` where a write did.
+    /// `OutOfMemory` if an allocation failed, `Output` if a write did.
     pub fn stations_in_air(
         &mut self,
         configs: &[Config],
@@ -87,10 +88,10 @@ impl<'a, W: Write> JsonLines<'a, W> {
         })
     }
 
-    /// Writes the line of a call that is no event of a world: `moment`, `station` and `do`, which is
-    /// this word, and what is told of it from `result` on.
+    /// Writes the line of a call that is not an event of a world: `moment`, `station`, `do`, which
+    /// is this keyword, and the keys of its entry from `result` on.
     ///
-    /// `OutOfMemory` where an allocation failed, `Output` where a write did.
+    /// `OutOfMemory` if an allocation failed, `Output` if a write did.
     pub fn call(
         &mut self,
         moment: u64,
@@ -142,7 +143,7 @@ impl<W: Write> EventSink for JsonLines<'_, W> {
     }
 }
 
-/// What is told of the stations.
+/// The line of the stations.
 #[derive(Clone, Copy, Serialize)]
 struct StationsLine<'a> {
     stations: StationList<'a>,
@@ -156,7 +157,7 @@ struct AirLine<'a> {
     version: &'static str,
 }
 
-/// What is told of an air.
+/// The keys of a radio model.
 #[derive(Clone, Copy, Serialize)]
 struct AirText {
     range: u16,
@@ -205,7 +206,7 @@ impl AirText {
     }
 }
 
-/// What is told of a call.
+/// The line of a call.
 #[derive(Clone, Copy, Serialize)]
 struct CallLine<'a> {
     moment: u64,
@@ -216,7 +217,7 @@ struct CallLine<'a> {
     told: EntryKeys<'a>,
 }
 
-/// What is told of a station that was made in a run.
+/// The line of a station that was made in a run.
 #[derive(Clone, Copy, Serialize)]
 struct MadeLine<'a> {
     station: usize,
@@ -225,7 +226,7 @@ struct MadeLine<'a> {
     at: StationText,
 }
 
-/// Which stations contend, of a run in which any does.
+/// Which stations contend, in a run in which any does.
 #[derive(Clone, Copy, Debug)]
 pub struct WhoContends<'a> {
     /// Whether each station of the scenario contends, in order.
@@ -234,7 +235,7 @@ pub struct WhoContends<'a> {
     pub rows: bool,
 }
 
-/// The stations, as an array, each with whether it contends, in a run in which any does.
+/// The stations as an array. In a run in which any station contends, each has whether it does.
 #[derive(Clone, Copy)]
 struct StationList<'a> {
     configs: &'a [Config],
@@ -254,13 +255,13 @@ impl Serialize for StationList<'_> {
 }
 
 impl StationList<'_> {
-    /// Whether the station of this number contends, in a run in which any does.
+    /// Returns whether the station with this number contends. `None` if no station of the run does.
     fn contends(&self, number: usize) -> Option<bool> {
         self.contend?.get(number).copied()
     }
 }
 
-/// What is told of a station.
+/// The keys of a station.
 #[derive(Clone, Copy, Serialize)]
 struct StationText {
     address: Digits<8>,

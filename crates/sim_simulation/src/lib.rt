@@ -1,25 +1,27 @@
-//! A scenario run as a world of stations, with a printed line for each event: words, or an object
-//! in JSON, of the same values.
+//! A scenario run as a world of stations, with one printed line per event: text, or a JSON object
+//! with the same values.
 //!
 //! # What is proved
 //!
-//! The conditions: the speed of each move in its range, at most 65535 stations. No clause says what
-//! a text is.
+//! The conditions are that the speed of each move is in its range, and that there are at most 65535
+//! stations. No clause says what a text is.
 //!
 //! A summary of the i-th packet that is sent (`IsSummary`) has a clause for each of these:
 //!
-//! - `send`, `moment`, `station`, `kind`, `port`: the event that sent it, by its place among the
-//!   events that the tally took; its moment and station, the kind and the port of its request.
-//! - `frames`: how many frames carry it, its own among them: a packet's own frame carries it; one
-//!   that was given for the delivery of another carries what that one does, one relay deeper; all
-//!   others carry none (`carried`).
+//! - `send`, `moment`, `station`, `kind`, `port`: the event that sent it, by its number among the
+//!   events that the tally took; the time and station of that event, and the kind and port of its
+//!   request.
+//! - `frames`: how many frames carry it, with its own. A packet's own frame carries it. A frame
+//!   that was sent at the delivery of another carries what that one does, forwarded once more. All
+//!   other frames carry no packet (`carried`).
 //! - `delivered`: at how many stations a frame that carries it was delivered to the port: how many
 //!   deliveries of it are the first at their station (`firsts`).
-//! - `hops`: the most, over its deliveries, of one more than the depth of the frame; 0 without one.
+//! - `hops`: the most, over its deliveries, of how often the frame was forwarded, plus 1. 0 without
+//!   a delivery.
 //! - `last`: the most, over the first deliveries at each station, of the delivery's time minus the
-//!   send's; 0 without one.
+//!   time of the send. 0 without a delivery.
 //!
-//! Counts and depths stay at 2^64 - 1. If no frame was released, `late` is false; a run with a
+//! Counts and depths stop at 2^64 - 1. If no frame was released, `late` is false; a run with a
 //! radio model releases frames. With `run_air` the totals and summaries are those of the events of
 //! its run (`file`), which the radio model's timetable gives if no station contends (`timed`).
 //!

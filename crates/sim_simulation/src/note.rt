@@ -1,4 +1,4 @@
-//! What is told of a run beside its events.
+//! What happens in a run besides its events.
 
 ghost use Rattle.std.specs.Prelude.{◌≡◌};
 ghost use Rattle.sim_simulation.specs.Notes.{is_told};
@@ -8,11 +8,11 @@ use serde::Serialize;
 use sim_scenario::events::AddressedEvent;
 use std::fmt;
 
-/// What happens in an air and is no event of its world: it has no number and no entry.
+/// What happens in a radio model and is not an event of the world. It has no number and no entry.
 #[derive(Clone, Copy, Debug, PartialEq, Eq)]
 pub enum Note<'a> {
-    /// A station was made, which has this id in a file of moves. It is absent, and no event of it
-    /// was done.
+    /// A station was made, which has this id in a file of moves. It is absent, and none of its
+    /// events was done.
     Made {
         station: usize,
         id: &'a str,
@@ -25,22 +25,23 @@ pub enum Note<'a> {
     Left {
         station: usize,
     },
-    /// A frame that was just given will come to a station: no draw lost it.
+    /// A frame that was just sent will be delivered to a station. It was not lost.
     Heard {
         station: usize,
         frame: usize,
     },
-    /// A frame that was just given would have come to a station, and a draw lost it.
+    /// A frame that was just sent was in range of a station, and was lost at random on the way to
+    /// it.
     Lost {
         station: usize,
         frame: usize,
     },
-    /// A frame that a station held goes out, and is received by whom it is in the range of now.
+    /// A frame that a station held is sent. The stations that are now in range receive it.
     Released {
         station: usize,
         frame: usize,
     },
-    /// A frame that a station held goes to nobody, since the station restarted.
+    /// A frame that a station held is not sent, since the station restarted.
     Dropped {
         station: usize,
         frame: usize,
@@ -54,8 +55,8 @@ pub enum Note<'a> {
     },
 }
 
-/// A note and its moment in milliseconds. It prints as its line, `- 500 1 came`, `- 1001 1 lost 1`
-/// or `- 3000 - absent v1`, and as nothing where there is none.
+/// A note and its time in milliseconds. It prints as its line, for example `- 500 1 came`, `- 1001
+/// 1 lost 1` or `- 3000 - absent v1`. A note without a line prints as nothing.
 #[derive(Clone, Copy, Debug, PartialEq, Eq)]
 pub(crate) struct NoteText<'a> {
     pub(crate) moment: u64,
@@ -77,7 +78,7 @@ impl fmt::Display for NoteText<'_> {
     }
 }
 
-/// What the JSON of a note tells, its keys in order.
+/// The JSON object of a note, with its keys in order.
 #[derive(Clone, Copy, Serialize)]
 pub(crate) struct NoteLine<'a> {
     note: &'static str,
@@ -91,7 +92,7 @@ pub(crate) struct NoteLine<'a> {
 }
 
 impl<'a> NoteLine<'a> {
-    /// The line of a note, where it has one.
+    /// Returns the line of a note, if it has one.
     pub(crate) fn of(moment: u64, note: &Note<'a>) -> Option<NoteLine<'a>> {
         let (word, station, frame, id) = match *note {
             Note::Came { station } => ("came", Some(station), None, None),

@@ -4,7 +4,8 @@ use its_words::answers::RefusedReason;
 use its_world::EntryFault;
 use std::fmt;
 
-/// Why an event was refused, as a sentence. Of octets that are no frame it is theirs.
+/// Why an event was refused, as a sentence. If octets are not a frame, it is the sentence of their
+/// fault.
 #[derive(Clone, Copy, Debug, PartialEq, Eq)]
 pub struct EntryReason(pub EntryFault);
 

@@ -1,4 +1,4 @@
-//! What is told of an event.
+//! The record of an event that was done.
 
 ghost use Rattle.std.specs.Prelude.{◌≡◌};
 ghost use Rattle.its_world.specs.Events.{event_of};
@@ -16,32 +16,33 @@ use sim_scenario::events::verb_of;
 pub enum ContentionStep<'a> {
     /// It holds the frame that its entry names until this time, in milliseconds.
     Waits(u64),
-    /// It holds the frames of these numbers no more, since enough others have sent them.
+    /// It no longer holds the frames with these numbers, since enough other stations have sent
+    /// them.
     Cancels(&'a [usize]),
 }
 
-/// An event that was done, and what came of it.
+/// An event that was done, and its outcome.
 #[derive(Clone, Copy, Debug)]
 pub struct EventRecord<'a> {
-    /// Its place among the events, from 0.
+    /// Its number among the events, from 0.
     pub number: usize,
-    /// Its moment, in milliseconds.
+    /// Its time, in milliseconds.
     pub moment: u64,
-    /// Its station, by its place among the configs.
+    /// The number of its station among the configs.
     pub station: usize,
     /// What it does.
     pub what: &'a What,
-    /// What is told of it.
+    /// Its entry.
     pub entry: &'a Entry,
-    /// The octets of the frame that was given, if one was. Its number is in the entry.
+    /// The octets of the frame that was sent, if one was. Its number is in the entry.
     pub octets: Option<&'a [u8]>,
     /// What a station that contends did with a frame. `None` if nothing was held or cancelled.
     pub contention: Option<ContentionStep<'a>>,
 }
 
 impl<'a> EventRecord<'a> {
-    /// The record of an event of this number that was done in a world, of its entry, and of what its
-    /// station did with a frame, if it contends.
+    /// Returns the record of an event with this number that was done in a world, with its entry,
+    /// and with what its station did with a frame, if it contends.
     #[inline]
     pub fn of(
         world: &'a World,
@@ -70,7 +71,8 @@ impl<'a> EventRecord<'a> {
         }
     }
 
-    /// The octets of the frame that goes out with this event, if one does. One that is held doesn't.
+    /// Returns the octets of the frame that is sent with this event, if there is one. A frame that
+    /// is held is not sent.
     #[inline(always)]
     pub fn sent_octets(&self) -> Option<&'a [u8]> {
         if self.is_held() { None } else { self.octets }
@@ -82,7 +84,7 @@ impl<'a> EventRecord<'a> {
         matches!(self.contention, Some(ContentionStep::Waits(_)))
     }
 
-    /// The number of frames that are held no more, since enough others have sent them.
+    /// Returns how many frames are no longer held, since enough other stations have sent them.
     #[inline(always)]
     pub fn cancelled(&self) -> usize {
         match self.contention {
@@ -93,7 +95,7 @@ impl<'a> EventRecord<'a> {
 }
 
 impl<'a> EventRecord<'a> {
-    /// Its entry as it is printed: without the frame as sent, if that is held.
+    /// Returns the keys of its entry as it is printed: without the frame, if that is held.
     pub(crate) fn keys(&self) -> EntryKeys<'a> {
         if self.is_held() {
             held_entry_keys(self.entry)
@@ -102,7 +104,7 @@ impl<'a> EventRecord<'a> {
         }
     }
 
-    /// The frames that it cancels, if it cancels any.
+    /// Returns the frames that it cancels, if it cancels any.
     pub fn cancelled_frames(&self) -> Option<&'a [usize]> {
         match self.contention {
             Some(ContentionStep::Cancels(frames)) => Some(frames),
@@ -119,7 +121,7 @@ pub(crate) struct HeldFrame {
 }
 
 impl HeldFrame {
-    /// That of an event, if a frame is held with it.
+    /// Returns the held frame of an event. Its fields are `None` if no frame is held.
     pub(crate) fn of(done: &EventRecord<'_>) -> HeldFrame {
         match done.contention {
             Some(ContentionStep::Waits(until)) => HeldFrame {
@@ -150,7 +152,7 @@ impl Serialize for FrameNumbers<'_> {
     }
 }
 
-/// What the JSON of an event tells, its keys in order.
+/// The JSON object of an event, with its keys in order.
 #[derive(Clone, Copy, Serialize)]
 pub(crate) struct EventLine<'a> {
     event: usize,

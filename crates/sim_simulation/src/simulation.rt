@@ -13,19 +13,19 @@ use its_model::laws::every_schedule;
 use its_world::{Config, Event, World};
 use std::alloc::Global;
 
-/// Runs events over at most 65535 stations, and hands each to a sink as it is done. Returns the
-/// world that the last event left.
+/// Runs events over at most 65535 stations, and passes each to a sink when it is done. Returns the
+/// world after the last event.
 ///
-/// The world is the one in which these stations begin and all of these events were done. What the
-/// sink took are the events and entries of just this run, in order. The laws over every schedule
-/// hold of it: if deliveries come, a geobroadcast reaches.
+/// The world is the one that begins with these stations and in which all these events were done.
+/// The sink took exactly the events and entries of this run, in order. The laws over every schedule
+/// hold for it: a geobroadcast reaches its stations if its deliveries are made.
 ///
 /// The numbers of each station and of each event have to be in their ranges, and no two stations
 /// may have the same MID. If an allocation or the sink failed, the sink has the events before.
 ///
-/// - its clause: if it ends well, the world is that of the model's run of just these events, the
-///   laws over every schedule hold of that very end, and any sink took just these events and the
-///   model's entries of them, in order (`IsSimulated`).
+/// - its clause: if it succeeds, the world is that of the model's run of exactly these events, the
+///   laws over every schedule hold for it, and the sink took exactly these events and the model's
+///   entries, in order (`IsSimulated`).
 pub fn simulate_into<S: EventSink>(
     alloc: Global,
     stations: &[Config],

@@ -1,4 +1,4 @@
-//! Where the events of a simulation go.
+//! The sink of a simulation's events.
 
 ghost use Rattle.std.specs.Prelude.{◌++◌, ◌∷◌, [], List, OnOk};
 ghost use Rattle.its_model.specs.World.{Event as Happening};
@@ -9,35 +9,35 @@ use crate::note::Note;
 use crate::record::EventRecord;
 use its_world::World;
 
-/// What takes the events of a simulation, one by one, as they are done.
+/// Takes the events of a simulation, one by one, when they are done.
 pub trait EventSink {
     ghost use Rattle.its_world.specs.Entries.{Entry};
 
-    /// What it says of having taken these events and these entries, in order. A sink that keeps none
-    /// may say nothing of them.
+    /// What holds for a sink that took these events and these entries, in order. A sink that keeps
+    /// none may say nothing.
     ghost Took: { Self → List Happening → List Entry → Type 0 };
 
-    /// Takes an event that was done, with the world as it stands after it: the octets of the record
-    /// are those of the frame that its entry names.
+    /// Takes an event that was done, with the world after it. The octets of the record are those of
+    /// the frame that its entry names.
     ///
-    /// `OutOfMemory` where an allocation failed, `Output` where a write did.
+    /// `OutOfMemory` if an allocation failed, `Output` if a write did.
     fn put(&mut self, world: &World, done: &EventRecord<'_>) -> Result<(), SimulationFault>
         requires { IsRecordOf world.now done.now }
         ensures { (events : List Happening) (log : List Entry) → Took self.old events log
             → OnOk result (Took self.new (events ++ happening_in done.now ∷ [])
             (log ++ done.now.entry.now ∷ [])) };
 
-    /// Whether it uses `Note::Heard`, of which there is one for each station that will receive a
-    /// frame. A run makes none for a sink that doesn't. The default is `false`.
+    /// Whether it needs `Note::Heard`, one for each station that will receive a frame. A run makes
+    /// none for a sink that doesn't. The default is `false`.
     #[inline(always)]
     fn wants_heard_notes(&self) -> bool {
         false
     }
 
-    /// Takes a note of this moment, in milliseconds, with the world as it stands then. Of the events
-    /// and entries it says what it said before.
+    /// Takes a note of this time in milliseconds, with the world at that time. `Took` holds for the
+    /// same events and entries as before.
     ///
-    /// `OutOfMemory` where an allocation failed, `Output` where a write did.
+    /// `OutOfMemory` if an allocation failed, `Output` if a write did.
     fn note(
         &mut self,
         _world: &World,

@@ -15,18 +15,18 @@ use its_world::{Entry, Event, World};
 
 /// The contention of a run: the frames that its stations hold.
 pub trait Contending {
-    /// Takes an event that was done, with the world as it stands after it: its station may hold the
-    /// frame that it gave, and it may cancel or drop frames that the station holds.
+    /// Takes an event that was done, with the world after it. Its station may hold the frame that
+    /// it sent, and may cancel or drop frames that it holds.
     ///
-    /// `OutOfMemory` where an allocation failed.
+    /// `OutOfMemory` if an allocation failed.
     fn take(&mut self, world: &World, event: &Event, entry: &Entry) -> Result<(), SimulationFault>;
 
-    /// What a station did with a frame at the event that was taken last, if anything.
+    /// Returns what a station did with a frame at the last event, if anything.
     fn step(&self) -> Option<ContentionStep<'_>>;
 }
 
-/// Does an event as `do_event` does, in a run whose stations hold frames, and tells a sink what its
-/// station did with a frame.
+/// Does an event as `do_event` does, in a run whose stations hold frames. The sink also gets what
+/// the station did with a frame.
 pub fn do_event_holding<S: EventSink, C: Contending>(
     world: &mut World,
     number: usize,
@@ -54,8 +54,8 @@ pub fn do_event_holding<S: EventSink, C: Contending>(
     Ok(entry)
 }
 
-/// Passes a sink an event of this number that was done, its entry, and what its station did with a
-/// frame. It is the one caller of a sink's `put`, which is inlined here.
+/// Passes a done event with this number to a sink, with its entry and with what its station did
+/// with a frame. It is the only caller of a sink's `put`, which is inlined here.
 #[inline(never)]
 fn put_event<S: EventSink>(
     world: &World,
@@ -75,12 +75,12 @@ fn put_event<S: EventSink>(
     )
 }
 
-/// Does an event, which is the one of this number, and hands it to a sink: a world and a sink that
-/// stand after some events stand after one more, and the entry is the last one's. No station but
-/// the event's is touched. The speed of a `MoveTo` has to be in its range, and a frame that is
-/// delivered must not have been let go.
+/// Does the event with this number, and passes it to a sink. If world and sink were those after
+/// some events, they are then those after one more, and the entry is that of the event. Only the
+/// event's station changes. The speed of a `MoveTo` has to be in its range, and a frame that is
+/// delivered must not have been released.
 ///
-/// `OutOfMemory` where an allocation failed; else the sink failed.
+/// `OutOfMemory` if an allocation failed. Otherwise an error is that of the sink.
 #[inline(always)]
 pub fn do_event<S: EventSink>(
     world: &mut World,

@@ -1,5 +1,5 @@
-//! What came of a run: the packets for an area, each with where it was delivered, and the counts of
-//! all events.
+//! The outcome of a run: its packets for an area, each with its deliveries, and the counts of all
+//! events.
 
 mod held_tally;
 mod presence;

@@ -11,8 +11,8 @@ use its_world::World;
 use std::fmt;
 use std::io::Write;
 
-/// Writes a line for each entry, as `2 1010 1 accepted port 2002 info 0 6869 sent 1`: the event's
-/// place among the events, from 0, its moment in milliseconds, its station and what is told of it.
+/// Writes one line per entry, for example `2 1010 1 accepted port 2002 info 0 6869 sent 1`: the
+/// number of the event, from 0, its time in milliseconds, its station and its entry.
 #[derive(Drop)]
 pub struct TextLines<'a, W> {
     out: &'a mut W,
@@ -22,8 +22,8 @@ pub struct TextLines<'a, W> {
 }
 
 impl<'a, W: Write> TextLines<'a, W> {
-    /// Lines without what an event does: a scenario's events are known. With `explain` a refusal
-    /// goes on with its sentence in parentheses.
+    /// Returns lines without what each event does, since the scenario says it. With `explain` a
+    /// refusal is followed by its sentence in parentheses.
     pub fn new(out: &'a mut W, explain: bool) -> TextLines<'a, W>
         ensures explain { result.explain ≡ explain }
         ensures actions { result.actions ≡ false }
@@ -37,8 +37,8 @@ impl<'a, W: Write> TextLines<'a, W> {
         }
     }
 
-    /// Lines that tell what an event does before its entry, as
-    /// `2 1001 1 deliver 0 accepted sent 1`.
+    /// Returns lines with what each event does before its entry, for example `2 1001 1 deliver 0
+    /// accepted sent 1`.
     pub fn with_actions(out: &'a mut W, explain: bool) -> TextLines<'a, W>
         ensures explain { result.explain ≡ explain }
         ensures actions { result.actions ≡ true }
@@ -52,7 +52,8 @@ impl<'a, W: Write> TextLines<'a, W> {
         }
     }
 
-    /// The same lines and, where it is asked for, those of notes among them, as `- 500 1 came`.
+    /// Returns these lines with the lines of notes among them, for example `- 500 1 came`, if
+    /// `notes` is set.
     pub fn noting(self, notes: bool) -> TextLines<'a, W>
         ensures { result ≡ record self.entry { notes = notes } }
     {
@@ -108,8 +109,8 @@ impl<W: Write> EventSink for TextLines<'_, W> {
     }
 }
 
-/// What a station that contends did with a frame, as ` waits 1 until 1072` or ` cancels 1,3`, or
-/// nothing.
+/// What a station that contends did with a frame. It prints for example as ` waits 1 until 1072` or
+/// ` cancels 1,3`, or as nothing.
 #[derive(Clone, Copy)]
 struct ContentionText<'a>(&'a EventRecord<'a>);
 

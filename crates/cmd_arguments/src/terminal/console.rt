@@ -1,23 +1,23 @@
-//! Who looks at what the program prints.
+//! Which of the program's streams are terminals.
 
 ghost use Rattle.std.specs.Prelude.{◌≡◌, ◌&&◌, ◌||◌, not};
 ghost use Rattle.cmd_arguments.specs.Console.{is_colored};
 
-/// Which of the program's streams someone looks at: by default none.
+/// Which of the program's streams are terminals. By default none is.
 #[derive(Clone, Copy, Debug, Default, PartialEq, Eq)]
 pub struct Console {
     /// Whether standard output is a terminal.
     pub out: bool,
-    /// Whether standard error is one.
+    /// Whether standard error is a terminal.
     pub err: bool,
-    /// Whether nothing in the environment speaks against colours.
+    /// Whether the environment allows colours.
     pub colors: bool,
 }
 
 /// Where the program colours what it prints.
 #[derive(Clone, Copy, Debug, PartialEq, Eq)]
 pub enum Coloring {
-    /// On a terminal, where nothing in the environment speaks against it.
+    /// On a terminal, if the environment allows it.
     Auto,
     /// On any standard output.
     Always,
@@ -37,16 +37,15 @@ impl Console {
         }
     }
 
-    /// Whether what a command prints is explained unless something else is asked for: someone looks
-    /// at both streams.
+    /// Whether codes are explained by default: both streams are terminals.
     pub fn explains_lines(self) -> bool
         ensures { result ≡ (self.out && self.err) }
     {
         self.out && self.err
     }
 
-    /// Whether a command that prints on standard output shows how far it is: someone looks at
-    /// standard error, and has no lines to look at.
+    /// Whether a command that prints on standard output shows its progress: standard error is a
+    /// terminal, and no lines are shown on one.
     pub fn shows_progress(self, prints: bool) -> bool
         ensures { result ≡ (self.err && not (self.out && prints)) }
     {

@@ -1,4 +1,4 @@
-//! The line on standard error that says how far a run is, with its pace.
+//! The line on standard error that shows the progress of a run, with its pace.
 
 ghost use Rattle.std.specs.Prelude.{◌≡◌, None, true};
 
@@ -9,25 +9,25 @@ use std::rt::Clock;
 use std::time::Duration;
 use std::{fmt, io};
 
-/// What clears a terminal's line from where the cursor stands.
+/// The code that clears a terminal's line from the cursor on.
 const CLEAR: &[u8] = b"\x1b[K";
 
-/// A writer of messages to standard error. If someone looks at it, a line there shows how far a run
-/// is, with its events per second and the seconds that are left, and each message takes the place
-/// of that line. Otherwise it writes the messages alone.
+/// A writer of messages to standard error. On a terminal, a line shows the progress of a run, with
+/// its events per second and the seconds that are left. Each message replaces that line. Otherwise
+/// it only writes the messages.
 #[derive(Drop)]
 pub struct Meter<'a, R, E> {
     rt: &'a R,
     err: &'a mut E,
     is_shown: bool,
-    /// When progress was shown first.
+    /// When progress was first shown.
     started: Option<Duration>,
     /// Whether the next octet of a message begins a line.
     at_start: bool,
 }
 
 impl<'a, R: Clock, E: Write> Meter<'a, R, E> {
-    /// One before the first line. `is_shown` says whether someone looks.
+    /// Returns a meter before the first line. `is_shown` says whether progress is shown.
     pub fn new(rt: &'a R, err: &'a mut E, is_shown: bool) -> Meter<'a, R, E>
         ensures shown { result.is_shown ≡ is_shown }
         ensures start { result.started ≡ None }
@@ -42,7 +42,8 @@ impl<'a, R: Clock, E: Write> Meter<'a, R, E> {
         }
     }
 
-    /// The milliseconds since progress was shown first: 0 at that time, and if there is no clock.
+    /// Returns the milliseconds since progress was first shown. 0 at that time, and if there is no
+    /// clock.
     fn elapsed(&mut self) -> u64 {
         let Ok(now) = self.rt.monotonic() else {
             return 0;
@@ -52,7 +53,7 @@ impl<'a, R: Clock, E: Write> Meter<'a, R, E> {
         millis(now.saturating_sub(started))
     }
 
-    /// Writes the line that says how far the run is.
+    /// Writes the line with the progress of the run.
     fn write_progress(&mut self, progress: &RunProgress) -> io::Result<()> {
         let elapsed = self.elapsed();
         write!(self.err, "{progress}")?;
@@ -102,12 +103,12 @@ impl<R: Clock, E: Write> Write for Meter<'_, R, E> {
     }
 }
 
-/// How many milliseconds a time has, cut down to 64 bits.
+/// Returns the milliseconds of a duration, limited to 64 bits.
 pub(crate) fn millis(time: Duration) -> u64 {
     u64::try_from(time.as_millis()).unwrap_or(u64::MAX)
 }
 
-/// The pace of a run: its events in a second, and the seconds that are left.
+/// The pace of a run: its events per second, and the seconds that are left.
 #[derive(Clone, Copy)]
 struct RunPace {
     rate: u64,
@@ -120,7 +121,8 @@ impl fmt::Display for RunPace {
     }
 }
 
-/// The pace of a run that is so far after this number of milliseconds. `None` while it isn't known.
+/// Returns the pace of a run with this progress after this number of milliseconds. `None` while it
+/// isn't known.
 fn pace_of(progress: &RunProgress, elapsed: u64) -> Option<RunPace> {
     let moments = Pace {
         done: progress.moment,

@@ -1,21 +1,21 @@
-//! How fast something goes, and how long it takes to its end.
+//! How fast something is done, and how long the rest takes.
 
 ghost use Rattle.std.specs.Prelude.{◌≡◌, ◌*◌, ◌/◌, ◌-◌, ◌^◌, ◌<◌, ◌≤◌, ◌⊎◌, IfNone, IfSome};
 
-/// How far something is.
+/// The progress of something.
 #[derive(Clone, Copy, Debug, PartialEq, Eq)]
 pub struct Pace {
     /// How much of it is done.
     pub done: u64,
     /// How much it is in all.
     pub all: u64,
-    /// For how many milliseconds it goes.
+    /// How many milliseconds it has taken up to now.
     pub elapsed: u64,
 }
 
 impl Pace {
-    /// How much is done in a second. `None` before the first millisecond is over, and where that is
-    /// no number of 64 bits.
+    /// Returns how much is done per second. `None` before the first millisecond is over, and if the
+    /// computation needs more than 64 bits.
     pub fn rate(self) -> Option<u64>
         ensures rate { IfSome result (λ rate. rate ≡ self.done * 1000 / self.elapsed) }
         ensures none { IfNone result ((self.elapsed ≡ 0) ⊎ (2 ^ 64 ≤ self.done * 1000)) }
@@ -23,8 +23,8 @@ impl Pace {
         product_over(self.done, 1000, self.elapsed)
     }
 
-    /// How many milliseconds are left at this rate. `None` where nothing is done or more than all is,
-    /// and where that is no number of 64 bits.
+    /// Returns how many milliseconds are left at this rate. `None` if nothing is done, if more than
+    /// all is done, and if the computation needs more than 64 bits.
     pub fn left(self) -> Option<u64>
         ensures left { IfSome result
             (λ left. left ≡ self.elapsed * (self.all - self.done) / self.done) }
@@ -36,7 +36,8 @@ impl Pace {
     }
 }
 
-/// A product over a divisor, as for the rate of so much in so many milliseconds.
+/// Returns a product divided by a divisor. `None` if the divisor is 0, or the product needs more
+/// than 64 bits.
 fn product_over(one: u64, other: u64, divisor: u64) -> Option<u64>
     ensures quotient { IfSome result (λ quotient. quotient ≡ one * other / divisor) }
     ensures none { IfNone result ((divisor ≡ 0) ⊎ (2 ^ 64 ≤ one * other)) }

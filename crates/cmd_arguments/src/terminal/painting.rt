@@ -1,35 +1,35 @@
-//! Colours for the lines of `show` and `sim`: kinds of packet, and refusals.
+//! Colours for the lines of `show` and `sim`: those of packet kinds, and of refusals.
 
 ghost use Rattle.std.specs.Prelude.{◌≡◌, ◌≤◌, ◌++◌, IfSome, length};
 
 use its_headers::Kind;
 use std::str;
 
-/// What a line is of.
+/// What a line is about.
 #[derive(Clone, Copy, Debug, PartialEq, Eq)]
 pub enum Painter {
-    /// A record of a capture: the kind stands in its fourth word, a refusal in its second. The whole
-    /// line is one where the capture is refused.
+    /// A record of a capture. The kind is its fourth word, and a refusal is its second. If the
+    /// capture is refused, the whole line is the refusal.
     Records,
-    /// An event of a run: what is done stands in its fourth word, a refusal in that or the next one,
-    /// behind the number of a frame that is delivered in the one after.
+    /// An event of a run. What is done is its fourth word. A refusal is the fourth or fifth word,
+    /// or the sixth after the number of a delivered frame.
     Events,
 }
 
 /// A line in three parts, of which the middle one is coloured.
 #[derive(Clone, Copy, Debug, PartialEq, Eq)]
 pub struct Painted<'a> {
-    /// What stands before.
+    /// The part before the coloured one.
     pub before: &'a [u8],
-    /// What begins the colour, which `RESET` ends; empty where nothing is coloured.
+    /// The code that begins the colour, which `RESET` ends. Empty if nothing is coloured.
     pub color: &'static str,
-    /// What is coloured.
+    /// The coloured part.
     pub middle: &'a [u8],
-    /// What stands behind.
+    /// The part after the coloured one.
     pub after: &'a [u8],
 }
 
-/// What ends a colour.
+/// The code that ends a colour.
 pub(crate) const RESET: &str = "\x1b[0m";
 
 const RED: &str = "\x1b[31m";
@@ -37,11 +37,11 @@ const RED: &str = "\x1b[31m";
 /// The word of a refusal.
 const REFUSED: &[u8] = b"refused";
 
-/// How a line begins that tells that a capture is refused.
+/// The beginning of the line of a refused capture.
 const CAPTURE: &[u8] = b"capture: ";
 
-/// A line without its line feed, and what of it is coloured: from a refusal to its end, else the
-/// kind of its packet. No octet of the line is lost, and none is moved.
+/// Splits a line without its line feed around the part to colour: from a refusal to the end of the
+/// line, or without one the kind of its packet. All octets of the line stay, in order.
 pub fn paint<'a>(line: &'a [u8], painter: Painter) -> Painted<'a>
     ensures { result.before.now ++ result.middle.now ++ result.after.now ≡ line.now }
 {
@@ -55,7 +55,7 @@ pub fn paint<'a>(line: &'a [u8], painter: Painter) -> Painted<'a>
     }
 }
 
-/// Where the refusal of a line begins, if it tells one.
+/// Returns where the refusal of a line begins, if there is one.
 fn refusal_of(line: &[u8], painter: Painter) -> Option<usize>
     ensures { IfSome result (λ start. start ≤ length line.now) }
 {
@@ -73,7 +73,7 @@ fn refusal_of(line: &[u8], painter: Painter) -> Option<usize>
     None
 }
 
-/// The colour of a kind of packet, where a word is that of one.
+/// Returns the colour of a packet kind, if the word is one.
 fn color_of(word: &[u8]) -> Option<&'static str> {
     Some(match Kind::named(str::from_utf8(word).ok()?)? {
         Kind::Beacon => "\x1b[36m",
@@ -83,7 +83,7 @@ fn color_of(word: &[u8]) -> Option<&'static str> {
     })
 }
 
-/// A line in three parts, cut at these two places.
+/// Splits a line into three parts at these two positions.
 fn parts<'a>(line: &'a [u8], start: usize, end: usize, color: &'static str) -> Painted<'a>
     requires order { start ≤ end }
     requires within { end ≤ length line.now }
@@ -99,8 +99,8 @@ fn parts<'a>(line: &'a [u8], start: usize, end: usize, color: &'static str) -> P
     }
 }
 
-/// Where the word of this number, counted from 0, begins and ends; the end of the line where it has
-/// none. A space stands between each two.
+/// Returns where the word with this number, from 0, begins and ends. Both are the end of the line
+/// if there are fewer words. Single spaces separate words.
 fn word_at(line: &[u8], number: usize) -> (usize, usize)
     ensures order { result.0 ≤ result.1 }
     ensures within { result.1 ≤ length line.now }
@@ -113,7 +113,7 @@ fn word_at(line: &[u8], number: usize) -> (usize, usize)
     }
 }
 
-/// Where the word of this number begins; the end of the line where it has none.
+/// Returns where the word with this number begins. The end of the line if there are fewer words.
 fn start_of(line: &[u8], number: usize) -> usize
     ensures { result ≤ length line.now }
 {

@@ -1,4 +1,4 @@
-//! The runtime of a command that shows how far it has read a file.
+//! The runtime of a command that shows its progress in reading a file.
 
 ghost use Rattle.std.specs.Prelude.{◌≡◌, Some, None, if◌then◌else◌};
 
@@ -11,19 +11,19 @@ use std::rt::Clock;
 use std::time::Duration;
 use std::{fmt, io};
 
-/// How many milliseconds pass from one line to the next, and before the first.
+/// The milliseconds between two lines of progress, and before the first.
 const BETWEEN: u64 = 250;
 
-/// A runtime that shows on standard error how far one file is read, if someone looks.
+/// A runtime that shows the progress of reading one file on standard error, if that is a terminal.
 #[derive(Drop)]
 pub struct ShownReading<'a, R> {
     rt: &'a R,
-    /// The name of the file; none where no one looks.
+    /// The name of the file. `None` if no progress is shown.
     file: Option<&'a str>,
 }
 
 impl<'a, R> ShownReading<'a, R> {
-    /// One that shows how far the file of this name is read, if `is_shown`.
+    /// Returns a runtime that shows the progress of reading the file with this name, if `is_shown`.
     pub fn of(rt: &'a R, file: &'a str, is_shown: bool) -> ShownReading<'a, R>
         ensures { result.file ≡ if is_shown then Some file.entry else None }
     {
@@ -34,15 +34,15 @@ impl<'a, R> ShownReading<'a, R> {
     }
 }
 
-/// How far the reading of a file is.
+/// The progress of reading a file.
 #[derive(Clone, Copy, Debug)]
 struct Far {
     /// How many octets were read.
     done: u64,
-    /// How many the file has.
+    /// How many octets the file has.
     size: u64,
     started: Duration,
-    /// The milliseconds after which a line was last written; 0 before the first.
+    /// The milliseconds after which a line was last written. 0 before the first line.
     shown_at: u64,
 }
 
@@ -61,7 +61,7 @@ impl fmt::Display for Far {
     }
 }
 
-/// A file, and how far it is read.
+/// A file, and the progress of reading it.
 #[derive(Drop)]
 pub struct ReadFile<'a, R, F: Drop> {
     rt: &'a R,

@@ -7,8 +7,8 @@ use std::alloc::Global;
 use std::io;
 use std::io::Write;
 
-/// A writer of lines. If asked to, it puts a line of column heads before the first one, and colours
-/// the lines. Otherwise it writes what it is given.
+/// A writer of lines. If asked to, it writes column heads before the first line, and colours the
+/// lines. Otherwise it passes on what is written to it.
 #[derive(Drop)]
 pub struct Screen<'a, W> {
     out: &'a mut W,
@@ -20,7 +20,7 @@ pub struct Screen<'a, W> {
 }
 
 impl<'a, W: Write> Screen<'a, W> {
-    /// One that writes what it is given.
+    /// Returns a screen that passes on what is written to it.
     pub fn plain(alloc: Global, out: &'a mut W) -> Screen<'a, W>
         ensures heads { result.heads ≡ None }
         ensures painter { result.painter ≡ None }
@@ -34,21 +34,21 @@ impl<'a, W: Write> Screen<'a, W> {
         }
     }
 
-    /// The same with column heads, where there are any.
+    /// Returns this screen with column heads, if there are any.
     pub fn headed(self, heads: Option<&'static str>) -> Screen<'a, W>
         ensures { result ≡ record self.entry { heads = heads.entry } }
     {
         Screen { heads, ..self }
     }
 
-    /// The same, and its lines coloured, where they are.
+    /// Returns this screen with coloured lines, if there is a painter.
     pub fn painted(self, painter: Option<Painter>) -> Screen<'a, W>
         ensures { result ≡ record self.entry { painter = painter } }
     {
         Screen { painter, ..self }
     }
 
-    /// Writes the line that was taken, and begins the next.
+    /// Writes the line that is complete, and begins the next.
     fn write_line(&mut self, painter: Painter) -> io::Result<()> {
         let painted = paint(self.line.as_slice(), painter);
         self.out.write_all(painted.before)?;

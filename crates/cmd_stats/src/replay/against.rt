@@ -1,4 +1,4 @@
-//! A replay against what the station under test sent.
+//! Compares a replay with what the station under test sent.
 
 use crate::replay::awaited::Awaited;
 use crate::replay::compared_line::{ComparedLine, Word};
@@ -10,7 +10,7 @@ use std::alloc::Global;
 /// With what a replay is compared.
 #[derive(Clone, Copy, Debug, PartialEq, Eq)]
 pub struct Against {
-    /// The link address of the station under test: it sent the frames that come from it.
+    /// The link address of the station under test. Frames with this link source are its own.
     pub mac: Mac,
     /// How many milliseconds it may take to forward a frame.
     pub within: u64,
@@ -18,19 +18,21 @@ pub struct Against {
     pub strict: bool,
 }
 
-/// The comparison so far: the frames that wait, and the counts.
+/// The comparison up to now: the frames that wait, and the counts.
 #[derive(Drop)]
 pub(crate) struct AgainstFrames {
     comparison: Comparison,
+    /// The address of the station under test.
+    address: GnAddress,
     against: Against,
-    /// Whether words are explained.
+    /// Whether keywords are explained.
     explain: bool,
     pub(crate) counts: DifferenceCounts,
 }
 
 impl AgainstFrames {
-    /// Nothing is compared. The station under test has this address. With `explain`, words are
-    /// explained.
+    /// Returns a comparison before the first frame. The station under test has this address. With
+    /// `explain`, keywords are explained.
     pub(crate) fn new(
         alloc: Global,
         address: GnAddress,
@@ -38,15 +40,16 @@ impl AgainstFrames {
         explain: bool,
     ) -> AgainstFrames {
         AgainstFrames {
-            comparison: Comparison::new(alloc, address),
+            comparison: Comparison::new(alloc),
+            address,
             against,
             explain,
             counts: DifferenceCounts::default(),
         }
     }
 
-    /// Adds the frame of this number, which the written rules send at a moment. Returns the line of
-    /// one that waits no longer, if too many wait.
+    /// Adds the frame with this number, which the written rules send at a time. If too many frames
+    /// wait, returns the line of the one that waits no longer.
     pub(crate) fn expect(
         &mut self,
         number: u64,
@@ -65,7 +68,8 @@ impl AgainstFrames {
         }
     }
 
-    /// Returns the line of a frame that was not sent in time, before a moment, if there is another.
+    /// Returns the line of a frame whose time ended before `now` without being sent, if there is
+    /// another one.
     pub(crate) fn next_missed(&mut self, now: u64) -> Option<ComparedLine> {
         let frame = self.comparison.next_missed(now)?;
         self.counts.missing = self.counts.missing.saturating_add(1);
@@ -85,7 +89,7 @@ impl AgainstFrames {
         Some(self.leave(frame))
     }
 
-    /// Counts a frame of which it isn't known whether it is sent in time, and returns its line.
+    /// Counts a frame for which it isn't known whether it is sent in time, and returns its line.
     fn leave(&mut self, frame: Awaited) -> ComparedLine {
         self.counts.unknown = self.counts.unknown.saturating_add(1);
         let number = Some(frame.number);
@@ -98,8 +102,8 @@ impl AgainstFrames {
         )
     }
 
-    /// Compares what the station under test sent at a moment: these octets, of a packet of this
-    /// source, if they are read. Returns its line.
+    /// Compares what the station under test sent at a time: these octets, with the source of their
+    /// packet, if they are read. Returns its line.
     pub(crate) fn compare(
         &mut self,
         moment: u64,
@@ -107,7 +111,7 @@ impl AgainstFrames {
         source: Option<u64>,
     ) -> ComparedLine {
         let explain = self.explain;
-        match self.comparison.compare(sent, source) {
+        match self.comparison.compare(self.address, sent, source) {
             Compared::Same(frame) => {
                 self.counts.same = self.counts.same.saturating_add(1);
                 let number = Some(frame.number);

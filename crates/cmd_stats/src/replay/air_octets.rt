@@ -1,4 +1,4 @@
-//! Octets that a unit receives, which are read once.
+//! Octets that a unit receives. They are read once.
 
 ghost use Rattle.std.specs.Prelude.{◌≡◌, IfOk, IfSome, IfNone};
 ghost use Rattle.its_faults.specs.declared.frame.FrameFault.{FrameFault as Fault};
@@ -43,7 +43,7 @@ impl Model for AirOctets {
 }
 
 impl AirOctets {
-    /// Octets, and the fault that reading them as a frame found, if any.
+    /// Returns these octets, with the fault of reading them as a frame, if there was one.
     pub(crate) fn new(octets: Vec<u8>, fault: Option<FrameFault>) -> AirOctets
         requires { IsReading octets.items fault }
         ensures { result ≡ octets }
@@ -51,7 +51,7 @@ impl AirOctets {
         AirOctets { octets, fault }
     }
 
-    /// The frame, if the octets are one.
+    /// Returns the frame, if the octets are one.
     pub(crate) fn frame(&self) -> Option<FrameView<'_>>
         ensures found { IfSome result (λ v. EncodesFrame (transmission_of v) self.now.items) }
         ensures none { IfNone result ((fault : Fault) × IsFrameFault self.now.items fault) }
@@ -62,8 +62,8 @@ impl AirOctets {
         }
     }
 
-    /// The reply of a unit that receives the octets at a moment, within its limits or past them.
-    /// `NoMemory` if an allocation failed. The unit is unchanged then, but for its counts.
+    /// Has a unit receive the octets at a time, with or without its limits. Returns the reply.
+    /// `NoMemory` if an allocation failed. Only the unit's counts may have changed then.
     pub(crate) fn receive(
         &self,
         alloc: Global,
@@ -80,8 +80,8 @@ impl AirOctets {
         UnitReply::of(alloc, self.lend_to(unit, limiting, moment), &mut room)
     }
 
-    /// The reaction of a unit that receives the octets at a moment, as `Unit::receive` has it within
-    /// the limits.
+    /// Returns the reaction of a unit that receives the octets at a time, as `Unit::receive` has it
+    /// within the limits.
     fn lend_to(
         &self,
         unit: &mut Unit<SortedTable>,
@@ -101,7 +101,7 @@ impl AirOctets {
         }
     }
 
-    /// The octets, as a slice.
+    /// Returns the octets, as a slice.
     pub(crate) fn as_slice(&self) -> &[u8]
         ensures { result.now ≡ self.now.items }
     {

@@ -29,13 +29,14 @@ const SOURCE_END: usize = 38;
 pub struct Awaited {
     /// Its number.
     pub number: u64,
-    /// Until when the station under test may send it, in milliseconds.
+    /// The last time at which the station under test may send it, in milliseconds.
     pub due: u64,
     /// Its octets.
     pub octets: Vec<u8>,
 }
 
-/// Where the first of these frames is that equals what was sent, but for the link source.
+/// Returns the index of the first of these frames that equals what was sent, except for the link
+/// source.
 pub(crate) fn place_of_same(awaited: &[Awaited], sent: &[u8]) -> Option<usize>
     ensures place { result ≡ same_place sent.now awaited.now }
     ensures within { IfSome result (λ place. place < length awaited.now) }
@@ -45,7 +46,7 @@ pub(crate) fn place_of_same(awaited: &[Awaited], sent: &[u8]) -> Option<usize>
         .position(|frame| is_same(frame.octets.as_slice(), sent))
 }
 
-/// Where the first of these frames is that is of the packet that was sent.
+/// Returns the index of the first of these frames that has the packet which was sent.
 pub(crate) fn place_of_packet(awaited: &[Awaited], sent: &[u8]) -> Option<usize>
     ensures place { result ≡ packet_place sent.now awaited.now }
     ensures within { IfSome result (λ place. place < length awaited.now) }
@@ -55,7 +56,7 @@ pub(crate) fn place_of_packet(awaited: &[Awaited], sent: &[u8]) -> Option<usize>
         .position(|frame| is_of_packet(frame.octets.as_slice(), sent))
 }
 
-/// Where the first of these frames is whose time was over before a moment.
+/// Returns the index of the first of these frames whose time was over before `now`.
 pub(crate) fn place_of_missed(awaited: &[Awaited], now: u64) -> Option<usize>
     ensures place { result ≡ missed_place now awaited.now }
     ensures within { IfSome result (λ place. place < length awaited.now) }
@@ -63,7 +64,7 @@ pub(crate) fn place_of_missed(awaited: &[Awaited], now: u64) -> Option<usize>
     awaited.iter().position(|frame| frame.due < now)
 }
 
-/// Whether two frames are equal in all octets but those of the link source.
+/// Whether two frames are equal in all octets except those of the link source.
 fn is_same(owed: &[u8], sent: &[u8]) -> bool
     ensures { result ≡ is_same owed.now sent.now }
 {
@@ -79,8 +80,8 @@ fn is_same(owed: &[u8], sent: &[u8]) -> bool
     octets_after(owed, TYPE) == octets_after(sent, TYPE)
 }
 
-/// Whether two frames are of one packet for an area: of the same type, and with the same number and
-/// source. A secured one has the same message.
+/// Whether two frames have the same packet for an area: the same type, sequence number and source.
+/// Secured frames have to have the same message.
 fn is_of_packet(owed: &[u8], sent: &[u8]) -> bool
     ensures { result ≡ is_of_packet owed.now sent.now }
 {
@@ -99,8 +100,8 @@ fn is_of_packet(owed: &[u8], sent: &[u8]) -> bool
     has_same_number(owed, sent)
 }
 
-/// Whether two frames have the same sequence number and source, where an unsecured packet for an
-/// area has them.
+/// Whether two frames have the same sequence number and source, at their positions in an unsecured
+/// packet for an area.
 fn has_same_number(owed: &[u8], sent: &[u8]) -> bool
     requires owed { 38 ≤ length owed.now }
     requires sent { 38 ≤ length sent.now }
@@ -112,7 +113,7 @@ fn has_same_number(owed: &[u8], sent: &[u8]) -> bool
     owed[SOURCE..SOURCE_END] == sent[SOURCE..SOURCE_END]
 }
 
-/// The octets from a place on.
+/// Returns the octets from this position on.
 fn octets_after(octets: &[u8], place: usize) -> &[u8]
     requires { place ≤ length octets.now }
     ensures { result.now ≡ drop place octets.now }

@@ -1,8 +1,8 @@
 //! The command `replay`.
 
-ghost use Rattle.std.specs.Prelude.{◌≡◌, IfErr, IfOk, IfSome, None};
+ghost use Rattle.std.specs.Prelude.{◌≡◌, ◌≢◌, IfErr, IfSome, None};
 ghost use Rattle.cmd_reporting.specs.FileNames.{format_of_file};
-ghost use Rattle.cmd_reporting.specs.Statuses.{IsCommandStatus, IsStopped};
+ghost use Rattle.cmd_reporting.specs.Statuses.{IsStopped};
 ghost use Rattle.cmd_stats.specs.Units.{IsUnit};
 
 use crate::replay::against::{Against, AgainstFrames};
@@ -15,8 +15,8 @@ use crate::replay::replaying::replay_records;
 use crate::replay::unit::ReplayUnit;
 use cap_records::{CaptureFile, FileFault, Selection, open_records};
 use cmd_reporting::{
-    Fault, FrameFile, FrameTarget, Io, Status, Target, WriterFault, create_frames, end_frames,
-    frame_target, is_standard, keep_apart, open,
+    ExitStatus, Fault, FrameFile, FrameTarget, Io, Status, Target, WriterFault, create_frames,
+    end_frames, frame_target, is_standard, keep_apart, open,
 };
 use its_unit::Limiting;
 use std::alloc::Global;
@@ -40,30 +40,33 @@ pub struct ReplayOptions<'a> {
     pub against: Option<Against>,
 }
 
-/// Prints what the unit would have done with the selected records of the file, each at its moment.
+/// Prints what the unit would have done with the selected records of the file, each at its time.
 /// `input` is standard input. Frames that the unit forwards are numbered. With `frames` they are
-/// also written to that file, which is created once the capture is open. With `against`, frames from
-/// the station under test are compared with them, and the differences counted. The file of moves is
-/// read before the capture is opened.
+/// also written to that file, which is created after the capture was opened. With `against`, frames
+/// from the station under test are compared with them, and the differences counted. The file of
+/// moves is read before the capture is opened.
 ///
-/// `BadArguments`, before anything is opened, if nothing says the format of the file of frames or its
-/// name is `-`, and before it is created if it is the capture or the file of moves. `Refused` if a row
-/// of moves is bad, the capture was refused, a frame has no place in its file or a difference is an
-/// error, `Failed` if a file could not be read, created or written or standard output not written, or
-/// memory ran out.
+/// Its status can be:
+///
+/// - `BadArguments` before anything is opened, if nothing says the format of the file of frames or
+///   its name is `-`; and before that file is created, if it is the capture or the file of moves.
+/// - `Refused` if a row of moves is bad, the capture was refused, a frame doesn't fit its file or a
+///   difference is an error.
+/// - `Failed` if a file could not be read, created or written, standard output could not be
+///   written, or memory ran out.
 pub fn replay_file<'a, R: Files + AllocGlobal, I: Read + Drop, W: Write, E: Write>(
     rt: &R,
     what: &ReplayOptions<'a>,
     input: I,
     frames: Option<Target<'a>>,
     io: &mut Io<W, E>,
-) -> Status
+) -> ExitStatus
 where
     R::File: Read + Write + Drop,
     requires { IsUnit what.now.unit }
-    ensures alone { frames.entry ≡ None → IsCommandStatus result }
+    ensures alone { frames.entry ≡ None → result ≢ ExitStatus.BadArguments }
     ensures format { IfSome frames.entry (λ target. format_of_file target.to target.name.now ≡ None
-        → result ≡ Status.BadArguments) }
+        → result ≡ ExitStatus.BadArguments) }
 {
     let target = match frame_target(frames) {
         Ok(target) => target,
@@ -72,7 +75,7 @@ where
     let (for_capture, for_moves) = MaybeInput::split(input, what.moves);
     let moves = match moves_of(rt, what.moves, for_moves) {
         Ok(moves) => moves,
-        Err(bad_row) => return io.status_of(Err(bad_row)),
+        Err(bad_row) => return ExitStatus::from(io.status_of(Err(bad_row))),
     };
     let ended = replay_to(rt, what, moves.as_slice(), for_capture, target, io);
     io.status_of(ended)
@@ -106,7 +109,6 @@ fn replay_to<'a, R: Files + AllocGlobal, I: Read + Drop, W: Write, E: Write>(
 where
     R::File: Read + Write + Drop,
     requires { IsUnit what.now.unit }
-    ensures done { IfOk result IsCommandStatus }
     ensures alone { target.entry ≡ None → IfErr result IsStopped }
 {
     let reader = open(rt, what.file, input)?;
@@ -120,7 +122,7 @@ where
     Ok(replay_into(rt.alloc(), what, moves, reader, frames, io)?)
 }
 
-/// Replays the file that the reader gives, and ends the file of frames, if there is one.
+/// Replays the file of the reader, and ends the file of frames, if there is one.
 fn replay_into<'a, R: Read + Drop, F: Write + Drop, W: Write, E: Write>(
     alloc: Global,
     replay: &ReplayOptions<'a>,
@@ -130,7 +132,6 @@ fn replay_into<'a, R: Read + Drop, F: Write + Drop, W: Write, E: Write>(
     io: &mut Io<W, E>,
 ) -> Result<Status, Fault<'a>>
     requires { IsUnit replay.now.unit }
-    ensures { IfOk result IsCommandStatus }
 {
     let (address, explain) = (replay.unit.address, io.format.explain);
     let against = replay.against.map(|against| AgainstFrames::new(
@@ -141,7 +142,7 @@ fn replay_into<'a, R: Read + Drop, F: Write + Drop, W: Write, E: Write>(
     end_frames(printer.file.take(), ended)
 }
 
-/// Prints a line of each record, and last why the file was refused, where it was.
+/// Prints one line per record, and last why the file was refused, if it was.
 fn replay_lines<'a, R: Read + Drop, F: Write + Drop, W: Write, E: Write>(
     alloc: Global,
     replay: &ReplayOptions<'a>,
@@ -150,7 +151,6 @@ fn replay_lines<'a, R: Read + Drop, F: Write + Drop, W: Write, E: Write>(
     printer: &mut Printer<'_, 'a, W, E, F>,
 ) -> Result<Status, Fault<'a>>
     requires { IsUnit replay.now.unit }
-    ensures { IfOk result IsCommandStatus }
 {
     let (file, selection) = (replay.file, &replay.selection);
     let CaptureFile::Source(source) = open_records(alloc, file, selection.format, reader)? else {

@@ -1,4 +1,4 @@
-//! The line of a frame that is compared: its words, and its keys in JSON.
+//! The line of a frame that is compared, as text and as keys in JSON.
 
 use crate::replay::differences::Difference;
 use its_gnvalue::Mac;
@@ -7,7 +7,7 @@ use its_words::json_lines::Printed;
 use serde::Serialize;
 use std::fmt;
 
-/// What is said of a frame that is compared.
+/// The keyword of a frame that is compared.
 #[derive(Clone, Copy)]
 pub(crate) enum Word {
     Same,
@@ -44,7 +44,7 @@ impl fmt::Display for Sending {
 }
 
 impl Word {
-    /// What it means, as a sentence, if other words of the line don't say it.
+    /// Returns what it means, as a sentence, if the rest of the line doesn't say it.
     fn reason(self) -> Option<&'static str> {
         match self {
             Word::Same | Word::Differs => None,
@@ -57,7 +57,7 @@ impl Word {
     }
 }
 
-/// The line of a frame that is compared: in JSON its keys in this order, in text the words.
+/// The line of a frame that is compared. In JSON its keys are in this order.
 #[derive(Clone, Copy, Serialize)]
 pub(crate) struct ComparedLine {
     moment: u64,

@@ -11,10 +11,10 @@ use std::alloc::Global;
 /// How many frames wait at most.
 pub(crate) const MOST_AWAITED: usize = 1024;
 
-/// What is said of a frame that the station under test sent.
+/// The result for a frame that the station under test sent.
 #[derive(Debug, Drop)]
 pub enum Compared {
-    /// It is this frame.
+    /// It equals this frame.
     Same(Awaited),
     /// It is another frame than this one, of the same packet.
     Other(Awaited),
@@ -29,19 +29,15 @@ pub enum Compared {
 /// The frames that the written rules send, and that the station under test may still send.
 #[derive(Drop)]
 pub struct Comparison {
-    /// The address of the station under test.
-    address: GnAddress,
     awaited: Vec<Awaited>,
 }
 
 impl Comparison {
-    /// No frame waits. The station under test has this address.
-    pub fn new(alloc: Global, address: GnAddress) -> Comparison
-        ensures address { result.address ≡ address }
-        ensures awaited { result.awaited.items ≡ [] }
+    /// Returns a comparison in which no frame waits.
+    pub fn new(alloc: Global) -> Comparison
+        ensures { result.awaited.items ≡ [] }
     {
         Comparison {
-            address,
             awaited: Vec::new(alloc),
         }
     }
@@ -49,10 +45,9 @@ impl Comparison {
     /// Adds a frame that the written rules send. If 1024 wait, the first one waits no longer, and
     /// is returned. `NoMemory` if an allocation failed.
     pub fn expect(&mut self, frame: Awaited) -> Result<Option<Awaited>, NoMemory>
-        ensures awaited { IfOk result (λ gone. (rest : List Awaited)
+        ensures { IfOk result (λ gone. (rest : List Awaited)
             × IsTakenAt self.old.awaited.items (crowded_place self.old.awaited.items) gone rest
             × (self.new.awaited.items ≡ rest ++ frame ∷ [])) }
-        ensures address { self.new.address ≡ self.old.address }
     {
         let gone = self.make_way();
         if self.awaited.push(frame).is_err() {
@@ -61,11 +56,10 @@ impl Comparison {
         Ok(gone)
     }
 
-    /// Takes the first frame, if as many wait as may.
+    /// Removes the first frame, if as many wait as may.
     fn make_way(&mut self) -> Option<Awaited>
-        ensures taken { IsTakenAt self.old.awaited.items (crowded_place self.old.awaited.items)
+        ensures { IsTakenAt self.old.awaited.items (crowded_place self.old.awaited.items)
             result self.new.awaited.items }
-        ensures address { self.new.address ≡ self.old.address }
     {
         if self.awaited.len() < MOST_AWAITED {
             return None;
@@ -73,61 +67,58 @@ impl Comparison {
         Some(self.take(0))
     }
 
-    /// Takes the first frame whose time was over before a moment: the station under test did not
+    /// Removes the first frame whose time was over before `now`. The station under test did not
     /// send it.
     pub fn next_missed(&mut self, now: u64) -> Option<Awaited>
-        ensures taken { IsTakenAt self.old.awaited.items (missed_place now self.old.awaited.items)
+        ensures { IsTakenAt self.old.awaited.items (missed_place now self.old.awaited.items)
             result self.new.awaited.items }
-        ensures address { self.new.address ≡ self.old.address }
     {
         let place = place_of_missed(self.awaited.as_slice(), now)?;
         Some(self.take(place))
     }
 
-    /// Says what the station under test sent: these octets, of a packet of this source, if they are
-    /// read. It answers the first frame that waits and equals it but for the link source, otherwise
-    /// the first of the same packet. That frame waits no longer.
-    pub fn compare(&mut self, sent: &[u8], source: Option<u64>) -> Compared
-        ensures said { IsCompared self.old.address self.old.awaited.items sent.now source result
+    /// Compares what the station under test, of this address, sent: these octets, with the source of
+    /// their packet, if they are read. They answer the first waiting frame that is equal except for
+    /// the link source, and otherwise the first with the same packet. That frame waits no longer.
+    pub fn compare(&mut self, address: GnAddress, sent: &[u8], source: Option<u64>) -> Compared
+        ensures { IsCompared address self.old.awaited.items sent.now source result
             self.new.awaited.items }
-        ensures address { self.new.address ≡ self.old.address }
     {
         match place_of_same(self.awaited.as_slice(), sent) {
             Some(place) => Compared::Same(self.take(place)),
-            None => self.compare_packet(sent, source),
+            None => self.compare_packet(address, sent, source),
         }
     }
 
-    /// Says what the station under test sent, which equals no frame that waits.
-    fn compare_packet(&mut self, sent: &[u8], source: Option<u64>) -> Compared
+    /// Compares what the station under test sent with waiting frames of the same packet, since it
+    /// equals none.
+    fn compare_packet(&mut self, address: GnAddress, sent: &[u8], source: Option<u64>) -> Compared
         requires { same_place sent.now self.old.awaited.items ≡ None }
-        ensures said { IsCompared self.old.address self.old.awaited.items sent.now source result
+        ensures { IsCompared address self.old.awaited.items sent.now source result
             self.new.awaited.items }
-        ensures address { self.new.address ≡ self.old.address }
     {
         match place_of_packet(self.awaited.as_slice(), sent) {
             Some(place) => Compared::Other(self.take(place)),
-            None => self.say_unasked(source),
+            None => say_unasked(address, source),
         }
     }
 
-    /// Says what the station under test sent, which answers no frame that waits.
-    fn say_unasked(&self, source: Option<u64>) -> Compared
-        ensures { IsUnasked self.now.address source result }
-    {
-        match source {
-            Some(source) if source == self.address.as_u64() => Compared::Own,
-            Some(_) => Compared::Extra,
-            None => Compared::Unread,
-        }
-    }
-
-    /// Takes the frame at a place.
+    /// Removes the frame at this index.
     fn take(&mut self, place: usize) -> Awaited
         requires { place < vec_len self.old.awaited }
-        ensures taken { IsTaken self.old.awaited.items place result self.new.awaited.items }
-        ensures address { self.new.address ≡ self.old.address }
+        ensures { IsTaken self.old.awaited.items place result self.new.awaited.items }
     {
         self.awaited.remove(place)
+    }
+}
+
+/// Says what the station under test, of this address, sent, which answers no frame that waits.
+fn say_unasked(address: GnAddress, source: Option<u64>) -> Compared
+    ensures { IsUnasked address source result }
+{
+    match source {
+        Some(source) if source == address.as_u64() => Compared::Own,
+        Some(_) => Compared::Extra,
+        None => Compared::Unread,
     }
 }

@@ -6,7 +6,7 @@ use serde::Serialize;
 use std::alloc::{AllocError, Global};
 use std::fmt;
 
-/// Where the link source, the packet and the hops that it has left are in a frame.
+/// The positions of the link source, the packet and its remaining hop limit in a frame.
 const LINK_SOURCE: usize = 6;
 
 const PACKET: usize = 14;
@@ -16,7 +16,7 @@ const HOPS: usize = 17;
 /// How a frame that was sent differs from the one that the written rules send.
 #[derive(Clone, Copy)]
 pub(crate) struct Difference {
-    /// The hops left that were sent, and those of the rules.
+    /// The remaining hop limit that was sent, and that of the rules.
     pub(crate) hops: Option<(u8, u8)>,
     /// The link target that was sent, and that of the rules.
     pub(crate) target: Option<(Mac, Mac)>,
@@ -25,7 +25,7 @@ pub(crate) struct Difference {
 }
 
 impl Difference {
-    /// No difference.
+    /// Returns no difference.
     pub(crate) fn none() -> Difference {
         Difference {
             hops: None,
@@ -34,7 +34,7 @@ impl Difference {
         }
     }
 
-    /// The difference of what was sent from what the rules send.
+    /// Returns how what was sent differs from what the rules send.
     pub(crate) fn of(owed: &[u8], sent: &[u8]) -> Difference {
         Difference {
             hops: other_hops(owed, sent),
@@ -44,13 +44,13 @@ impl Difference {
     }
 }
 
-/// The hops left of what was sent and of what the rules send, if they differ.
+/// Returns the remaining hop limits of what was sent and of what the rules send, if they differ.
 fn other_hops(owed: &[u8], sent: &[u8]) -> Option<(u8, u8)> {
     let (owed, sent) = (*owed.get(HOPS)?, *sent.get(HOPS)?);
     (owed != sent).then_some((sent, owed))
 }
 
-/// The link targets of what was sent and of what the rules send, if they differ.
+/// Returns the link targets of what was sent and of what the rules send, if they differ.
 fn other_target(owed: &[u8], sent: &[u8]) -> Option<(Mac, Mac)> {
     let (owed, sent) = (target_of(owed)?, target_of(sent)?);
     (owed != sent).then_some((sent, owed))
@@ -63,8 +63,8 @@ fn target_of(frame: &[u8]) -> Option<Mac> {
     Some(Mac::from_octets(octets))
 }
 
-/// The first octet of a packet that differs, without its hops. If one packet is the front of the
-/// other, the length of the shorter.
+/// Returns the position of the first octet of a packet that differs, except that of its hop limit.
+/// If one packet is the front of the other, it is the length of the shorter.
 fn other_octet(owed: &[u8], sent: &[u8]) -> Option<u64> {
     for (place, (first, second)) in owed.iter().zip(sent).enumerate() {
         if first != second && PACKET <= place && place != HOPS {
@@ -87,13 +87,13 @@ pub(crate) struct DifferenceCounts {
     pub(crate) own: u64,
     pub(crate) unread: u64,
     pub(crate) unknown: u64,
-    /// Those that were sent in place of another.
+    /// Frames that were sent instead of another one.
     #[serde(skip)]
     pub(crate) others: u64,
 }
 
 impl DifferenceCounts {
-    /// Counts a frame that was sent in place of another.
+    /// Counts a frame that was sent instead of another one.
     pub(crate) fn add(&mut self, difference: &Difference) {
         self.others = self.others.saturating_add(1);
         if difference.hops.is_some() {

@@ -1,31 +1,31 @@
-//! What came of the records of a capture, and what takes it.
+//! The outcomes of a capture's records, and the sink that takes them.
 
 use crate::replay::reply::UnitReply;
 use cap_records::RecordFault;
 use cmd_reporting::Fault;
 
-/// What came of a record that is chosen.
+/// The outcome of a selected record.
 #[derive(Debug, Drop, PartialEq, Eq)]
 pub enum Heard {
     /// The unit received its frame.
     Received {
-        /// The record's moment, in milliseconds.
+        /// The record's time, in milliseconds.
         moment: u64,
         /// The octets that the unit received.
         frame: Vec<u8>,
-        /// What it answered.
+        /// What the unit returned.
         reply: UnitReply,
     },
     /// Its link layer has no frame, so nothing reached the unit.
     Nothing {
-        /// The record's moment, in milliseconds.
+        /// The record's time, in milliseconds.
         moment: u64,
-        /// Why there is none.
+        /// Why the record has no frame.
         fault: RecordFault,
     },
     /// The station under test sent it, so the unit receives nothing.
     Sent {
-        /// The record's moment, in milliseconds.
+        /// The record's time, in milliseconds.
         moment: u64,
         /// The octets that it sent.
         frame: Vec<u8>,
@@ -35,7 +35,7 @@ pub enum Heard {
 }
 
 impl Heard {
-    /// The record's moment, in milliseconds.
+    /// The record's time, in milliseconds.
     pub(crate) fn moment(&self) -> u64 {
         match self {
             Heard::Received { moment, .. }
@@ -50,16 +50,16 @@ impl Heard {
     }
 }
 
-/// What takes what came of records, one by one, in their order.
+/// Takes the outcomes of records, one by one, in their order.
 pub trait HeardSink {
     ghost use Rattle.std.specs.Prelude.{◌++◌, ◌∷◌, [], List, OnOk};
     ghost use Rattle.cmd_stats.specs.declared.replay.heard.Heard.{Heard};
 
-    /// What it says of having taken these, in order. A sink that keeps none may say nothing of
-    /// them.
+    /// What holds for a sink that took these outcomes, in order. A sink that keeps none may say
+    /// nothing.
     ghost Took: { Self → List Heard → Type 0 };
 
-    /// Takes what came of the next record. `NoOutput` where a write failed, `OutOfMemory` where an
+    /// Takes the outcome of the next record. `NoOutput` if a write failed, `OutOfMemory` if an
     /// allocation did.
     fn put<'f>(&mut self, heard: Heard) -> Result<(), Fault<'f>>
         ensures { (log : List Heard) → Took self.old log

@@ -4,13 +4,13 @@ use cmd_reporting::is_standard;
 use std::io;
 use std::io::Read;
 
-/// Standard input of one of the files that a command reads, or nothing.
+/// Standard input, if it is one of the files that a command reads.
 #[derive(Drop)]
 pub(crate) struct MaybeInput<I>(Option<I>);
 
 impl<I: Drop> MaybeInput<I> {
-    /// What the capture reads if its name is that of standard input, and what the moves of this name
-    /// read, if there are any.
+    /// Returns the reader of the capture and that of the moves with this name, if there are any.
+    /// One of them is standard input.
     pub(crate) fn split(input: I, moves: Option<&str>) -> (MaybeInput<I>, MaybeInput<I>) {
         match moves {
             Some(name) if is_standard(name) => (MaybeInput(None), MaybeInput(Some(input))),

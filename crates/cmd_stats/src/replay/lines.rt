@@ -1,4 +1,4 @@
-//! The line of a record: its words, and its keys in JSON.
+//! The line of a record, as text and as keys in JSON.
 
 use crate::replay::heard::Heard;
 use crate::replay::reply::UnitReply;
@@ -21,9 +21,9 @@ pub(crate) struct ReplayLine<'a> {
 /// The code of what is refused.
 #[derive(Clone, Copy)]
 enum Code {
-    /// By the station, as `S3 L1`.
+    /// By the station, for example `S3 L1`.
     Station(RefusedCode),
-    /// Before it reached the station, as `P4`.
+    /// Before it reached the station, for example `P4`.
     Record(RecordCode),
 }
 
@@ -36,7 +36,7 @@ impl fmt::Display for Code {
     }
 }
 
-/// Why it is refused, as a sentence. Of octets that are no frame it is theirs.
+/// Why it is refused, as a sentence. If octets are not a frame, it is the sentence of their fault.
 #[derive(Clone, Copy)]
 enum Reason {
     Station(Refused),
@@ -53,8 +53,8 @@ impl fmt::Display for Reason {
 }
 
 impl<'a> ReplayLine<'a> {
-    /// The line of a record. A frame that is forwarded gets this number. With `explain` the words of
-    /// a refusal end with its sentence.
+    /// Returns the line of a record. A frame that is forwarded gets this number. With `explain` the
+    /// text of a refusal ends with its sentence.
     pub(crate) fn of(heard: &'a Heard, number: u64, explain: bool) -> ReplayLine<'a> {
         let (moment, answer) = match heard {
             Heard::Received {
@@ -77,7 +77,7 @@ impl<'a> ReplayLine<'a> {
     }
 }
 
-/// What is printed of a reply to these octets.
+/// Returns what is printed of a reply to these octets.
 fn reply_keys<'a>(
     reply: &'a UnitReply,
     frame: &[u8],
@@ -89,7 +89,7 @@ fn reply_keys<'a>(
     }
 }
 
-/// What is printed of an answer to these octets.
+/// Returns what is printed of an answer to these octets.
 fn answer_keys<'a>(
     answer: &'a StationAnswer,
     frame: &[u8],
@@ -113,7 +113,7 @@ fn answer_keys<'a>(
     }
 }
 
-/// Why the station refused these octets.
+/// Returns why the station refused these octets.
 fn reason_of(refused: Refused, frame: &[u8]) -> Reason {
     match refused {
         Refused::Frame(fault) => Reason::Record(RecordFault::of(fault, frame)),

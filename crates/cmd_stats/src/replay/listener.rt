@@ -1,4 +1,4 @@
-//! What receives the records of a capture: a unit, and the moves that it is still to make.
+//! The unit that receives the records of a capture, and its further moves.
 
 ghost use Rattle.std.specs.Prelude.{◌≡◌};
 ghost use Rattle.cmd_stats.specs.Listening.{Listening, Represents, first_due, moved};
@@ -13,12 +13,12 @@ use its_unit::{Limiting, Unit};
 pub struct Rules {
     /// Whether the limits of the unit apply.
     pub limiting: Limiting,
-    /// The link address of the station under test, if there is one: the unit doesn't receive the
-    /// frames that come from it.
+    /// The link address of the station under test, if there is one. The unit doesn't receive its
+    /// frames.
     pub against: Option<Mac>,
 }
 
-/// A unit, and the moves that it is still to make, in the order of their times.
+/// A unit and its further moves, in the order of their times.
 #[derive(Drop)]
 pub struct Listener<'m> {
     /// The unit.
@@ -28,7 +28,7 @@ pub struct Listener<'m> {
 }
 
 impl Listener<'_> {
-    /// Makes the moves up to a moment, each at its own time.
+    /// Makes the moves up to this time, each at its own time.
     pub(crate) fn make_moves(&mut self, moment: u64)
         ensures { (m : Listening) → Represents self.old m →
             Represents self.new (moved moment m) }
@@ -44,7 +44,7 @@ impl Listener<'_> {
     }
 }
 
-/// The first of these moves, if its time is no later than this moment.
+/// Returns the first of these moves, if it is not later than this time.
 fn first_due(moves: &[Move], moment: u64) -> Option<Move>
     ensures { result ≡ first_due moment moves.now }
 {

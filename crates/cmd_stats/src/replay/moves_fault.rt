@@ -12,7 +12,7 @@ use thiserror::Error;
 /// What is wrong with a row.
 #[derive(Clone, Copy, Debug, PartialEq, Eq)]
 pub(crate) enum MoveWord {
-    /// It is no row of a file of moves.
+    /// It is not a row of a file of moves.
     Row(Word),
     /// Its id is another one than that of the row before.
     OtherId,
@@ -43,7 +43,7 @@ impl fmt::Display for MoveReason<'_> {
     }
 }
 
-/// Why a file of moves is not read. Its text is the line on standard error.
+/// Why a file of moves is not read. It prints as its line on standard error.
 #[derive(Debug, Drop, Error)]
 pub(crate) enum MoveRowsFault<'a> {
     /// A line, counted from 1, is refused.
@@ -56,13 +56,13 @@ pub(crate) enum MoveRowsFault<'a> {
         /// What is wrong with it.
         word: MoveWord,
     },
-    /// What ends any command.
+    /// A fault that can end any command.
     #[error("{0}")]
     Stopped(Fault<'a>),
 }
 
 impl<'a> MoveRowsFault<'a> {
-    /// That of a file of this name.
+    /// Returns the fault of a file with this name.
     pub(crate) fn of(fault: MovesFault, file: &'a str) -> MoveRowsFault<'a> {
         match fault {
             MovesFault::Line(line, word) => MoveRowsFault::Row {
@@ -79,6 +79,8 @@ impl<'a> MoveRowsFault<'a> {
 }
 
 impl CommandFault for MoveRowsFault<'_> {
+    type Ending = Status;
+
     ghost use Rattle.cmd_stats.specs.Listening.{rows_fault_status};
 
     ghost status_of = { rows_fault_status };
@@ -91,7 +93,7 @@ impl CommandFault for MoveRowsFault<'_> {
         }
     }
 
-    /// That of a bad row goes on with its sentence.
+    /// Adds the sentence of a bad row.
     fn report<E: Write>(&self, format: OutputFormat, err: &mut E) {
         match self {
             MoveRowsFault::Row { file, word, .. } => {

@@ -1,4 +1,4 @@
-//! The octets of a record that were on the air, for a station to hear.
+//! The octets of a record that were on the air, which a station receives.
 
 ghost use Rattle.std.specs.Prelude.{◌≡◌, IfErr, IfOk};
 ghost use Rattle.its_linkframe.specs.FrameFaults.{IsFrameFault};
@@ -21,7 +21,7 @@ const SOURCE: usize = 6;
 
 const TYPE: usize = 12;
 
-/// What there is of a record for a station to hear.
+/// What a station receives of a record.
 #[derive(Drop)]
 pub(crate) enum OnAir {
     /// These octets, whether they are a frame or not.
@@ -33,9 +33,9 @@ pub(crate) enum OnAir {
 }
 
 impl OnAir {
-    /// What there is of a record with this head and these octets, without what Ethernet filled a
-    /// short frame up with. `signed` says that secured frames are read by their plain part. What
-    /// the buffer has afterwards isn't said.
+    /// Returns what a station receives of a record with this header and these octets, without
+    /// Ethernet's padding of a short frame. With `signed`, secured frames are read by their plain
+    /// part. The content of the buffer afterwards is not specified.
     pub(crate) fn of(
         alloc: Global,
         head: &RecordHeader,
@@ -57,7 +57,7 @@ impl OnAir {
         }
     }
 
-    /// Octets that were read, as a station receives them.
+    /// Returns octets that were read, as a station receives them.
     fn heard(alloc: Global, read: Unpadded<'_>, signed: bool) -> Result<OnAir, AllocError>
         requires found { IfOk read.frame (λ v. EncodesFrame (transmission_of v) read.octets.now) }
         requires fault { IfErr read.frame (IsFrameFault read.octets.now) }
@@ -71,15 +71,15 @@ impl OnAir {
         Ok(OnAir::Octets(AirOctets::new(heard, frame.err())))
     }
 
-    /// Whether the record is chosen: one whose octets are no frame has nothing that frames are
-    /// chosen by.
+    /// Whether the record is selected. A record whose octets are not a frame has nothing by which
+    /// frames are selected.
     pub(crate) fn is_chosen(&self, choice: &Choice, moment: u64) -> bool
         ensures { AnswersChoice self.now choice.now moment result }
     {
         choice.is_chosen(moment, self.traits())
     }
 
-    /// What the record is chosen by: its frame, if it has one.
+    /// Returns what the record is selected by: its frame, if it has one.
     fn traits(&self) -> Option<Traits>
         ensures { AreTraitsOf self.now result }
     {
@@ -104,7 +104,7 @@ impl OnAir {
         }
     }
 
-    /// The source of its packet, if it is a frame that is read.
+    /// Returns the source of its packet, if it is a frame that is read.
     fn source(&self) -> Option<u64>
         ensures { IsSource self.now result }
     {
@@ -114,7 +114,7 @@ impl OnAir {
         }
     }
 
-    /// It, as what the station under test sent at a moment.
+    /// Returns it as what the station under test sent at a time.
     pub(crate) fn into_sent(self, moment: u64) -> Heard
         ensures { TellsSent self moment result }
     {
@@ -149,7 +149,7 @@ fn is_from(against: &Option<Mac>, octets: &[u8]) -> bool
     octets[SOURCE..TYPE] == sender[..]
 }
 
-/// The octets once more.
+/// Returns a copy of the octets.
 fn copied(alloc: Global, octets: &[u8]) -> Result<Vec<u8>, AllocError>
     ensures { IfOk result (λ copy. copy.items ≡ octets.now) }
 {

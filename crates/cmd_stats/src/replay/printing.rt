@@ -1,7 +1,6 @@
 //! The lines of a replay, and the file of its frames.
 
 ghost use Rattle.std.specs.Prelude.{◌≡◌, IfOk};
-ghost use Rattle.cmd_reporting.specs.Statuses.{IsCommandStatus};
 
 use crate::replay::against::AgainstFrames;
 use crate::replay::comparison::MOST_AWAITED;
@@ -18,24 +17,24 @@ use std::alloc::{AllocError, Global};
 use std::fmt::Display;
 use std::io::Write;
 
-/// Prints a line of each record, and writes the frames that go on to a file, where there is one. If
-/// the replay is compared with what a station sent, also prints what differs.
+/// Prints one line per record, and writes the frames that are forwarded to a file, if there is one.
+/// If the replay is compared with what a station sent, also prints what differs.
 #[derive(Drop)]
 pub(crate) struct Printer<'p, 't, W, E, F: Write + Drop> {
     alloc: Global,
     line: JsonLine,
-    /// Whether each line is written out at once, since the next read may wait.
+    /// Whether each line is flushed, since the next read may wait.
     waits: bool,
     pub(crate) io: &'p mut Io<W, E>,
     pub(crate) file: Option<FrameFile<'t, F>>,
-    /// How many frames went on so far.
+    /// How many frames were forwarded so far.
     frames: u64,
     /// The comparison, if there is one.
     against: Option<AgainstFrames>,
 }
 
 impl<'p, 't, W: Write, E: Write, F: Write + Drop> Printer<'p, 't, W, E, F> {
-    /// No line yet, and room for one.
+    /// Returns a printer that has printed no line. It allocates a buffer for one line.
     pub(crate) fn new(
         alloc: Global,
         waits: bool,
@@ -77,7 +76,7 @@ impl<'p, 't, W: Write, E: Write, F: Write + Drop> Printer<'p, 't, W, E, F> {
         Ok(Status::Refused)
     }
 
-    /// Passes on the frame of a reply, if it has one.
+    /// Forwards the frame of a reply, if it has one.
     fn pass_reply<'f>(&mut self, moment: u64, reply: UnitReply) -> Result<(), Fault<'f>> {
         match reply {
             UnitReply::Passed(Answer::Accepted { sent, .. }) => match sent {
@@ -101,7 +100,7 @@ impl<'p, 't, W: Write, E: Write, F: Write + Drop> Printer<'p, 't, W, E, F> {
         }
     }
 
-    /// Counts a frame that goes on, and writes it to the file.
+    /// Counts a frame that is forwarded, and writes it to the file.
     fn pass_on<'f>(&mut self, moment: u64, frame: Vec<u8>) -> Result<(), Fault<'f>> {
         let number = self.frames;
         // No file has as many records as there are numbers.
@@ -181,9 +180,7 @@ impl<'p, 't, W: Write, E: Write, F: Write + Drop> Printer<'p, 't, W, E, F> {
 
     /// Ends the comparison, if there is one, with the counts of what differs. `Refused` if a
     /// difference is an error and there is one.
-    pub(crate) fn end<'f>(&mut self) -> Result<Status, Fault<'f>>
-        ensures { IfOk result IsCommandStatus }
-    {
+    pub(crate) fn end<'f>(&mut self) -> Result<Status, Fault<'f>> {
         self.print_left()?;
         let (counts, has_error) = match &self.against {
             Some(against) => (against.counts, against.has_error()),

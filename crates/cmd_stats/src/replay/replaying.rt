@@ -1,4 +1,4 @@
-//! The records of a file, each received by the station at its moment.
+//! Replays the records of a file: the station receives each at its time.
 
 ghost use Rattle.std.specs.Prelude.{◌≡◌, [], IfOk, List};
 ghost use Rattle.its_unit.specs.Unit.{RepresentsUnit, UnitModel};
@@ -19,7 +19,7 @@ use its_loctable::SortedTable;
 use its_unit::{Limiting, Unit};
 use std::alloc::{AllocError, Global};
 
-/// Reads what there is of a record for a station to hear.
+/// Reads what a station receives of a record.
 #[derive(Drop)]
 struct AirReader {
     alloc: Global,
@@ -47,26 +47,26 @@ impl RecordReader for AirReader {
     }
 }
 
-/// Reads the file to its end, to its fault or until as many records are chosen as are wanted, and
-/// gives the octets of each chosen one to the unit, at the record's moment: each is a call of
-/// `Unit::receive`, or of `Unit::receive_verified` for a secured frame, if the selection reads these
-/// by their plain part. So it is within the limits. Past them, none applies to the call. Before a
-/// chosen record the moves up to its moment are made. The reply is passed to the sink before the next
-/// record is read. Returns how many records were read, and the fault of the file if it has one.
+/// Reads the file to its end, to its fault or until as many records are selected as are wanted.
+/// Passes the octets of each selected record to the unit, at the record's time, by a call of
+/// `Unit::receive`, or of `Unit::receive_verified` for a secured frame, if the selection reads
+/// these by their plain part. If `rules` lifts the limits of the unit, none applies to these calls.
+/// Before a selected record the moves up to its time are made. The reply is passed to the sink
+/// before the next record is read. Returns how many records were read, and the fault of the file if
+/// it has one.
 ///
-/// `OutOfMemory` where an allocation failed, and what the sink answers: then nothing further is
-/// read.
+/// Returns `OutOfMemory` if an allocation failed, and any fault of the sink. Nothing more is read
+/// then.
 ///
 /// With `against`, a frame from this link address is what the station under test sent. It is passed
 /// to the sink, and the unit doesn't receive it.
 ///
 /// - its clause (`IsReplayedWhole`): each selected record, in order, is one step of the written
-///   rules of just this unit, at the record's time and with the octets of its frame, or is
-///   reported as one without a frame, or as one that the station under test sent. What is reported
-///   is that step's answer, once and in order. Each move is made once, in order and at its time, before
-///   the first selected record whose time is not before it (`moved`).
-///   The file is read to its end, to its fault, or to as many selected records as are wanted. The
-///   unit is one of the model throughout.
+///   rules of this unit, at the record's time and with the octets of its frame, or is reported as
+///   one without a frame, or as one that the station under test sent. That step's answer is
+///   reported, once and in order. Each move is made once, in order and at its time, before the
+///   first selected record whose time is not before it (`moved`). The file is read to its end, to
+///   its fault, or to as many selected records as are wanted. The unit is always one of the model.
 pub fn replay_records<'f, S: RecordSource + Drop, K: HeardSink>(
     alloc: Global,
     listener: &mut Listener<'_>,
@@ -93,8 +93,8 @@ pub fn replay_records<'f, S: RecordSource + Drop, K: HeardSink>(
     }
 }
 
-/// Makes the moves up to a moment. Then gives what was on the air to the unit, unless the station
-/// under test sent it, and what came of it to the sink.
+/// Makes the moves up to a time. Then passes what was on the air to the unit, unless the station
+/// under test sent it, and passes the outcome to the sink.
 fn hear<'f, K: HeardSink>(
     alloc: Global,
     listener: &mut Listener<'_>,
@@ -112,8 +112,8 @@ fn hear<'f, K: HeardSink>(
     sink.put(heard)
 }
 
-/// What there is to report of what was on the air at a moment. `NoMemory` if an allocation failed:
-/// the unit stands as before.
+/// Returns the outcome of what was on the air at a time. `NoMemory` if an allocation failed. The
+/// unit is unchanged then.
 fn heard_of(
     alloc: Global,
     unit: &mut Unit<SortedTable>,
@@ -130,8 +130,8 @@ fn heard_of(
     receive(alloc, unit, rules.limiting, moment, on_air)
 }
 
-/// Gives what was on the air to the unit at a moment. `NoMemory` if an allocation failed: the unit
-/// stands as before.
+/// Passes what was on the air to the unit at a time. `NoMemory` if an allocation failed. The unit
+/// is unchanged then.
 fn receive(
     alloc: Global,
     unit: &mut Unit<SortedTable>,
@@ -149,7 +149,7 @@ fn receive(
     }
 }
 
-/// Has the unit receive octets at a moment.
+/// Has the unit receive octets at a time.
 fn receive_octets(
     alloc: Global,
     unit: &mut Unit<SortedTable>,

@@ -1,4 +1,4 @@
-//! What a unit answers to a frame, with octets of its own.
+//! What a unit returns for a frame, with its own copy of the octets.
 
 ghost use Rattle.std.specs.Prelude.{◌≡◌, [], IfOk, vec_capacity, vec_len};
 ghost use Rattle.its_station.specs.Answers.{Fits};
@@ -10,12 +10,12 @@ use its_station::{Refused, StationAnswer};
 use its_unit::{Reaction, UnitOutcome};
 use std::alloc::Global;
 
-/// What a unit answers to a frame.
+/// What a unit returns for a frame.
 #[derive(Debug, Drop, PartialEq, Eq)]
 pub enum UnitReply {
-    /// This answer of its station, without what its limits withhold.
+    /// The answer of its station, without what its limits withhold.
     Passed(StationAnswer),
-    /// It delivered the packet before, and neither delivers nor forwards it.
+    /// The unit delivered the packet before, and neither delivers nor forwards it again.
     Repeated,
 }
 

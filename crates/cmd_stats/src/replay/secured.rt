@@ -30,7 +30,7 @@ impl SecuredOctets {
         SecuredOctets { frame, plain }
     }
 
-    /// What it is chosen by: the packet inside, if there is one.
+    /// Returns what it is selected by: the packet inside, if there is one.
     pub(crate) fn traits(&self) -> Option<Traits>
         ensures { AreInnerTraits self.now result }
     {
@@ -44,8 +44,8 @@ impl SecuredOctets {
         }
     }
 
-    /// Gives it to the unit at a moment, within its limits or past them. A frame that is no secured
-    /// one is the unit's to refuse; one whose message can't be read doesn't reach it. `NoMemory` if an
+    /// Passes it to the unit at a time, with or without its limits. The unit refuses a frame that
+    /// is not secured. A frame whose message can't be read doesn't reach the unit. `NoMemory` if an
     /// allocation failed.
     pub(crate) fn receive(
         self,
@@ -75,8 +75,8 @@ impl SecuredOctets {
     }
 }
 
-/// Receives a secured frame with its plain part as `Unit::receive_verified` does, within the limits or
-/// past them.
+/// Receives a secured frame with its plain part as `Unit::receive_verified` does, with or without
+/// the limits.
 fn receive_verified<'a>(
     unit: &mut Unit<SortedTable>,
     limiting: Limiting,

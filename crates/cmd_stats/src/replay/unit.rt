@@ -23,7 +23,7 @@ pub struct PortList {
 }
 
 impl PortList {
-    /// No port.
+    /// Returns a list without ports.
     pub fn new() -> PortList
         ensures { listed result ≡ [] }
     {
@@ -33,7 +33,7 @@ impl PortList {
         }
     }
 
-    /// The ports, in the order in which they were added.
+    /// Returns the ports, in the order in which they were added.
     pub fn as_slice(&self) -> &[u16]
         ensures { result.now ≡ listed self.now }
     {
@@ -47,8 +47,8 @@ impl PortList {
         self.as_slice().iter().any(|other| *other == port)
     }
 
-    /// Adds a port. `AlreadyOpen` (B2) where it is one of them, else `Full` (B3) where 64 others
-    /// are; the list is unchanged then.
+    /// Adds a port. Returns `AlreadyOpen` (B2) if the list has it, and otherwise `Full` (B3) if the
+    /// list has 64 ports. The list is unchanged then.
     pub fn add(&mut self, port: u16) -> Result<(), PortFault>
         ensures { MatchResult result
             (λ _. (is_among port (listed self.old) ≡ false)
@@ -72,19 +72,19 @@ impl PortList {
 pub struct ReplayUnit {
     /// Its address.
     pub address: GnAddress,
-    /// Where it is at first.
+    /// Its first position.
     pub place: Place,
-    /// How many sources it knows at most, 1 to 4096.
+    /// The size of its location table, 1 to 4096.
     pub capacity: u16,
-    /// How many sequence numbers it remembers of each, 1 to 64.
+    /// The length of its duplicate packet lists, 1 to 64.
     pub remember: u8,
-    /// The ports that it opens at moment 0.
+    /// The ports that it opens at time 0.
     pub ports: PortList,
 }
 
 impl ReplayUnit {
-    /// The unit at moment 0, its ports open, with the default limits. It doesn't contend. `NoMemory`
-    /// if an allocation failed.
+    /// Returns the unit at time 0, with its ports open and the default limits. It doesn't contend.
+    /// `NoMemory` if an allocation failed.
     pub(crate) fn begin(&self, alloc: Global) -> Result<Unit<SortedTable>, NoMemory>
         requires { IsUnit self.now }
         ensures { IfOk result (BeginsUnit Limits.CHANNEL (begun self.now)) }
@@ -93,7 +93,7 @@ impl ReplayUnit {
         Unit::new(alloc, station, &Limits::CHANNEL)
     }
 
-    /// The station at moment 0, its ports open. `NoMemory` if an allocation failed.
+    /// Returns the station at time 0, with its ports open. `NoMemory` if an allocation failed.
     fn begin_station(&self, alloc: Global) -> Result<Station<SortedTable>, NoMemory>
         requires { IsUnit self.now }
         ensures { IfOk result (λ station. RepresentsStation station (begun self.now)) }
@@ -108,7 +108,7 @@ impl ReplayUnit {
     }
 }
 
-/// Opens these ports at moment 0. One that can't be opened stays as it was.
+/// Opens these ports at time 0. A port that can't be opened stays as it was.
 fn open_ports(station: &mut Station<SortedTable>, ports: &[u16])
     ensures { (s : StationModel) → RepresentsStation station.old s →
         RepresentsStation station.new (with_open s ports.now) }

@@ -5,8 +5,8 @@ use std::fmt;
 /// The octets with which each gzip file begins.
 pub const GZIP: [u8; 2] = [0x1f, 0x8b];
 
-/// How a command reads a gzip file, by its words behind `geostation`. It prints as
-/// `a gzip file: use zcat FILE | geostation show -`.
+/// How a command reads a gzip file, with the arguments after `geostation`. It prints as `a gzip
+/// file: use zcat FILE | geostation show -`.
 #[derive(Clone, Copy, Debug, PartialEq, Eq)]
 pub struct GzipFile(pub &'static str);
 

@@ -1,23 +1,23 @@
-//! What is known of the octets of a line that were not kept.
+//! What is known about the octets of a line that were not kept.
 
 ghost use Rattle.std.specs.Prelude.{◌≡◌, ◌<◌, ◌+◌, ◌%◌, ◌==◌, ◌++◌, ◌↔◌, ◌⊎◌, ℕ, List, []};
 ghost use Rattle.std.specs.Prelude.{All, IsTrue, length};
 ghost use Rattle.std.specs.Char.{IsAsciiHexdigit};
 ghost use Rattle.cmd_text.specs.Lines.{IsPassed};
 
-/// What is known of octets that were not kept.
+/// What is known about octets that were not kept.
 #[derive(Clone, Copy)]
 pub struct Passed {
     /// Whether there are any.
     pub any: bool,
     /// Whether their number is odd.
     pub odd: bool,
-    /// Whether one of them is no hexadecimal digit.
+    /// Whether one of them is not a hexadecimal digit.
     pub stray: bool,
 }
 
 impl Passed {
-    /// None yet.
+    /// Returns what is known before the first of them.
     pub(crate) fn none() -> Passed
         ensures { IsPassed result [] }
     {

@@ -1,4 +1,4 @@
-//! A line is read from a reader.
+//! Reads a line from a reader.
 
 ghost use Rattle.std.specs.Prelude.{◌≡◌, ◌≤◌, ◌<◌, ◌==◌, ◌++◌, ◌↔◌, ◌⊎◌, ℕ, List, []};
 ghost use Rattle.std.specs.Prelude.{IfOk, IfSome, IsTrue, length, position, take, vec_len};
@@ -11,7 +11,7 @@ use std::io;
 use std::io::BufRead;
 
 impl Line {
-    /// No octet, and room for the octets of a line that are kept: so many at most.
+    /// Returns an empty line, with a buffer for the octets that are kept: at most this many.
     pub fn new(alloc: Global, most: usize) -> Result<Line, AllocError>
         ensures { IfOk result (λ line. line.most ≡ most) }
     {
@@ -23,7 +23,7 @@ impl Line {
         })
     }
 
-    /// Its first octets: so many as are kept of a line.
+    /// Returns its first octets, which are kept.
     pub fn start(&self) -> &[u8]
         ensures octets { result.now ≡ self.now.start.items }
         ensures bounded { length result.now ≤ self.now.most }
@@ -31,7 +31,7 @@ impl Line {
         self.start.as_slice()
     }
 
-    /// What goes on past that.
+    /// Returns what is known about the further octets.
     pub fn passed(&self) -> Passed
         ensures { result ≡ self.now.passed }
     {
@@ -45,16 +45,16 @@ impl Line {
         self.start.is_empty()
     }
 
-    /// Reads the next line of the reader in place of this, without its line feed. `false` if
-    /// there is no further line: it has no octet then.
+    /// Reads the next line of the reader, without its line feed, which replaces this one. `false`
+    /// if there is no further line. It is empty then.
     ///
-    /// If the reader's octets are known, it is their first line, and the reader is left with the octets
-    /// behind the line feed.
+    /// If the reader's octets are known, it is their first line, and the octets after the line feed
+    /// are left in the reader.
     ///
-    /// - `line` (`IsLineRead`): if the octets of the reader are known and the read ends well, the
-    ///   answer is `false` if and only if none is left. Otherwise what is kept is the beginning of
-    ///   their first line, what is known of its other octets is so, and the reader is left with
-    ///   what follows the line feed.
+    /// - `line` (`IsLineRead`): if the octets of the reader are known and the read succeeds, the
+    ///   result is `false` if and only if none is left. Otherwise the beginning of their first line
+    ///   is kept, what is known about its other octets is true, and what follows the line feed is
+    ///   left in the reader.
     pub fn read<R: BufRead>(&mut self, reader: &mut R) -> io::Result<bool>
         ensures kept { self.new.most ≡ self.old.most }
         ensures none { IfOk result (λ is_there. ¬ IsTrue is_there → vec_len self.new.start ≡ 0) }
@@ -90,7 +90,8 @@ impl Line {
         self.passed = Passed::none();
     }
 
-    /// Adds what the reader has ready of this line, and takes it from there, with the line feed.
+    /// Adds the octets of this line that the reader has ready, and takes them from the reader, with
+    /// the line feed.
     fn read_ready<R: BufRead>(&mut self, reader: &mut R) -> io::Result<Reached>
         ensures most { self.new.most ≡ self.old.most }
         ensures piece { IfOk result (TakesPiece (R.remaining reader.old)
@@ -120,8 +121,7 @@ impl Line {
     }
 
     #[tactic(auto, using(crate::proofs::Kept::kept_take))]
-    /// Adds octets, of which it keeps those up to the longest line. It takes no memory: there is
-    /// room for these.
+    /// Adds octets, and keeps those that fit the buffer. It allocates no memory.
     fn add(&mut self, octets: &[u8])
         ensures kept { self.new.start.items
             ≡ take self.old.most (self.old.start.items ++ octets.now) }
@@ -138,16 +138,16 @@ impl Line {
     }
 }
 
-/// Where the first line feed is.
+/// Returns where the first line feed is.
 fn line_feed(octets: &[u8]) -> Option<usize>
     ensures { result ≡ position (λ octet. octet == 10) octets.now }
 {
     octets.iter().position(|octet| *octet == b'\n')
 }
 
-/// Where a reader of a line is.
+/// The state of reading a line.
 enum Reached {
-    /// The line may go on.
+    /// The line may have further octets.
     Within,
     EndOfLine,
     EndOfText,

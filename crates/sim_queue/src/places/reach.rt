@@ -10,8 +10,9 @@ use its_loctable::SortedTable;
 use its_station::Station;
 use std::alloc::AllocError;
 
-/// Finds the stations that receive what one of them sends: the numbers of all others at most
-/// `range` metres from it, in order, by their last known positions. They replace what `found` had.
+/// Finds the stations that receive what station `giver` sends from this position: the numbers of
+/// all others at most `range` metres away, in order, by their last known positions. They replace
+/// the content of `found`.
 pub fn find_hearers(
     range: u16,
     stations: &[Station<SortedTable>],
@@ -31,7 +32,7 @@ pub fn find_hearers(
     Ok(())
 }
 
-/// Whether the station of this number receives what another one sends at this centre.
+/// Whether the station with this number receives what another one sends from this centre.
 fn hears(
     range: u16,
     centre: &Centre,
@@ -44,7 +45,7 @@ fn hears(
     number != giver && is_within(range, centre, station.vector().place())
 }
 
-/// Whether a place is at most `range` metres from a centre.
+/// Whether a position is at most `range` metres from a centre.
 pub fn is_within(range: u16, centre: &Centre, place: Place) -> bool
     ensures { result ≡ is_within range centre.now.place place }
 {

@@ -13,7 +13,7 @@ pub(crate) struct Bounds {
 }
 
 impl Bounds {
-    /// Those of no position.
+    /// Returns the bounds of no position.
     pub(crate) fn none() -> Bounds {
         Bounds {
             south: i32::MAX,
@@ -23,7 +23,7 @@ impl Bounds {
         }
     }
 
-    /// Takes one more position.
+    /// Extends the bounds to one more position.
     #[inline(always)]
     pub(crate) fn extend(&mut self, place: Place) {
         let (lat, lon) = (place.lat(), place.lon());
@@ -38,7 +38,7 @@ impl Bounds {
         self.south <= 0 && self.north >= 0 && self.west <= 0 && self.east >= 0
     }
 
-    /// Whether all positions are within so many metres of the point in their middle.
+    /// Whether all positions are within this many metres of the point in their middle.
     pub(crate) fn are_within(self, radius: u16) -> bool {
         match (
             Place::new(self.south, self.west),
@@ -52,8 +52,8 @@ impl Bounds {
         }
     }
 
-    /// How many kilometres a place is away from them at least, rounded down. `None` if there are no
-    /// positions.
+    /// Returns the least distance of a position from them in kilometres, rounded down. `None` if
+    /// there are no positions.
     pub(crate) fn kilometres_to(self, place: Place) -> Option<u64> {
         let lat = place.lat().max(self.south).min(self.north);
         let lon = place.lon().max(self.west).min(self.east);

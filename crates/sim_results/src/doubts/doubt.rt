@@ -3,17 +3,17 @@
 use cmd_quoting::OneLine;
 use std::fmt;
 
-/// A sign that a run isn't what its author meant, of a mistake that changes numbers and that
-/// nothing else reports. It prints as a sentence: where it is, what is wrong, what to do.
+/// A sign that a run isn't what its author meant: a mistake that changes numbers and is not
+/// reported otherwise. It prints as a sentence: where it is, what is wrong, what to do.
 #[derive(Debug, Drop, PartialEq, Eq)]
 pub enum Doubt {
-    /// A key of the scenario is unknown and ignored: the sentence of it.
+    /// A key of the scenario is unknown and ignored. With its sentence.
     UnknownKey(String),
-    /// The run and the rows of the file of moves don't meet.
+    /// The run and the rows of the file of moves don't have the same times.
     Begin(BeginDoubt),
-    /// Rows of a vehicle are farther apart than the time after which it leaves.
+    /// Rows of a vehicle are farther apart than the time after which it departs.
     RowsApart(RowsApart),
-    /// Rows of one vehicle have the same time: how many, and the first of them.
+    /// Rows of one vehicle have the same time. With how many, and the first of them.
     SameTime { rows: usize, id: String, at: u64 },
     /// Each position of the file is written with two decimals of a degree, or fewer.
     CoarsePositions { rows: usize },
@@ -43,10 +43,10 @@ pub enum BeginDoubt {
     BetweenRows { begin: u64, first: u64 },
 }
 
-/// How far rows of vehicles are apart that leave meanwhile.
+/// How far apart the rows of vehicles are that depart between them.
 #[derive(Clone, Copy, Debug, Default, PartialEq, Eq)]
 pub struct RowsApart {
-    /// How many rows come so late.
+    /// How many rows come after such a departure.
     pub rows: usize,
     /// How many rows follow another one of their vehicle.
     pub of: usize,
@@ -54,7 +54,7 @@ pub struct RowsApart {
     pub least: u64,
     /// The greatest of them.
     pub most: u64,
-    /// The time after which a vehicle leaves.
+    /// The time after which a vehicle departs.
     pub gone: u64,
 }
 
@@ -72,19 +72,19 @@ pub struct BusyChannel {
 /// What is doubtful about a warning.
 #[derive(Clone, Copy, Debug, PartialEq, Eq)]
 pub enum WarningDoubt {
-    /// Its lifetime is shorter than a second: the octet, and what it says.
+    /// Its lifetime is shorter than a second. With the octet, and its meaning.
     ShortLifetime { octet: u8, millis: u64 },
-    /// No station was ever in its area. How many kilometres all were away from its centre at least,
-    /// if that is far.
+    /// No station was ever in its area. With the least distance of all stations from its centre in
+    /// kilometres, if that is far.
     EmptyArea { away: Option<u64> },
-    /// No station in its area had its port open, of so many, and not all are the sender.
+    /// None of this many stations in its area had its port open, and not all are the sender.
     ClosedPort { port: u16, stations: usize },
-    /// The run ended before so many of its deliveries.
+    /// The run ended before this many of its deliveries.
     CutOff { deliveries: usize, end: u64 },
 }
 
 impl Doubt {
-    /// The word for it in JSON. It stays as it is if the sentence changes.
+    /// Returns its keyword in JSON, which doesn't change with the sentence.
     pub fn word(&self) -> &'static str {
         match self {
             Doubt::UnknownKey(_) => "unknown-key",
@@ -99,7 +99,7 @@ impl Doubt {
         }
     }
 
-    /// The number in the scenario of the event that it is about, if it is about one.
+    /// Returns the number in the scenario of the event that it is about, if it is about one.
     pub fn event(&self) -> Option<usize> {
         match self {
             Doubt::Warning { event, .. } => Some(*event),

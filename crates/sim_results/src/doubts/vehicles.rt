@@ -13,13 +13,13 @@ use std::alloc::Global;
 /// Tenths of a microdegree in 0.01 degree.
 const COARSE: i32 = 100_000;
 
-/// Rows are too far apart if at least one of so many is.
+/// Rows count as too far apart if at least one in this many is.
 const ONE_OF: usize = 10;
 
-/// A begin below it, in milliseconds, may be one in seconds.
+/// A begin below this number of milliseconds may be meant in seconds.
 const SECOND: u64 = 1000;
 
-/// How long a run waits for the first row, in milliseconds, before its begin is doubtful.
+/// The time to the first row, in milliseconds, from which on the begin of a run is doubtful.
 const LONGEST_WAIT: u64 = 10_000;
 
 /// A vehicle: its id, and the time of its last row, if an event did not move a station then.
@@ -29,11 +29,11 @@ struct Vehicle {
     last: Option<u64>,
 }
 
-/// Rows that have the id and the time of another one.
+/// Rows that have the id and the time of another row.
 #[derive(Clone, Copy)]
 struct SameTime {
     rows: usize,
-    /// The vehicle of the first one, by its place.
+    /// The index of the vehicle of the first one.
     vehicle: usize,
     moment: u64,
 }
@@ -42,7 +42,7 @@ struct SameTime {
 #[derive(Drop)]
 pub(crate) struct VehicleWatch {
     alloc: Global,
-    /// How many stations are the scenario's own. Those of vehicles have the numbers after them.
+    /// How many stations are the scenario's own. The numbers of vehicles follow them.
     own: usize,
     vehicles: Vec<Vehicle>,
     /// The times at which an event of the scenario moves a station. Rows of these times are not
@@ -59,7 +59,7 @@ pub(crate) struct VehicleWatch {
 }
 
 impl VehicleWatch {
-    /// That of a run of the scenario that has not begun.
+    /// Returns the watch of a run that has not begun.
     pub(crate) fn new(
         alloc: Global,
         scenario: &Scenario,
@@ -83,7 +83,7 @@ impl VehicleWatch {
         })
     }
 
-    /// A row made the station of a vehicle of this id.
+    /// Notes that a row made the station of the vehicle with this id.
     pub(crate) fn take_made(&mut self, id: &str) -> Result<(), NoMemory> {
         let id = String::from_str(self.alloc, id)?;
         Ok(self.vehicles.push(Vehicle { id, last: None })?)
@@ -112,7 +112,7 @@ impl VehicleWatch {
         }
     }
 
-    /// Takes a row of a vehicle that comes so long after the one before.
+    /// Takes a row of a vehicle, which is `span` after the one before.
     fn take_step(&mut self, vehicle: usize, moment: u64, span: u64) {
         self.apart.of = self.apart.of.saturating_add(1);
         if span > self.apart.gone {
@@ -135,8 +135,8 @@ impl VehicleWatch {
         }
     }
 
-    /// Adds what is doubtful about the rows, of which so much was read. `warning` is the first time
-    /// at which the scenario warns.
+    /// Adds what is doubtful about the rows that were read. `warning` is the first time at which
+    /// the scenario warns.
     pub(crate) fn find(
         &self,
         timeline: &MovesTimeline,
@@ -179,7 +179,7 @@ impl VehicleWatch {
         })?)
     }
 
-    /// What is doubtful about the time of the file at which the run begins.
+    /// Returns what is doubtful about the time of the file at which the run begins.
     fn begin_doubt(
         &self,
         begin: u64,
@@ -203,7 +203,7 @@ impl VehicleWatch {
     }
 }
 
-/// What is doubtful about a run without a row.
+/// Returns what is doubtful about a run without a row.
 fn no_row_doubt(begin: u64, until: Option<u64>, read: MovesRead) -> BeginDoubt {
     match until {
         _ if read.lines <= 1 => BeginDoubt::NoRows,
@@ -223,7 +223,7 @@ fn is_coarse(place: Place) -> bool {
     place.lat() % COARSE == 0 && place.lon() % COARSE == 0
 }
 
-/// The times of the events that move a station.
+/// Returns the times of the events that move a station.
 fn moves_of(alloc: Global, events: &[AddressedEvent]) -> Result<Vec<u64>, NoMemory> {
     let mut moments = Vec::new(alloc);
     for event in events {

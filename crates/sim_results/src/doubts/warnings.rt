@@ -13,7 +13,7 @@ use std::alloc::Global;
 /// A shorter lifetime, in milliseconds, is doubtful.
 const SHORTEST_LIFETIME: u64 = 1000;
 
-/// From so many kilometres on a station is far away from an area.
+/// From this many kilometres on, a station is far away from an area.
 const FAR: u64 = 100;
 
 /// A packet for an area: its source, and its sequence number.
@@ -24,7 +24,7 @@ struct PacketName {
 }
 
 impl PacketName {
-    /// That of the packet in a frame, if it is one for an area.
+    /// Returns the name of the packet in a frame, if it is one for an area.
     fn of(octets: &[u8]) -> Option<PacketName> {
         let packet = match read_frame(octets) {
             Ok(frame) => frame.packet,
@@ -54,7 +54,7 @@ struct Warning {
     has_others: bool,
     /// Whether one of them had its port open.
     is_open: bool,
-    /// Whether a station was in its area since.
+    /// Whether a station was in its area after that.
     was_entered: bool,
     /// How many of its deliveries come after the end of the run.
     cut: usize,
@@ -74,7 +74,7 @@ impl Warning {
 #[derive(Drop)]
 pub(crate) struct WarningWatch {
     warnings: Vec<Warning>,
-    /// Those whose area no station entered yet, by their places.
+    /// The indices of the warnings whose area no station has entered yet.
     empty: Vec<usize>,
     /// The end of the run, and the first time at which a frame is sent whose deliveries come after
     /// it.
@@ -85,8 +85,8 @@ pub(crate) struct WarningWatch {
 }
 
 impl WarningWatch {
-    /// That of a run that has not begun, that ends at this time if one is known, and whose frames
-    /// are delivered after so many milliseconds.
+    /// Returns the watch of a run that has not begun. The run ends at this time, if it is known,
+    /// and its frames are delivered after this many milliseconds.
     pub(crate) fn new(alloc: Global, end: Option<u64>, delay: u16) -> WarningWatch {
         let end = end.unwrap_or(u64::MAX);
         WarningWatch {
@@ -116,7 +116,7 @@ impl WarningWatch {
         }
     }
 
-    /// Takes a frame that a station held and that goes out at this time.
+    /// Takes a frame that a station held and sends at this time.
     pub(crate) fn take_release(&mut self, octets: Option<&[u8]>, moment: u64) {
         self.late = None;
         if moment >= self.late_from {
@@ -124,14 +124,14 @@ impl WarningWatch {
         }
     }
 
-    /// Takes what goes out near the end of the run: it may be a warning that is forwarded.
+    /// Takes a frame that is sent near the end of the run. It may be a warning that is forwarded.
     fn take_late(&mut self, octets: Option<&[u8]>) {
         if let Some(packet) = octets.and_then(PacketName::of) {
             self.late = self.last_of(&packet);
         }
     }
 
-    /// The last warning of this packet. A station that restarts may use a number again.
+    /// Returns the last warning in this packet. A station that restarts may use a number again.
     fn last_of(&self, packet: &PacketName) -> Option<usize> {
         let mut last = None;
         for (place, warning) in self.warnings.iter().enumerate() {
@@ -142,7 +142,7 @@ impl WarningWatch {
         last
     }
 
-    /// A delivery of the frame that was just sent is put.
+    /// Notes that a delivery of the frame that was just sent is planned.
     pub(crate) fn take_delivery(&mut self) {
         let Some(late) = self.late else {
             return;
@@ -152,7 +152,7 @@ impl WarningWatch {
         }
     }
 
-    /// A station moved here, or came: it enters areas.
+    /// Notes that a station moved to this position, or arrived. It may enter areas.
     #[inline(always)]
     pub(crate) fn take_place(&mut self, place: Place) {
         if !self.empty.is_empty() {
@@ -160,7 +160,7 @@ impl WarningWatch {
         }
     }
 
-    /// A station is here: the areas with this place are no longer empty.
+    /// Notes that a station is at this position. The areas with this position are no longer empty.
     fn enter(&mut self, place: Place) {
         for empty in &self.empty {
             if let Some(warning) = self.warnings.get_mut(*empty) {
@@ -174,8 +174,8 @@ impl WarningWatch {
         });
     }
 
-    /// Takes a warning that an event of this number in the scenario sent, while these stations are
-    /// present.
+    /// Takes a warning that the event with this number in the scenario sent, while these stations
+    /// are present.
     pub(crate) fn take_send(
         &mut self,
         world: &World,
@@ -206,8 +206,8 @@ impl WarningWatch {
         Ok(self.warnings.push(warning)?)
     }
 
-    /// Whether deliveries of a warning come after the end of the run, by its place among those that
-    /// were sent.
+    /// Whether deliveries of a warning come after the end of the run, by its number among the sent
+    /// warnings.
     pub(crate) fn is_cut(&self, send: usize) -> bool {
         match self.warnings.get(send) {
             Some(warning) => warning.cut > 0,
@@ -220,7 +220,7 @@ impl WarningWatch {
         self.warnings.iter().any(|warning| warning.is_relayed)
     }
 
-    /// Adds what is doubtful about each warning, of a run whose stations were within these bounds.
+    /// Adds what is doubtful about each warning, for a run whose stations were within these bounds.
     pub(crate) fn find(&self, bounds: Bounds, found: &mut Vec<Doubt>) -> Result<(), NoMemory> {
         for warning in &self.warnings {
             let doubts = [
@@ -241,7 +241,7 @@ impl WarningWatch {
 }
 
 impl Warning {
-    /// Looks which stations are in its area when a station sends it.
+    /// Finds which stations are in its area when a station sends it.
     fn look_around(&mut self, world: &World, present: &[bool], sender: usize) {
         for (number, station) in world.stations().iter().enumerate() {
             let is_present = present.get(number).copied().unwrap_or(false);
@@ -255,13 +255,13 @@ impl Warning {
         }
     }
 
-    /// That its lifetime is very short.
+    /// Returns the doubt that its lifetime is very short, if there is one.
     fn lifetime_doubt(&self) -> Option<WarningDoubt> {
         let (octet, millis) = (self.lifetime.octet(), self.lifetime.millis());
         (millis < SHORTEST_LIFETIME).then_some(WarningDoubt::ShortLifetime { octet, millis })
     }
 
-    /// That no station was ever in its area.
+    /// Returns the doubt that no station was ever in its area, if there is one.
     fn area_doubt(&self, bounds: Bounds) -> Option<WarningDoubt> {
         if self.was_entered {
             return None;
@@ -273,14 +273,14 @@ impl Warning {
         Some(WarningDoubt::EmptyArea { away })
     }
 
-    /// That its port was open nowhere.
+    /// Returns the doubt that its port was open nowhere, if there is one.
     fn port_doubt(&self) -> Option<WarningDoubt> {
         let (port, stations) = (self.port, self.inside);
         let is_doubtful = self.has_others && !self.is_open;
         is_doubtful.then_some(WarningDoubt::ClosedPort { port, stations })
     }
 
-    /// That the run ended before its deliveries.
+    /// Returns the doubt that the run ended before its deliveries, if there is one.
     fn end_doubt(&self, end: u64) -> Option<WarningDoubt> {
         let deliveries = self.cut;
         (deliveries > 0).then_some(WarningDoubt::CutOff { deliveries, end })

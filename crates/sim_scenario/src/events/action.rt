@@ -30,12 +30,12 @@ pub enum Action {
     GeobroadcastAround(AroundRequest),
     /// The station sends a geoanycast for an area around itself.
     GeoanycastAround(AroundRequest),
-    /// The station leaves: it is absent from then on. This is no event of the world.
+    /// The station departs: it is absent from then on. This is not an event of the world.
     Leaves,
 }
 
 impl Action {
-    /// Returns the word of the action.
+    /// Returns the keyword of the action.
     pub fn verb(&self) -> Verb
         ensures { result ≡ action_verb self.now }
     {
@@ -65,8 +65,8 @@ impl Action {
         })
     }
 
-    /// Returns the action as an event or leave of this station at this moment, while the station
-    /// is at this position.
+    /// Returns the action as an event or leave of this station at this time, while the station is
+    /// at this position.
     pub(crate) fn done_at(self, station: usize, moment: u64, place: Place) -> FileEvent
         requires fits { FitsAction self }
         ensures done { IsDoneAt self station moment place result }

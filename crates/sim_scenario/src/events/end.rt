@@ -1,4 +1,4 @@
-//! When the run of an air ends.
+//! When a run with a radio model ends.
 
 ghost use Rattle.std.specs.Prelude.{◌≡◌, ◌<◌, ◌^◌, ◌+◌, All};
 ghost use Rattle.sim_scenario.specs.Airs.{end_of, greatest_moment, moment_of};
@@ -9,8 +9,8 @@ use sim_settings::Air;
 /// How long a run with a radio model goes on after the last event or row, in milliseconds.
 pub const AFTER_EVENTS: u64 = 10_000;
 
-/// The last moment that is run in an air over these events and leaves, in milliseconds: the one
-/// that is given, else ten seconds after the greatest moment of one of them.
+/// Returns the last time of a run with this radio model over these events and leaves, in
+/// milliseconds: the given one (default: ten seconds after the last of them).
 pub fn end_of(air: &Air, file: &[FileEvent]) -> u64
     requires { All (λ waiting. moment_of waiting < 2 ^ 63) file.now }
     ensures end { result ≡ end_of air.now.until file.now }
@@ -22,7 +22,7 @@ pub fn end_of(air: &Air, file: &[FileEvent]) -> u64
     }
 }
 
-/// The greatest moment of an event or a leave, 0 where there is none.
+/// Returns the time of the last event or leave. 0 if the list is empty.
 fn greatest(file: &[FileEvent]) -> u64
     requires { All (λ waiting. moment_of waiting < 2 ^ 63) file.now }
     ensures last { result ≡ greatest_moment file.now }

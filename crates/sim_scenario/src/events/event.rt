@@ -1,4 +1,4 @@
-//! The events and leaves of a scenario, line by line.
+//! The events and leaves of a scenario, one by one.
 
 ghost use Rattle.std.specs.Prelude.{◌≡◌, ◌<◌, ◌^◌, IfOk, IfSome, MatchOption, string_bytes};
 ghost use Rattle.its_words.specs.Fields.{IsMissing, IsNumber, IsText};
@@ -25,22 +25,22 @@ use its_words::keys::{Fields, Key, KeyFault, Verb, Verbs, Wrong, number, text, w
 use its_world::{Event, What};
 use std::alloc::{AllocError, Global};
 
-/// What waits in an air: a line of the scenario's file of events.
+/// An event or a leave of a scenario with a radio model.
 #[derive(Debug, Drop, PartialEq, Eq)]
 pub enum FileEvent {
     /// An event of the world.
     Happens(Event),
-    /// A station leaves: it is absent from then on. This is no event of the world.
+    /// A station departs: it is absent from then on. This is not an event of the world.
     Leaves {
-        /// The station, by its number: 0 to 65535. There may be no such station.
+        /// The number of the station: 0 to 65535. The station need not exist.
         station: usize,
-        /// The moment in milliseconds: 0 to 2^63 - 1.
+        /// The time in milliseconds: 0 to 2^63 - 1.
         moment: u64,
     },
 }
 
 impl FileEvent {
-    /// The moment in milliseconds.
+    /// Returns the time in milliseconds.
     pub fn moment(&self) -> u64
         ensures { result ≡ moment_of self.now }
     {
@@ -50,7 +50,7 @@ impl FileEvent {
         }
     }
 
-    /// The station, by its number.
+    /// Returns the number of the station.
     pub fn station(&self) -> usize
         ensures { result ≡ station_in self.now }
     {
@@ -60,7 +60,7 @@ impl FileEvent {
         }
     }
 
-    /// The event of the world, where it is one.
+    /// Returns the event of the world, if it is one.
     pub fn event(&self) -> Option<&Event> {
         match self {
             FileEvent::Happens(event) => Some(event),
@@ -69,7 +69,7 @@ impl FileEvent {
     }
 }
 
-/// For which station an event of a scenario with moves is.
+/// The station of an event of a scenario with moves.
 #[derive(Debug, Drop, PartialEq, Eq)]
 pub enum Addressee {
     /// A station of the scenario, by its number.
@@ -86,7 +86,7 @@ pub struct AddressedEvent {
     pub number: usize,
     /// Its station.
     pub addressee: Addressee,
-    /// The moment in milliseconds: 0 to 2^63 - 1.
+    /// The time in milliseconds: 0 to 2^63 - 1.
     pub moment: u64,
     /// What it does. It delivers no frame.
     pub action: Action,
@@ -101,12 +101,12 @@ impl AddressedEvent {
         }
     }
 
-    /// Returns the event or leave, as it is done by the station of this number while that station is
-    /// at this position. Fails if an allocation failed.
+    /// Returns the event or leave as the station with this number does it at this position. Fails
+    /// if an allocation failed.
     ///
-    /// - `done` (`IsDoneAt`): the event or leave is of that station, at its moment. An area around
-    ///   the station has that position as its centre, with its own shape and measures. All else is
-    ///   as the event says.
+    /// - `done` (`IsDoneAt`): the event or leave is of that station, at the event's time. An area
+    ///   around the station has that position as its centre, with its own shape and measures.
+    ///   Everything else is as the event says.
     /// - `speed`, `frame`: the speed is in its range, and the frame is that of the event.
     pub fn at(&self, alloc: Global, station: usize, place: Place) -> Result<FileEvent, AllocError>
         requires fits { FitsAddressed self.now }
@@ -127,7 +127,7 @@ impl AddressedEvent {
 pub(crate) struct StationEvent {
     /// Its station, by its number: 0 to 65535. There may be no such station.
     pub(crate) station: usize,
-    /// The moment in milliseconds: 0 to 2^63 - 1.
+    /// The time in milliseconds: 0 to 2^63 - 1.
     pub(crate) moment: u64,
     /// What it does.
     pub(crate) action: Action,
@@ -149,8 +149,8 @@ pub(crate) fn read_station_event<F: Fields>(
     })
 }
 
-/// Reads what is done, which is one of these words: a leave, `do = "leave"`, has no further keys.
-/// The centre of an area may be left out: then the area is around the station.
+/// Reads what is done, by one of these keywords. A leave, `do = "leave"`, has no further keys. If
+/// the centre of an area is left out, the area is around the station.
 fn read_action<F: Fields>(alloc: Global, fields: &F, verbs: Verbs) -> Result<Action, KeyFault>
     ensures says { IfOk result (SaysAction (F.values fields.now)) }
     ensures fits { IfOk result FitsAction }
@@ -167,9 +167,9 @@ fn read_action<F: Fields>(alloc: Global, fields: &F, verbs: Verbs) -> Result<Act
     }
 }
 
-/// Reads an event of a scenario without an air: `station`, `at`, in milliseconds below 2^63, and
-/// then what is done there, checked in this order. There may be no such station, and for `deliver`
-/// no such frame.
+/// Reads an event of a scenario without a radio model: `station`, `at`, in milliseconds below 2^63,
+/// and then what is done there, checked in this order. The station need not exist, nor the frame of
+/// `deliver`.
 pub fn read_event<F: Fields>(alloc: Global, fields: &F) -> Result<Event, KeyFault>
     ensures says { IfOk result (SaysEvent (F.values fields.now)) }
     ensures fits { IfOk result FitsEvent }
@@ -183,9 +183,9 @@ pub fn read_event<F: Fields>(alloc: Global, fields: &F) -> Result<Event, KeyFaul
     })
 }
 
-/// Reads an event or a leave of a scenario of so many stations that is run with moves: `id`, where
-/// it is there, else `station`, which has to be one of these, then `at`, and then what is done,
-/// checked in this order. Nothing is delivered. `number` is that of the event in the document.
+/// Reads an event or a leave of a scenario that is run with moves: `id`, or `station` without it,
+/// then `at`, then what is done, checked in this order. `station` has to be below `stations`.
+/// `deliver` is refused. `number` is that of the event in the document.
 pub fn read_addressed<F: Fields>(
     alloc: Global,
     fields: &F,
@@ -225,7 +225,7 @@ fn read_addressee<F: Fields>(
     }
 }
 
-/// The moment of an event or a leave, in milliseconds.
+/// Reads the time of an event or a leave, in milliseconds.
 fn read_moment<F: Fields>(fields: &F) -> Result<u64, KeyFault>
     ensures says { IfOk result (IsNumber (F.values fields.now) keys.At) }
     ensures range { IfOk result (λ moment. moment < 2 ^ 63) }
@@ -233,7 +233,7 @@ fn read_moment<F: Fields>(fields: &F) -> Result<u64, KeyFault>
     Ok(whole(fields, Key::At)? as u64)
 }
 
-/// The id of a station, where it is there.
+/// Reads the id of a station, if there is one.
 fn read_id<F: Fields>(alloc: Global, fields: &F) -> Result<Option<String>, KeyFault>
     ensures says { IfOk result (λ id. MatchOption id (IsMissing (F.values fields.now) keys.Id)
         (λ id. IsText (F.values fields.now) keys.Id (string_bytes id))) }
@@ -252,7 +252,7 @@ fn read_id<F: Fields>(alloc: Global, fields: &F) -> Result<Option<String>, KeyFa
     }
 }
 
-/// The number of a station that is one of so many.
+/// Reads the number of a station, which has to be below `stations`.
 fn read_own_station<F: Fields>(fields: &F, stations: usize) -> Result<usize, KeyFault>
     ensures says { IfOk result (IsNumber (F.values fields.now) keys.Station) }
     ensures range { IfOk result (λ station. station < 2 ^ 16) }
@@ -267,15 +267,15 @@ fn read_own_station<F: Fields>(fields: &F, stations: usize) -> Result<usize, Key
     }
 }
 
-/// What a station does by the word under `do`, where that is one of these words.
+/// Returns the keyword under `do`, if it is a known one.
 fn verb_under<F: Fields>(fields: &F) -> Option<Verb>
     ensures { IfSome result (λ verb. IsText (F.values fields.now) keys.Do (verb_word verb)) }
 {
     Verb::named(fields.text(Key::Do.word())?)
 }
 
-/// Reads what a station does, as `read_what` does. Where the word is none that is known, the one of
-/// these is told that may be meant.
+/// Reads what a station does, as `read_what` does. If the keyword is unknown, the fault names the
+/// one of these that may be meant.
 fn read_one_of<F: Fields>(alloc: Global, fields: &F, verbs: Verbs) -> Result<What, KeyFault>
     ensures says { IfOk result (λ what. SaysWhat (F.values fields.now) (what_of what)) }
     ensures fits { IfOk result FitsWhat }
@@ -287,7 +287,8 @@ fn read_one_of<F: Fields>(alloc: Global, fields: &F, verbs: Verbs) -> Result<Wha
     }
 }
 
-/// The fault of a word for what a station does that is none of these.
+/// Returns the fault of an unknown keyword: with the one of these that may be meant, if there is
+/// one.
 fn unknown_verb<F: Fields>(alloc: Global, fields: &F, verbs: Verbs) -> KeyFault {
     let word = fields.text(Key::Do.word()).unwrap_or("");
     match verbs.meant_by(alloc, word) {

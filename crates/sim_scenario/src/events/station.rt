@@ -10,16 +10,16 @@ use its_gnvalue::GnAddress;
 use its_words::keys::{Fields, Key, KeyFault, Wrong, octets_into, place, truth, whole_or};
 use its_world::Config;
 
-/// The capacity where none is given.
+/// The default size of the location table.
 const USUAL_ENTRIES: i64 = 64;
 
-/// How many numbers are remembered of a source where nothing is given.
+/// The default length of the duplicate packet list.
 const USUAL_NUMBERS: i64 = 8;
 
-/// Reads a station: `address`, `lat`, `lon`, `capacity`, `remember`, checked in this order. The last
-/// two may be missing: 64 and 8 stand for them then.
+/// Reads a station: `address`, `lat`, `lon`, `capacity` (default 64), `remember` (default 8),
+/// checked in this order.
 ///
-/// The first key that is missing, of another kind or out of range is refused.
+/// Returns the first key that is missing, of another kind or out of range.
 pub fn read_station<F: Fields>(fields: &F) -> Result<Config, KeyFault>
     ensures says { IfOk result (SaysStation (F.values fields.now)) }
     ensures ranges { IfOk result IsConfig }
@@ -36,14 +36,15 @@ pub fn read_station<F: Fields>(fields: &F) -> Result<Config, KeyFault>
     })
 }
 
-/// Whether a station is present at the start: `absent` is checked where it is there, else it is.
+/// Reads whether a station is present at the start: the opposite of `absent`, which is checked.
+/// Without `absent` it is present.
 pub fn read_present<F: Fields>(fields: &F) -> Result<bool, KeyFault>
     ensures { IfOk result (SaysPresent (F.values fields.now)) }
 {
     Ok(!fields.has(Key::Absent.word()) || !truth(fields, Key::Absent)?)
 }
 
-/// Whether a station contends: `contention` is checked where it is there. `None` where it isn't.
+/// Reads whether a station contends, by `contention`, which is checked. `None` without this key.
 pub fn read_own_contention<F: Fields>(fields: &F) -> Result<Option<bool>, KeyFault>
     ensures { IfOk result (SaysContends (F.values fields.now)) }
 {
@@ -54,7 +55,7 @@ pub fn read_own_contention<F: Fields>(fields: &F) -> Result<Option<bool>, KeyFau
     }
 }
 
-/// The address of 16 hexadecimal digits, whose MID is no group.
+/// Reads an address of 16 hexadecimal digits, whose MID is not that of a group.
 fn read_address<F: Fields>(fields: &F) -> Result<GnAddress, KeyFault>
     ensures { IfOk result (IsAddress (F.values fields.now)) }
 {
@@ -65,7 +66,7 @@ fn read_address<F: Fields>(fields: &F) -> Result<GnAddress, KeyFault>
     }
 }
 
-/// The octets of 16 hexadecimal digits.
+/// Reads 16 hexadecimal digits as octets.
 fn address_octets<F: Fields>(fields: &F) -> Result<[u8; 8], KeyFault>
     ensures stand { IfOk result (AreOctets (F.values fields.now) keys.Address) }
     ensures count { IfOk result (λ octets. length octets ≡ 8) }

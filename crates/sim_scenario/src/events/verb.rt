@@ -1,4 +1,4 @@
-//! The word of what happens at a station.
+//! The keyword of what happens at a station.
 
 ghost use Rattle.std.specs.Prelude.{◌≡◌};
 ghost use Rattle.its_words.specs.Verbs.{verb_of};
@@ -8,7 +8,7 @@ use its_words::calls::own_verb;
 use its_words::keys::Verb;
 use its_world::What;
 
-/// What a station does where this happens in a world.
+/// Returns the keyword of this call or delivery.
 pub fn verb_of(what: &What) -> Verb
     ensures { result ≡ verb_of (what_of what.now) }
 {

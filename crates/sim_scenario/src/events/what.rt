@@ -1,4 +1,4 @@
-//! What happens at a station, by its word and the keys of that word.
+//! Reads what happens at a station: a keyword and its keys.
 
 ghost use Rattle.std.specs.Prelude.{IfOk, IfErr};
 ghost use Rattle.its_words.specs.Faults.{IsWhatFault};
@@ -11,14 +11,13 @@ use its_words::keys::{Fields, Key, KeyFault, Verb, Wrong, text, whole};
 use its_world::What;
 use std::alloc::Global;
 
-/// Reads what a station does: the word under `do`, and then the keys of that word, checked in this
-/// order.
+/// Reads what a station does: the keyword under `do`, and then its keys, checked in this order.
 ///
-/// The first key that is missing, of another kind or out of range is refused.
+/// Returns the first key that is missing, of another kind or out of range.
 ///
-/// - `says` (`SaysWhat`): from fields of any notation: what is done is what the word under `do` and
-///   the keys of that word say.
-/// - `bad` (`IsBadOf`): the key that is refused has no value that it takes.
+/// - `says` (`SaysWhat`): for fields of any notation, the result is what the keyword under `do` and
+///   its keys say.
+/// - `bad` (`IsBadOf`): the key that is refused has no valid value.
 #[tactic(auto, using(its_words::proofs::Bad::bad_of, its_words::proofs::Bad::bad_word))]
 pub fn read_what<F: Fields>(alloc: Global, fields: &F) -> Result<What, KeyFault>
     ensures says { IfOk result (λ what. SaysWhat (F.values fields.now) (what_of what)) }

@@ -1,4 +1,4 @@
-//! Counting the frames that stations hold in a run, beside a tally of it.
+//! Counts the frames that stations hold in a run, in addition to its tally.
 
 use crate::tally::tally::Tally;
 use crate::{EventRecord, Note};
@@ -6,20 +6,20 @@ use its_gnvalue::NoMemory;
 use its_world::frame_of;
 use std::alloc::Global;
 
-/// Counts of the frames that stations held in a run, and of those of each packet for an area that
-/// didn't go out. It takes each event and note after the tally of the run.
+/// Counts of the frames that stations held in a run, and of those that were not sent, in all and
+/// for each packet for an area. It takes each event and note after the tally of the run.
 #[derive(Drop)]
 pub struct HeldTally {
     held: usize,
     cancelled: usize,
-    /// Frames that were held and didn't go out, or not yet.
+    /// Frames that were held and not sent, or not yet.
     unsent: usize,
-    /// Those of each packet for an area, by its place. Those of further ones are 0.
+    /// The same count for each packet for an area, by its number. Packets without an entry have 0.
     unsent_of: Vec<usize>,
 }
 
 impl HeldTally {
-    /// No frame was held.
+    /// Returns the counts before any frame was held.
     pub fn new(alloc: Global) -> HeldTally {
         HeldTally {
             held: 0,
@@ -29,22 +29,22 @@ impl HeldTally {
         }
     }
 
-    /// Frames that stations began to hold.
+    /// Returns how many frames stations began to hold.
     pub fn held(&self) -> usize {
         self.held
     }
 
-    /// Frames that they held no more, since others had sent them.
+    /// Returns how many held frames were cancelled, since other stations had sent them.
     pub fn cancelled(&self) -> usize {
         self.cancelled
     }
 
-    /// Frames that they held and that didn't go out.
+    /// Returns how many held frames were not sent.
     pub fn unsent(&self) -> usize {
         self.unsent
     }
 
-    /// Those of the packet for an area of this place.
+    /// Returns how many held frames of the packet for an area with this number were not sent.
     pub fn unsent_of(&self, send: usize) -> usize {
         self.unsent_of.get(send).copied().unwrap_or(0)
     }
@@ -73,7 +73,8 @@ impl HeldTally {
         Ok(())
     }
 
-    /// How many frames of the packet for an area that a frame carries didn't go out.
+    /// Returns the count of frames that were not sent, for the packet for an area that a frame
+    /// carries, if it carries one.
     fn of_frame(&mut self, tally: &Tally, frame: usize) -> Result<Option<&mut usize>, NoMemory> {
         let Some(carried) = tally.packet_in(frame) else {
             return Ok(None);

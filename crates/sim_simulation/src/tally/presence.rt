@@ -1,4 +1,4 @@
-//! Which stations of a run are present, as its notes tell.
+//! Which stations of a run are present, by its notes.
 
 ghost use Rattle.std.specs.Prelude.{◌≡◌, ◌==◌, ◌&&◌, ℕ, not, nat_eq, IfOk, OnOk};
 ghost use Rattle.std.specs.HashSet.{contains as has};
@@ -14,15 +14,17 @@ use its_station::{OwnedGbcRequest, Station};
 use std::alloc::Global;
 use std::collections::HashSet;
 
-/// The stations that are absent. A station that is present at the start is so until it leaves; one
-/// that is absent then, or that a file of moves makes, is so until it comes.
+/// The stations that are absent. A station that is present at the start is present until it
+/// departs. A station that is absent at the start, or that a file of moves makes, is absent until
+/// it arrives.
 #[derive(Drop)]
 pub struct Presence {
     absent: HashSet<usize>,
 }
 
 impl Presence {
-    /// Which stations are present at the start, by their numbers.
+    /// Returns the presence at the start. `present` says of each station, by its number, whether it
+    /// is present.
     pub fn at_start(alloc: Global, present: &[bool]) -> Result<Presence, NoMemory>
         ensures { IfOk result (λ presence. (station : ℕ) →
             has nat_eq presence.absent station ≡ starts_absent present.now station) }
@@ -54,8 +56,8 @@ impl Presence {
         Ok(())
     }
 
-    /// Whether a packet of this sender is for the station of this number: another one that is
-    /// present and stands in the area, with the port open.
+    /// Whether a packet from this sender is for the station with this number: it is another
+    /// station, is present and inside the area, and has the port open.
     pub fn is_for(
         &self,
         request: &OwnedGbcRequest,

@@ -1,4 +1,4 @@
-//! What came of the packets for an area of a run.
+//! The outcomes of the packets for an area of a run, and its totals.
 
 ghost use Rattle.std.specs.Prelude.{◌≡◌};
 ghost use Rattle.sim_simulation.specs.Packets.{with_one_frame, delivered_to};
@@ -8,12 +8,12 @@ use its_words::json_lines::Printed;
 use serde::Serialize;
 use std::fmt;
 
-/// What came of one packet for an area. It prints as its line.
+/// The outcome of one packet for an area. It prints as its line.
 #[derive(Clone, Copy, Debug, PartialEq, Eq, Serialize)]
 pub struct SendSummary {
-    /// The event that sent it, by its place among the events, from 0.
+    /// The number of the event that sent it, from 0.
     pub send: usize,
-    /// The moment of that, in milliseconds.
+    /// The time of that event, in milliseconds.
     pub moment: u64,
     /// The station that sent it.
     pub station: usize,
@@ -22,20 +22,20 @@ pub struct SendSummary {
     pub kind: Printed<Kind>,
     /// The destination port.
     pub port: u16,
-    /// How many other stations stood in the area then, with the port open.
+    /// How many other stations were inside the area then, with the port open.
     pub inside: usize,
     /// At how many stations a frame of it was delivered to the port.
     pub delivered: usize,
-    /// How many frames it made, its own among them.
+    /// How many frames carried it, with its own.
     pub frames: usize,
-    /// The most hops to a delivery: 1 by its own frame, 0 where there was none.
+    /// The most hops to a delivery: 1 for its own frame, 0 without a delivery.
     pub hops: usize,
-    /// From the send to the latest of the stations' first deliveries, in milliseconds.
+    /// The milliseconds from the send to the latest of the stations' first deliveries.
     pub last: u64,
 }
 
 impl SendSummary {
-    /// With so many frames less: they didn't go out.
+    /// Returns the summary without this many frames, which were not sent.
     pub fn without_frames(self, unsent: usize) -> SendSummary {
         SendSummary {
             frames: self.frames.saturating_sub(unsent),
@@ -43,7 +43,7 @@ impl SendSummary {
         }
     }
 
-    /// With one frame more.
+    /// Returns the summary with one more frame.
     pub(crate) fn with_frame(self) -> SendSummary
         ensures { result ≡ with_one_frame self }
     {
@@ -53,7 +53,8 @@ impl SendSummary {
         }
     }
 
-    /// With one delivery more, after so many hops, which is the first at its station or not.
+    /// Returns the summary with one more delivery after this many hops. `first` says whether it is
+    /// the first at its station.
     pub(crate) fn with_delivery(self, hops: usize, first: bool, moment: u64) -> SendSummary
         ensures { result ≡ delivered_to hops first moment self }
     {
@@ -89,7 +90,7 @@ impl fmt::Display for SendSummary {
 pub struct Totals {
     /// Events that were run.
     pub events: usize,
-    /// Frames that were given.
+    /// Frames that were sent.
     pub frames: usize,
     /// Entries that delivered a payload to a port.
     pub deliveries: usize,
@@ -102,7 +103,7 @@ pub struct Totals {
 }
 
 impl Totals {
-    /// With so many frames less: they didn't go out.
+    /// Returns the summary without this many frames, which were not sent.
     pub fn without_frames(self, unsent: usize) -> Totals {
         Totals {
             frames: self.frames.saturating_sub(unsent),

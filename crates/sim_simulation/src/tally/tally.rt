@@ -1,4 +1,4 @@
-//! Counting what came of the packets for an area, beside the world.
+//! Counts the outcomes of the packets for an area of a run.
 
 ghost use Rattle.std.specs.Prelude.{◌≡◌, ℕ, List, ◌<◌, ◌+◌, ◌-◌, ◌^◌, ◌&&◌, [], ◌∷◌, ◌++◌, Some};
 ghost use Rattle.std.specs.Prelude.{true, false, cond, length, drop, min, max, IfOk, OnOk};
@@ -28,21 +28,21 @@ use std::collections::{HashSet, VecDeque};
 /// The packet for an area that a frame carries.
 #[derive(Clone, Copy, Debug, PartialEq, Eq)]
 pub struct CarriedPacket {
-    /// The packet, by its place among all that were sent.
+    /// The number of the packet among all that were sent.
     pub send: usize,
-    /// How many relays came before this frame.
+    /// How often the packet was forwarded before this frame.
     pub depth: usize,
 }
 
 impl CarriedPacket {
-    /// How many hops a delivery of the frame takes: 1 by the packet's own frame.
+    /// Returns how many hops a delivery of the frame takes: 1 for the packet's own frame.
     fn hops(self) -> usize
         ensures { result ≡ capped (self.depth + 1) }
     {
         self.depth.saturating_add(1)
     }
 
-    /// What a relay of the frame carries.
+    /// Returns what a forwarded copy of the frame carries.
     pub fn relayed(self) -> CarriedPacket
         ensures send { result.send ≡ self.send }
         ensures depth { result.depth ≡ capped (self.depth + 1) }
@@ -54,22 +54,23 @@ impl CarriedPacket {
     }
 }
 
-/// A sink that counts: what came of each packet for an area, and the totals. It keeps a few octets
-/// for each frame that the world keeps, and for each station at which a packet was delivered.
+/// A sink that counts the outcomes of each packet for an area, and the totals. It keeps a few
+/// octets for each frame that the world keeps, and for each station at which a packet was
+/// delivered.
 ///
 /// - `Took`: its totals are the counts of the events that it took, and of their entries: all
 ///   events, sent frames, delivered payloads, frames ignored as duplicates and otherwise, refusals
-///   (`AreTotals`). It has as many sends as packets for an area (`packets_sent`). Unless a released
-///   frame was delivered (`late`), which no world does, what it has counted of each packet is what
-///   the events and entries say (`HasCounted`).
+///   (`AreTotals`). It has one send per packet for an area (`packets_sent`). Its counts of each
+///   packet are what the events and entries say (`HasCounted`), unless a released frame was
+///   delivered (`late`), which no world does.
 #[derive(Drop)]
 pub struct Tally {
     sends: Vec<SendSummary>,
-    /// What each frame carries that the world hasn't let go, in the order of their numbers.
+    /// What each frame carries that the world hasn't released, in the order of their numbers.
     carried: VecDeque<Option<CarriedPacket>>,
-    /// How many frames were let go before these.
+    /// How many frames were released before these.
     released: usize,
-    /// Whether a delivery was told of one of those: a world does none such.
+    /// Whether an event delivered a released frame. No world does such an event.
     late: bool,
     /// The sends and the stations at which they were delivered.
     delivered: HashSet<(usize, usize)>,
@@ -78,8 +79,8 @@ pub struct Tally {
 }
 
 impl Tally {
-    /// A tally of a run that has not begun. `present` has, by numbers, which stations are present
-    /// at the start.
+    /// Returns the tally of a run that has not begun. `present` says of each station, by its
+    /// number, whether it is present at the start.
     pub fn new(alloc: Global, present: &[bool]) -> Result<Tally, NoMemory>
         ensures totals { IfOk result (λ tally. AreTotals tally.totals [] []) }
         ensures sends { IfOk result (λ tally. tally.sends.items ≡ []) }
@@ -97,21 +98,22 @@ impl Tally {
         })
     }
 
-    /// What came of each packet for an area, in the order in which they were sent.
+    /// Returns the outcome of each packet for an area, in the order in which they were sent.
     pub fn sends(&self) -> &[SendSummary]
         ensures { result.now ≡ self.now.sends.items }
     {
         self.sends.as_slice()
     }
 
-    /// The counts of all events.
+    /// Returns the counts of all events.
     pub fn totals(&self) -> Totals
         ensures { result ≡ self.now.totals }
     {
         self.totals
     }
 
-    /// The packet for an area that a frame carries which the world keeps, if it carries one.
+    /// Returns the packet for an area that a frame carries, if the world keeps the frame and it
+    /// carries one.
     pub(crate) fn packet_in(&self, frame: usize) -> Option<CarriedPacket> {
         match self.carried.get(frame.checked_sub(self.released)?) {
             Some(carried) => *carried,
@@ -119,7 +121,8 @@ impl Tally {
         }
     }
 
-    /// Forgets what the frames carried that the world has let go: none of them is delivered again.
+    /// Forgets what the frames carried that the world has released. None of them is delivered
+    /// again.
     #[inline(always)]
     fn forget_released(&mut self, world: &World)
         ensures totals { self.new.totals ≡ self.old.totals }
@@ -186,8 +189,8 @@ impl Tally {
         }
     }
 
-    /// Counts a frame of a station's own, and its packet where that is for an area. The event has
-    /// this number.
+    /// Counts a frame of a station's own, and its packet if that is for an area. The event has this
+    /// number.
     fn count_send(
         &mut self,
         world: &World,
@@ -228,8 +231,8 @@ impl Tally {
         })
     }
 
-    /// How many stations but the sender are present and stand in the area of a request, with its
-    /// port open.
+    /// Returns how many stations except the sender are present and inside the area of a request,
+    /// with its port open.
     fn count_inside(&self, world: &World, sender: usize, request: &OwnedGbcRequest) -> usize {
         let mut inside = 0;
         for (number, station) in world.stations().iter().enumerate() {
@@ -272,7 +275,7 @@ impl Tally {
         Ok(())
     }
 
-    /// Counts a frame that was accepted, whether or not it was delivered and relayed.
+    /// Counts a frame that was accepted, and its delivery and forwarding, if any.
     #[inline(always)]
     fn count_accepted(
         &mut self,
@@ -299,7 +302,8 @@ impl Tally {
         self.count_relay(carried, relayed)
     }
 
-    /// What the frame carries that an action delivers. Where it was let go, that is noted.
+    /// Returns what the frame carries that an action delivers. If the frame was released, that is
+    /// noted.
     #[inline(always)]
     fn carried_by(&mut self, action: &What) -> Option<CarriedPacket>
         ensures others { self.new ≡ record self.old { late = self.new.late } }
@@ -374,7 +378,7 @@ impl Tally {
         Ok(())
     }
 
-    /// Counts a relay of a frame that carries this, if it was relayed.
+    /// Counts a forwarded copy of a frame that carries this, if it was forwarded.
     #[inline(always)]
     fn count_relay(&mut self, carried: Option<CarriedPacket>, relayed: bool) -> Result<(), NoMemory>
         ensures totals { OnOk result (self.new.totals ≡ with_frame relayed self.old.totals) }
@@ -392,7 +396,7 @@ impl Tally {
         self.count_frame(further)
     }
 
-    /// What a relay of this carries. It is a frame more of the send.
+    /// Returns what a forwarded copy of this carries, and counts it as a frame of the send.
     fn relayed(&mut self, carried: Option<CarriedPacket>) -> Option<CarriedPacket>
         ensures totals { self.new.totals ≡ self.old.totals }
         ensures delivered { self.new.delivered ≡ self.old.delivered }
@@ -436,7 +440,7 @@ impl EventSink for Tally {
     }
 }
 
-/// One more.
+/// Adds 1 to a count.
 #[inline(always)]
 fn count_one(count: &mut usize)
     ensures { count.new ≡ capped (count.old + 1) }

@@ -63,8 +63,8 @@ loop-records-preserved g c =
           i.copying comes met.1;
     }
 
-pub returns-in-End-Some-clause-copied : goal.returns-in-End-Some-clause-copied
-returns-in-End-Some-clause-copied g c =
+pub returns-in-End-Some : goal.returns-in-End-Some
+returns-in-End-Some g c =
     let i = c.loop-records.invariant in
     let comes = (rw c.in-End-Some.field-0-is at (rw c.in-End-Some.is at
     (rw i.selection at c.in_ok-head.ensures.next))) in
@@ -74,8 +74,8 @@ returns-in-End-Some-clause-copied g c =
     c.next_chosen.new.self.octets.items c.next_chosen.new.self.counts c.in-End-Some.fault
     c.end_file.result i.copying comes c.end_file.ensures
 
-pub returns-in-End-None-clause-copied : goal.returns-in-End-None-clause-copied
-returns-in-End-None-clause-copied g c =
+pub returns-in-End-None : goal.returns-in-End-None
+returns-in-End-None g c =
     let i = c.loop-records.invariant in
     let comes = (rw c.in-End-None.field-0-is at (rw c.in-End-None.is at
     (rw i.selection at c.in_ok-head.ensures.next))) in

@@ -10,7 +10,7 @@ use Rattle.its_governor.specs.declared.governor.Governor.{Governor}
 use Rattle.its_unit.specs.Unit.{UnitState}
 use Rattle.its_world.specs.declared.config.Config.{Config}
 use Rattle.cmd_pipe.specs.Serving.{IsServed, ServesInput, beginning, no_limits}
-use Rattle.cmd_pipe.specs.declared.ended.Ended.{Ended}
+use Rattle.cmd_reporting.specs.declared.status.Status.{Status}
 use Rattle.its_lines.specs.declared.response.Response.{Response}
 use Rattle.cmd_pipe.proofs.command.serve_input.Goals as goal
 
@@ -30,7 +30,7 @@ all_left remaining r inner is empty capacity =
 
 served : {E : Type 0} (config : Config) (rule : Option ContentionRule) (governor : Governor)
     (st : UnitState) (Took : List Response → Type 0) (input whole : Option (List ℕ))
-    (r : Result Ended E) → IsNewGovernor no_limits governor → input ≡ whole
+    (r : Result Status E) → IsNewGovernor no_limits governor → input ≡ whole
     → IfOk r (λ ended. IsServed (beginning config rule governor) st ended Took input)
     → IfOk r (λ ended. ServesInput config rule ended whole)
 served config rule governor st Took input whole (Err e) new is h = tt

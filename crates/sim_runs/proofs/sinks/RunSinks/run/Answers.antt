@@ -17,18 +17,15 @@ returns g c =
     record {
       ends = elim c.match-run_timeline.branch [
         | in-Ok+in_ok-end_whole-in-Ok w ↦ rw w.result-is (
-          w.status.ensures.command,
-          (
-            w.in-Ok.field-0,
-            run_follows course.scenario.now.timeline course.scenario.now w.in-Ok.field-0
-                (λ (events : List Event) (log : List Entry).
-                c.run_timeline.new.sink.all_done ≡ list_all was_done log)
-                (λ (events : List Event) (log : List Entry).
-                w.status.result ≡ run_status course.options.now.strict log)
-                (λ events log same. w.status.ensures.run log same) (w.in-Ok.ensures start),
-          ),
+          w.in-Ok.field-0,
+          run_follows course.scenario.now.timeline course.scenario.now w.in-Ok.field-0
+              (λ (events : List Event) (log : List Entry).
+              c.run_timeline.new.sink.all_done ≡ list_all was_done log)
+              (λ (events : List Event) (log : List Entry).
+              w.status.result ≡ run_status course.options.now.strict log)
+              (λ events log same. w.status.ensures.run log same) (w.in-Ok.ensures start),
         )
-        | in-Err+then-is_cut_short+in_ok-end-in-Err w ↦ rw w.result-is (tt, tt)
-        | in-Err+else-is_cut_short w ↦ rw w.result-is (tt, tt)
+        | in-Err+then-is_cut_short+in_ok-end-in-Err w ↦ rw w.result-is tt
+        | in-Err+else-is_cut_short w ↦ rw w.result-is tt
       ];
     }

@@ -4,13 +4,16 @@ use Rattle.sim_scenario.proofs.Timelines.{say_air}
 use Rattle.sim_scenario.proofs.tables.Tables.read_timeline.Goals as goal
 
 -- in an air, without the moves of a file
-pub returns-clause-says : goal.returns-clause-says
-returns-clause-says c =
-    say_air (parts_in c.args.self) (set_air_values c.in-Some.fields) _ (ap air_in c.in-Some.is)
-    c.if-self.false
-    (record {
-      air = c.in_ok-air.ensures.says;
-      every = c.in_ok-every.ensures.says;
-      moves = (c.in_ok-moves.moves, c.in_ok-moves.ensures.says);
-      events = c.in_ok-events-2.ensures.says;
-    })
+pub returns : goal.returns
+returns c =
+    record {
+      says =
+          say_air (parts_in c.args.self) (set_air_values c.in-Some.fields) _ (ap air_in c.in-Some.is)
+          c.if-self.false
+          (record {
+            air = c.in_ok-air.ensures.says;
+            every = c.in_ok-every.ensures.says;
+            moves = (c.in_ok-moves.moves, c.in_ok-moves.ensures.says);
+            events = c.in_ok-events-2.ensures.says;
+          });
+    }
