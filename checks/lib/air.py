@@ -274,7 +274,7 @@ class Refused(Exception):
 
 @dataclass
 class Entry:
-    """What came of an event, with the message that went to a port and the frame that was given."""
+    """The outcome of an event, with the message that a port got and the frame that was sent."""
 
     word: str
     handed: Message | None = None
@@ -426,7 +426,7 @@ class BadRow(Exception):
 
 
 class Row(NamedTuple):
-    """A move of a station that has an id, and the line that it stands in."""
+    """A move of a station that has an id, and the number of its line."""
 
     line: int
     at: int
@@ -557,14 +557,14 @@ class Moves:
 
 
 class Done(NamedTuple):
-    """An event that was run, and what came of it."""
+    """An event that was run, and its outcome."""
 
     event: dict
     entry: Entry
 
 
 class Note(NamedTuple):
-    """What happened at a moment beside the events."""
+    """What happened at a time besides the events."""
 
     moment: int
     station: int | str
@@ -915,7 +915,7 @@ class AirRun:
 
 @dataclass
 class Send:
-    """A geobroadcast or geoanycast that was sent, and what came of it."""
+    """A geobroadcast or geoanycast that was sent, and its outcome."""
 
     head: str
     moment: int

@@ -23,7 +23,7 @@ nm -D --defined-only "$shared" | awk '$2 == "T" { sub(/@.*/, "", $3); print $3 }
 cmp "$work/header" "$work/shared" || fail "what the shared library shows"
 [ "$(nm -D --defined-only "$shared" | grep -c -v ' T ')" -eq 1 ] || fail "more than its version"
 
-# Its name, and libc alone beside it.
+# Its name, and besides it only libc.
 readelf -d "$shared" > "$work/dynamic"
 grep -q "SONAME.*\[$soname\]" "$work/dynamic" || fail "the soname"
 [ "$(grep NEEDED "$work/dynamic")" = "$(grep 'NEEDED.*\[libc\.so' "$work/dynamic")" ] \

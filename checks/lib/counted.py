@@ -9,7 +9,7 @@ computed by checks/lib/capture_counts.py, from Wireshark's fields alone.
 import json
 import sys
 
-# What is imported leaves no file beside the sources.
+# Imports leave no compiled files among the sources.
 sys.dont_write_bytecode = True
 
 from capture_counts import Counts, Seen

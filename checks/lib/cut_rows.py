@@ -67,7 +67,7 @@ def vector_of(packet: bytes, start: int, there: int) -> Iterator[tuple[str, obje
 
 
 def area_of(packet: bytes, there: int) -> Iterator[tuple[str, object]]:
-    """The values of a packet for an area that are there, behind its hops."""
+    """The values of a packet for an area that are there, after its hop limit."""
     yield "number", number(packet, 12, "H")
     yield "shape", SHAPES[packet[5] & 0xF]
     for key, place, form in AREA:

@@ -14,7 +14,7 @@ import sys
 import tempfile
 from pathlib import Path
 
-# What is imported leaves no file beside the sources.
+# Imports leave no compiled files among the sources.
 sys.dont_write_bytecode = True
 
 from dissect import values_of
@@ -22,7 +22,7 @@ from signed_rows import DATA, KEYS, SAMPLES, Sample, capture, is_secured, moment
 
 # The payloads of the samples are not those that ITS applications have.
 TSHARK = ["tshark", "--disable-protocol", "its", "-T", "json", "-x", "-r"]
-# The PSIDs behind which Wireshark looks for a packet.
+# The PSIDs after which Wireshark looks for a packet.
 KNOWN = {36, 37, 137, 138, 139, 140, 141, 639}
 LINK, BASIC = 14, 4
 
@@ -82,7 +82,7 @@ def compare_read(place: int, sample: Sample, layers: dict, inner: dict) -> None:
     wanted = shown(place, sample)
     assert found == wanted, (sample.name, found, wanted)
     assert list(wanted) == [key for key in KEYS if key in wanted]
-    # Wireshark misreads what comes behind a missing CRL, and so reaches no packet there.
+    # Wireshark misreads what comes after a missing CRL, and so reaches no packet there.
     misread = sample.message and "missingCrlIdentifier" in (sample.message.header or {})
     if sample.values.get("psid") in KNOWN and not has_fault(layers):
         assert without_moment(values_of(layers)) == without_moment(inner), sample.name

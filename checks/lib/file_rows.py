@@ -224,7 +224,7 @@ class Converted:
 THREE = with_put(HIGH_PCAP, (39, b"\3"))
 OF_THREE = bytes.fromhex("02000000" "3f1f0000" "03000000" "03000000" "616263")
 SEVENS = b"\7" * MOST
-# The record has the longest frame, which is told to have 5 octets on the wire.
+# The record has the longest frame, whose length on the wire is said to be 5.
 LONG_HEAD = with_put(HIGH_PCAP[:40], (32, MOST.to_bytes(4, "big")))
 LAST = bytes.fromhex("ffffffff" "583e0f00" "03000000" "03000000" "78797a")
 CUT_SECOND = "geostation: record 1: cut\n"
@@ -316,7 +316,7 @@ CONVERTED = [
         record(1500, b"x") + record(1500, b"y"),
         lost="geostation: 2 times cut to milliseconds\ngeostation: 2 interfaces joined\n",
     ),
-    # The second interface, of nanoseconds, comes behind the first record.
+    # The second interface, in nanoseconds, comes after the first record.
     Converted(
         "a finer interface later",
         SECTION + MICROS + packet(1_500_001, b"x") + NANOS + packet(1_500_001_002, b"y", 1),

@@ -1,4 +1,4 @@
-"""Captures of frames behind the link layers that the program reads, to be read by Wireshark too.
+"""Captures of frames with the link layers that the program reads, for Wireshark to read too.
 
     geostation show --json FILE | .. | python3 checks/lib/layers.py FOLDER COOKED
 
@@ -35,7 +35,7 @@ CHECKED, PADDED = 0x10, 0x20
 
 
 def tagged(frame: bytes, tags: bytes) -> bytes:
-    """An Ethernet frame with these tags behind its addresses."""
+    """An Ethernet frame with these tags after its addresses."""
     return frame[:12] + tags + frame[12:]
 
 

@@ -155,7 +155,13 @@ def opens_body(line, depth):
 
 
 def implemented(head):
-    """The name that rattle gives an impl: its type's, its trait's, and that of its trait's type."""
+    """The name that rattle gives an impl: its type's, its trait's, and that of its trait's type. The
+    types that it is for have a `+`: `PacketView+BasicHeader`."""
+    alone = re.fullmatch(r"(?:<(.*?)>)? (\w+)<([^<>]*)> \{", head)
+    if alone:
+        free, name, given = alone.groups("")
+        types = [it for it in given.split(", ") if not it.startswith("'")]
+        return "+".join([name, *(it for it in types if it not in re.findall(r"\w+", free))])
     of = re.search(r"\w<(\w+)> for ", head)
     while re.search(r"<[^<>]*>", head):
         head = re.sub(r"<[^<>]*>", "", head)

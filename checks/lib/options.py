@@ -18,7 +18,7 @@ def spell(forms, value="", optional=False):
 
 
 def block(text, title):
-    """The lines of a help that stand under a title, up to an empty line."""
+    """The lines of a help under a title, up to an empty line."""
     _, found, rest = f"\n{text}".partition(f"\n{title}:\n")
     return rest.split("\n\n")[0].splitlines() if found else []
 
@@ -60,7 +60,7 @@ def help_of_commands(program, read=read_block):
 
 
 def help_of_one(program):
-    """What --help of a program without commands tells: its usage, and a list behind it."""
+    """What --help of a program without commands prints: its usage, and a list after it."""
     text = ask_help(program, "--help")
     usage, listed = text.split("\n\n")[1], text.split("\n\n")[2:]
     value = r"(?: (\[?)([A-Z][A-Z0-9:,]*)\]?)?"
@@ -143,7 +143,7 @@ def compare_files(program, told, folder):
 
 
 def compare_shell(program, told, shell):
-    """What a shell completes otherwise than the help tells."""
+    """What a shell completes differently from the help."""
     faults = []
     commands = sorted(command for command in told if command != "-")
     if commands:
@@ -166,15 +166,15 @@ def compare_shell(program, told, shell):
 
 
 def compare(prefix, folder, shells):
-    """How many options there are of the programs below a folder, and what is told otherwise of
-    them in the files of `folder` and by shells."""
+    """How many options the programs below a folder have, and what the files of `folder` and shells
+    say differently about them."""
     count, faults = 0, []
     for program in sorted(path.name for path in (prefix / "bin").iterdir()):
         path = prefix / "bin" / program
         told = (help_of_one if program == "geostation-link" else help_of_commands)(path)
         count += sum(len(options) for options, _, _ in told.values())
         files = compare_files(program, told, folder)
-        # Shells give what the table has: what is wrong with that is told once.
+        # Shells complete what the table has. What is wrong with the table is reported once.
         if not files:
             files = [fault for shell in shells for fault in compare_shell(program, told, shell)]
         faults += files

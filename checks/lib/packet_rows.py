@@ -58,8 +58,8 @@ ENDS = bytes.fromhex(
 
 @dataclass(frozen=True)
 class Row:
-    """A record: what it is called where it is told otherwise, its frame, and why it is refused, or
-    some of the values that are told of it. A frame that is read is told with all its values."""
+    """A record: its name in reports of differences, its frame, and why it is rejected, or some of the
+    values that are printed for it. A frame that is read is printed with all its values."""
 
     name: str
     frame: bytes
@@ -303,7 +303,7 @@ def right_fields() -> Iterator[Row]:
         yield Row(f"{digits} at {place} of {packet.hex()}", LINK + changed)
 
 
-# What is told of most of these packets.
+# What is printed of most of these packets.
 HEADER = {
     "from": SENDER.hex(),
     "to": ALL.hex(),

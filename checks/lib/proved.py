@@ -32,9 +32,10 @@ SECTIONS = (
 
 # Each public function of these crates has a contract.
 STACK = (
-    "its_gnvalue its_geometry its_faults its_model its_headers its_linkframe its_outside"
-    " cap_linklayers cap_records::messages cap_pcap its_duplicates its_loctable its_forwarding"
-    " its_btp its_duties its_station its_contention its_governor its_unit its_lines its_world its_c"
+    "its_gnvalue its_geometry its_faults its_model its_formats its_headers its_linkframe"
+    " its_outside cap_linklayers cap_records::messages cap_pcap its_duplicates its_loctable"
+    " its_forwarding its_btp its_duties its_station its_contention its_governor its_unit"
+    " its_lines its_world its_c"
 ).split()
 # The top of an impl or trait, and the type that a row is named for.
 OWNER = re.compile(r"^(?:pub )?(?:impl|trait)\b(?:<.*?>)? ?(?:(\S.*) for )?([A-Za-z]\w*).* \{$")

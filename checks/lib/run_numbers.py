@@ -78,7 +78,7 @@ class Happened:
     cancels: list[int] = field(default_factory=list)
     frame: int | None = None
     octets: int = 0
-    # Whether the station stands in the area of the packet that was delivered.
+    # Whether the station is inside the area of the packet that was delivered.
     is_inside: bool = False
     port: int = 0
     audience: list[int] = field(default_factory=list)
@@ -161,7 +161,7 @@ def of_event(world: air.World, done: air.Done, number: int) -> Happened:
 
 @dataclass
 class Send:
-    """A geobroadcast or geoanycast, and what came of its frames."""
+    """A geobroadcast or geoanycast, and the outcomes of its frames."""
 
     event: Happened
     frames: int = 1

@@ -25,7 +25,7 @@ def number(value: int) -> bytes:
 
 
 def counted(octets: bytes) -> bytes:
-    """Octets behind their length, which has its shortest form."""
+    """Octets after their length, which has its shortest form."""
     count = len(octets)
     head = bytes([count]) if count < 0x80 else bytes([0x80 | len(number(count))]) + number(count)
     return head + octets

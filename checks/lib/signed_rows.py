@@ -16,7 +16,7 @@ import sys
 from dataclasses import dataclass, field
 from pathlib import Path
 
-# What is imported leaves no file beside the sources.
+# Imports leave no compiled files among the sources.
 sys.dont_write_bytecode = True
 
 from capture_counts import CODES, Counts, Seen, as_json, as_text, table

@@ -10,7 +10,7 @@ import re
 import sys
 from pathlib import Path
 
-# What is imported leaves no file beside the sources.
+# Imports leave no compiled files among the sources.
 sys.dont_write_bytecode = True
 
 from program import TOP
