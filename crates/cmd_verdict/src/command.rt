@@ -125,7 +125,7 @@ where
         first: Instant::of_nanos(0),
         counts: VerdictCounts::new(),
     };
-    let judged = judge_whole_capture(alloc, what, &premises.claims(), capture, &mut reporter)?;
+    let judged = judge_capture(alloc, what, &premises.claims(), capture, &mut reporter)?;
     let counts = reporter.counts;
     print_total(what, io.format, &counts, judged, &mut io.out)?;
     Ok(end_with(what, io.format, &counts, judged.ended, &mut io.err))
@@ -156,7 +156,7 @@ struct Judged {
 }
 
 /// Judges a capture.
-fn judge_whole_capture<'a, S: Source + Drop, W: Write>(
+fn judge_capture<'a, S: Source + Drop, W: Write>(
     alloc: Global,
     what: &VerdictOptions<'a>,
     claims: &Claims,

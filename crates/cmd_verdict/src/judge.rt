@@ -100,9 +100,9 @@ impl Judge {
             self.begin = Some(stamp);
             sink.begin(stamp);
         }
-        self.judge_due_records(stamp, sink)?;
+        self.judge_due(stamp, sink)?;
         self.keep(record)?;
-        self.judge_surplus(sink)
+        self.make_room(sink)
     }
 
     /// Keeps what later records are judged by, and the record if it is judged itself.
@@ -145,7 +145,7 @@ impl Judge {
     }
 
     /// Judges the first records that wait, if too many do.
-    fn judge_surplus<'f, S: CaseSink>(&mut self, sink: &mut S) -> Result<(), Fault<'f>> {
+    fn make_room<'f, S: CaseSink>(&mut self, sink: &mut S) -> Result<(), Fault<'f>> {
         for _ in 0..self.waiting.count() {
             if !self.waiting.is_over() {
                 return Ok(());
@@ -159,11 +159,7 @@ impl Judge {
     }
 
     /// Judges the records that the capture has all for, up to the stamp of the next record.
-    fn judge_due_records<'f, S: CaseSink>(
-        &mut self,
-        stamp: u64,
-        sink: &mut S,
-    ) -> Result<(), Fault<'f>> {
+    fn judge_due<'f, S: CaseSink>(&mut self, stamp: u64, sink: &mut S) -> Result<(), Fault<'f>> {
         for _ in 0..self.waiting.count() {
             match self.waiting.take_due(&self.tap.claims, stamp) {
                 Some(waiting) => self.judge(&waiting, sink)?,

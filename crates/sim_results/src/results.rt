@@ -118,43 +118,6 @@ fn begin_file<'a, R: NumberRows + Drop, W: Write + Drop>(
     }
 }
 
-/// Begins the file of the packets for an area, if there is one.
-fn begin_sends<'a, W: Write + Drop>(
-    alloc: Global,
-    scenario: &Scenario,
-    name: Option<&'a str>,
-    writer: Option<W>,
-) -> Result<Option<ResultFile<'a, SendRows, W>>, Fault<'a>>
-    ensures { name.entry ≡ None → IfOk result (λ file. file ≡ None) }
-{
-    begin_file(name, SendRows::new(alloc, scenario)?, writer)
-}
-
-/// Begins the file of the stations, if there is one.
-fn begin_stations<'a, W: Write + Drop>(
-    alloc: Global,
-    scenario: &Scenario,
-    name: Option<&'a str>,
-    writer: Option<W>,
-) -> Result<Option<ResultFile<'a, StationRows, W>>, Fault<'a>>
-    ensures { name.entry ≡ None → IfOk result (λ file. file ≡ None) }
-{
-    begin_file(name, StationRows::new(alloc, scenario)?, writer)
-}
-
-/// Begins the file of the load, if there is one.
-fn begin_load<'a, W: Write + Drop>(
-    alloc: Global,
-    scenario: &Scenario,
-    name: Option<&'a str>,
-    writer: Option<W>,
-) -> Result<Option<ResultFile<'a, LoadRows, W>>, Fault<'a>>
-    ensures { name.entry ≡ None → IfOk result (λ file. file ≡ None) }
-{
-    let rows = LoadRows::new(alloc, scenario.present.as_slice())?;
-    begin_file(name, rows, writer)
-}
-
 /// Passes an event that was done to the file, if there is one.
 #[inline(always)]
 fn take_in<'a, R: NumberRows + Drop, W: Write + Drop>(
@@ -260,9 +223,17 @@ impl<'a, W: Write + Drop> Results<'a, W> {
             IfOk result (λ results. results.stations ≡ None) }
         ensures load { names.entry.load ≡ None → IfOk result (λ results. results.load ≡ None) }
     {
-        let sends = begin_sends(alloc, scenario, names.sends, writers.sends)?;
-        let stations = begin_stations(alloc, scenario, names.stations, writers.stations)?;
-        let load = begin_load(alloc, scenario, names.load, writers.load)?;
+        let sends = begin_file(names.sends, SendRows::new(alloc, scenario)?, writers.sends)?;
+        let stations = begin_file(
+            names.stations,
+            StationRows::new(alloc, scenario)?,
+            writers.stations,
+        )?;
+        let load = begin_file(
+            names.load,
+            LoadRows::new(alloc, scenario.present.as_slice())?,
+            writers.load,
+        )?;
         Ok(Results {
             sends,
             stations,
