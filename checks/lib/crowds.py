@@ -101,6 +101,11 @@ def spread(first: int, last: int) -> list[int]:
     return [first + n * (last - first + 1) // UNREAD for n in range(UNREAD)]
 
 
+def results_of(duty: str, objects: list[dict]) -> list[tuple[int, str]]:
+    """The records that a verdict judges by this duty, each with its result."""
+    return [(it["record"], it["result"]) for it in objects[1:-1] if it["duty"] == duty]
+
+
 def check_again(folder: Path) -> int:
     """A record that isn't read, which the link sent at both sides of the begin of the time that
     counts, and before it last by the order of the file. So many others come after that time that
@@ -118,8 +123,7 @@ def check_again(folder: Path) -> int:
     ]
     capture = folder / "again.pcap"
     write_pcap(capture, [(BEGIN + moment, frame) for moment, frame in records], IEEE80211)
-    lines = judge(folder, capture, claims_with(skew), (0,))[1:-1]
-    found = [(line["record"], line["result"]) for line in lines if line["duty"] == "D13"]
+    found = results_of("D13", judge(folder, capture, claims_with(skew), (0,)))
     if found != [(3, "inconclusive")]:
         sys.exit(f"a record that isn't read and gave way: {found}")
     return len(records)
@@ -141,8 +145,7 @@ def check_hidden(folder: Path) -> int:
     capture = folder / "hidden.pcap"
     frames = [(BEGIN + moment, frame) for moment, frame in records]
     write_pcap(capture, frames, IEEE80211, cut)
-    lines = judge(folder, capture, claims_with(0), (0,))[1:-1]
-    found = [(line["record"], line["result"]) for line in lines if line["duty"] == "D10"]
+    found = results_of("D10", judge(folder, capture, claims_with(0), (0,)))
     if found != [(2, "inconclusive")]:
         sys.exit(f"a record that may be an own packet and gave way: {found}")
     return len(records)
@@ -152,8 +155,7 @@ def check_owed(folder: Path, frames: list[Sent], wanted: list[tuple[int, str]]) 
     """Of these records, and of no others, it is judged whether they were forwarded."""
     capture = folder / "owed.pcap"
     write_pcap(capture, [(BEGIN + sent.at, sent.frame()) for sent in frames])
-    lines = judge(folder, capture, claims_with(0), (0, 1))[1:-1]
-    found = [(line["record"], line["result"]) for line in lines if line["duty"] == "D20"]
+    found = results_of("D20", judge(folder, capture, claims_with(0), (0, 1)))
     if found != wanted:
         sys.exit(f"owed among {len(frames)} records: expected {wanted}, got {found[:9]}")
     return len(frames)
